@@ -4,13 +4,17 @@ use Rattle.std.proofs.lemmas.List.{map-append}
 use Rattle.tm_base.specs.Takers.{HandedOver, HandedPart}
 use Rattle.tm_base.specs.Handed.{Handed, Phase, Item, on_handed, items_of}
 
-pub HandedOver-items : {T I : Type 0} (on_phase : T → ℕ → ℕ → T → Type 0) (took : T → I → T → Type 0) (before now : T) (items : List I)
+pub HandedOver-items : {T I : Type 0} (on_phase : T → ℕ → ℕ → T → Type 0) (took : T → I → T → Type 0) (before now : T)
+    (items : List I)
     → HandedOver took before items now → HandedOver (on_handed on_phase took) before (map Item items) now
 HandedOver-items on_phase took before now [] handed = handed
-HandedOver-items on_phase took before now (item ∷ items) handed = (handed.0, handed.1, HandedOver-items on_phase took handed.0 now items handed.2)
+HandedOver-items on_phase took before now (item ∷ items) handed =
+    (handed.0, handed.1, HandedOver-items on_phase took handed.0 now items handed.2)
 
-pub HandedPart-items : {T I : Type 0} (on_phase phase_broke : T → ℕ → ℕ → T → Type 0) (took broke : T → I → T → Type 0) (before now : T) (items : List I)
-    → HandedPart took broke before items now → HandedPart (on_handed on_phase took) (on_handed phase_broke broke) before (map Item items) now
+pub HandedPart-items : {T I : Type 0} (on_phase phase_broke : T → ℕ → ℕ → T → Type 0)
+    (took broke : T → I → T → Type 0) (before now : T) (items : List I)
+    → HandedPart took broke before items now → HandedPart (on_handed on_phase took)
+    (on_handed phase_broke broke) before (map Item items) now
 HandedPart-items on_phase phase_broke took broke before now items part = record {
   prefix = map Item part.prefix;
   next = Item part.next;

@@ -28,7 +28,8 @@ unfolding low_bits
 low_bits-zero number = refl
 
 -- the first of the bits, and the others
-pub low_bits-first : (count number : ℕ) → low_bits (suc count) number ≡ (number / 2 ^ count % 2 == 1) ∷ low_bits count number
+pub low_bits-first : (count number : ℕ) → low_bits (suc count) number ≡ (number / 2 ^ count % 2 == 1)
+    ∷ low_bits count number
 unfolding low_bits
 low_bits-first count number = refl
 
@@ -38,9 +39,11 @@ length-low_bits zero number = refl
 length-low_bits (suc count) number = ap suc (length-low_bits count number)
 
 -- a bit after the others
-pub low_bits-push : (count number : ℕ) (bit : Bool) → low_bits (suc count) (number * 2 + bit_number bit) ≡ low_bits count number ++ bit ∷ []
+pub low_bits-push : (count number : ℕ) (bit : Bool) → low_bits (suc count) (number * 2 + bit_number bit)
+    ≡ low_bits count number ++ bit ∷ []
 unfolding low_bits
-low_bits-push zero number bit = ap (λ b. b ∷ []) (ap (λ n. n % 2 == 1) (div-one (number * 2 + bit_number bit)) ∙ last number bit)
+low_bits-push zero number bit =
+    ap (λ b. b ∷ []) (ap (λ n. n % 2 == 1) (div-one (number * 2 + bit_number bit)) ∙ last number bit)
   where
     last : (number : ℕ) (bit : Bool) → ((number * 2 + bit_number bit) % 2 == 1) ≡ bit
     last number true = grind (arith, nat_tests)
@@ -56,10 +59,13 @@ low_bits-push (suc count) number bit =
     power = omega arith
 
     same : (number * 2 + bit_number bit) / 2 ^ suc count ≡ number / 2 ^ count
-    same = ap (λ n. (number * 2 + bit_number bit) / n) power ∙ sym (div-div-eq-div-mul (number * 2 + bit_number bit) 2 (2 ^ count)) ∙ ap (λ n. n / 2 ^ count) (half bit)
+    same =
+        ap (λ n. (number * 2 + bit_number bit) / n) power
+        ∙ sym (div-div-eq-div-mul (number * 2 + bit_number bit) 2 (2 ^ count)) ∙ ap (λ n. n / 2 ^ count) (half bit)
 
 -- the digits of a number that goes on by some bits
-low_bits-fold : (count number : ℕ) (bits : List Bool) → low_bits (count + length bits) (fold (λ n bit. n * 2 + bit_number bit) number bits) ≡ low_bits count number ++ bits
+low_bits-fold : (count number : ℕ) (bits : List Bool) → low_bits (count + length bits)
+    (fold (λ n bit. n * 2 + bit_number bit) number bits) ≡ low_bits count number ++ bits
 low_bits-fold count number [] = ap (λ n. low_bits n number) (omega arith) ∙ sym (append-nil (low_bits count number))
 low_bits-fold count number (bit ∷ bits) =
     ap (λ n. low_bits n (fold (λ n bit. n * 2 + bit_number bit) (number * 2 + bit_number bit) bits)) more
@@ -72,10 +78,14 @@ low_bits-fold count number (bit ∷ bits) =
 
 -- the digits of the number of some bits are these bits
 pub low_bits-number_of : (bits : List Bool) → low_bits (length bits) (number_of bits) ≡ bits
-low_bits-number_of bits = ap (λ n. low_bits n (number_of bits)) (omega arith) ∙ low_bits-fold 0 0 bits ∙ ap (λ l. l ++ bits) (low_bits-zero 0)
+low_bits-number_of bits =
+    ap (λ n. low_bits n (number_of bits)) (omega arith) ∙ low_bits-fold 0 0 bits
+    ∙ ap (λ l. l ++ bits) (low_bits-zero 0)
 
-fold-low_bits : (count number prefix : ℕ) → fold (λ n bit. n * 2 + bit_number bit) prefix (low_bits count number) ≡ prefix * 2 ^ count + number % 2 ^ count
-fold-low_bits zero number prefix = ap (fold (λ n bit. n * 2 + bit_number bit) prefix) (low_bits-zero number) ∙ omega arith
+fold-low_bits : (count number prefix : ℕ) → fold (λ n bit. n * 2 + bit_number bit) prefix (low_bits count number)
+    ≡ prefix * 2 ^ count + number % 2 ^ count
+fold-low_bits zero number prefix =
+    ap (fold (λ n bit. n * 2 + bit_number bit) prefix) (low_bits-zero number) ∙ omega arith
 fold-low_bits (suc count) number prefix =
     ap (fold (λ n bit. n * 2 + bit_number bit) prefix) (low_bits-first count number)
     ∙ fold-low_bits count number (prefix * 2 + bit_number (number / 2 ^ count % 2 == 1))
@@ -84,9 +94,12 @@ fold-low_bits (suc count) number prefix =
     ∙ (λ i. prefix * power i + lowest i)
   where
     lowest : (number / 2 ^ count % 2) * 2 ^ count + number % 2 ^ count ≡ number % 2 ^ suc count
-    lowest = let one : 1 + count ≡ suc count = omega arith in sym (mod-pow-add number 1 count) ∙ ap (λ n. number % 2 ^ n) one
+    lowest =
+        let one : 1 + count ≡ suc count = omega arith in sym (mod-pow-add number 1 count)
+        ∙ ap (λ n. number % 2 ^ n) one
 
-    shifted : (prefix bit place rest : ℕ) → (prefix * 2 + bit) * place + rest ≡ prefix * (2 * place) + (bit * place + rest)
+    shifted : (prefix bit place rest : ℕ) → (prefix * 2 + bit) * place + rest
+        ≡ prefix * (2 * place) + (bit * place + rest)
     shifted prefix bit place rest =
         let one = add-mul (prefix * 2) bit place in
         let two = mul_assoc prefix 2 place in
@@ -104,30 +117,38 @@ number_of-octet octet small = number_of-low_bits 8 octet ∙ omega arith
 
 pub length-bits_of : (octets : List ℕ) → length (bits_of octets) ≡ 8 * length octets
 length-bits_of [] = omega arith
-length-bits_of (octet ∷ octets) = length-append (bits_of_octet octet) (bits_of octets) ∙ omega (arith, length-low_bits 8 octet, length-bits_of octets)
+length-bits_of (octet ∷ octets) =
+    length-append (bits_of_octet octet) (bits_of octets)
+    ∙ omega (arith, length-low_bits 8 octet, length-bits_of octets)
 
 pub bits_of-append : (xs ys : List ℕ) → bits_of (xs ++ ys) ≡ bits_of xs ++ bits_of ys
 bits_of-append [] ys = refl
-bits_of-append (x ∷ xs) ys = ap (λ l. bits_of_octet x ++ l) (bits_of-append xs ys) ∙ sym (append_assoc (bits_of_octet x) (bits_of xs) (bits_of ys))
+bits_of-append (x ∷ xs) ys =
+    ap (λ l. bits_of_octet x ++ l) (bits_of-append xs ys)
+    ∙ sym (append_assoc (bits_of_octet x) (bits_of xs) (bits_of ys))
 
 pub bits_of-take : (count : ℕ) (octets : List ℕ) → bits_of (take count octets) ≡ take (8 * count) (bits_of octets)
 unfolding low_bits
 bits_of-take zero octets = refl
-bits_of-take (suc count) [] = let some : 8 * suc count ≡ suc (7 + 8 * count) = omega arith in ap (λ n. take n (bits_of [])) (sym some)
+bits_of-take (suc count) [] =
+    let some : 8 * suc count ≡ suc (7 + 8 * count) = omega arith in ap (λ n. take n (bits_of [])) (sym some)
 bits_of-take (suc count) (octet ∷ octets) =
     let eight : suc (suc (suc (suc (suc (suc (suc (suc (8 * count)))))))) ≡ 8 * suc count = omega arith in
-    ap (λ l. bits_of_octet octet ++ l) (bits_of-take count octets) ∙ ap (λ n. take n (bits_of_octet octet ++ bits_of octets)) eight
+    ap (λ l. bits_of_octet octet ++ l) (bits_of-take count octets)
+    ∙ ap (λ n. take n (bits_of_octet octet ++ bits_of octets)) eight
 
 pub bits_of-drop : (count : ℕ) (octets : List ℕ) → bits_of (drop count octets) ≡ drop (8 * count) (bits_of octets)
 unfolding low_bits
 bits_of-drop zero octets = refl
-bits_of-drop (suc count) [] = let some : 8 * suc count ≡ suc (7 + 8 * count) = omega arith in ap (λ n. drop n (bits_of [])) (sym some)
+bits_of-drop (suc count) [] =
+    let some : 8 * suc count ≡ suc (7 + 8 * count) = omega arith in ap (λ n. drop n (bits_of [])) (sym some)
 bits_of-drop (suc count) (octet ∷ octets) =
     let eight : suc (suc (suc (suc (suc (suc (suc (suc (8 * count)))))))) ≡ 8 * suc count = omega arith in
     bits_of-drop count octets ∙ ap (λ n. drop n (bits_of_octet octet ++ bits_of octets)) eight
 
 -- the bits of an octet, packed
-octets_of-octet : (octet : ℕ) (bits : List Bool) → octets_of (bits_of_octet octet ++ bits) ≡ number_of (bits_of_octet octet) ∷ octets_of bits
+octets_of-octet : (octet : ℕ) (bits : List Bool) → octets_of (bits_of_octet octet ++ bits)
+    ≡ number_of (bits_of_octet octet) ∷ octets_of bits
 unfolding low_bits
 octets_of-octet octet bits = refl
 
@@ -135,15 +156,18 @@ pub AreOctets-rest : (octet : ℕ) (octets : List ℕ) → AreOctets (octet ∷ 
 AreOctets-rest octet octets are = λ k d within. are (suc k) d (omega arith)
 
 -- packing undoes the reading of bits, whatever bits follow
-pub octets_of-bits_of-append : (octets : List ℕ) (bits : List Bool) → AreOctets octets → octets_of (bits_of octets ++ bits) ≡ octets ++ octets_of bits
+pub octets_of-bits_of-append : (octets : List ℕ) (bits : List Bool) → AreOctets octets
+    → octets_of (bits_of octets ++ bits) ≡ octets ++ octets_of bits
 octets_of-bits_of-append [] bits are = refl
 octets_of-bits_of-append (octet ∷ octets) bits are =
     ap octets_of (append_assoc (bits_of_octet octet) (bits_of octets) bits)
     ∙ octets_of-octet octet (bits_of octets ++ bits)
-    ∙ (λ i. number_of-octet octet (are 0 0 (omega arith)) i ∷ octets_of-bits_of-append octets bits (AreOctets-rest octet octets are) i)
+    ∙ (λ i. number_of-octet octet (are 0 0 (omega arith)) i
+    ∷ octets_of-bits_of-append octets bits (AreOctets-rest octet octets are) i)
 
 pub octets_of-bits_of : (octets : List ℕ) → AreOctets octets → octets_of (bits_of octets) ≡ octets
-octets_of-bits_of octets are = ap octets_of (sym (append-nil (bits_of octets))) ∙ octets_of-bits_of-append octets [] are ∙ append-nil octets
+octets_of-bits_of octets are =
+    ap octets_of (sym (append-nil (bits_of octets))) ∙ octets_of-bits_of-append octets [] are ∙ append-nil octets
 
 -- reading bits undoes the packing of whole octets
 pub bits_of-octets_of : (bits : List Bool) → length bits % 8 ≡ 0 → bits_of (octets_of bits) ≡ bits
@@ -187,7 +211,8 @@ AreOctets-octets_of (a ∷ b ∷ c ∷ d ∷ e ∷ f ∷ []) = λ k i within. ab
 AreOctets-octets_of (a ∷ b ∷ c ∷ d ∷ e ∷ f ∷ g ∷ []) = λ k i within. absurd (omega arith)
 
 -- whole octets before other bits are packed by themselves
-pub octets_of-append : (prefix bits : List Bool) → length prefix % 8 ≡ 0 → octets_of (prefix ++ bits) ≡ octets_of prefix ++ octets_of bits
+pub octets_of-append : (prefix bits : List Bool) → length prefix % 8 ≡ 0
+    → octets_of (prefix ++ bits) ≡ octets_of prefix ++ octets_of bits
 octets_of-append prefix bits whole =
     ap (λ l. octets_of (l ++ bits)) (sym (bits_of-octets_of prefix whole))
     ∙ octets_of-bits_of-append (octets_of prefix) bits (AreOctets-octets_of prefix)

@@ -13,15 +13,18 @@ pub record Held (name name' : ℕ) (buffer buffer' : List ℕ) (count : ℕ) (te
   pub size : length buffer' ≡ length buffer
   pub prefix : take count buffer' ≡ text
 
-pub held : (name name' : ℕ) (buffer buffer' : List ℕ) (count : ℕ) (text : List ℕ) → Some (written_in name' buffer' count) ≡ append_known (Some (written_in name buffer 0)) text
+pub held : (name name' : ℕ) (buffer buffer' : List ℕ) (count : ℕ) (text : List ℕ)
+    → Some (written_in name' buffer' count) ≡ append_known (Some (written_in name buffer 0)) text
     → Held name name' buffer buffer' count text
 held name name' buffer buffer' count text is =
     let same : name' ∷ length buffer' ∷ take count buffer' ≡ name ∷ length buffer ∷ text = cc in
     record { loan = cc; size = cc; prefix = cc }
 
 -- a buffer is not full of a prefix of what is shorter
-pub not-full : (name name' : ℕ) (buffer buffer' : List ℕ) (count : ℕ) (full : Bool) (text : List ℕ) → WrotePrefix (Some (written_in name buffer 0)) (Some (written_in name' buffer' count)) text
-    → (full ≡ true → count ≡ length buffer') → Rose 0 (if full then 1 else 0) (full ≡ true) → length text < length buffer → ⊥
+pub not-full : (name name' : ℕ) (buffer buffer' : List ℕ) (count : ℕ) (full : Bool) (text : List ℕ)
+    → WrotePrefix (Some (written_in name buffer 0)) (Some (written_in name' buffer' count)) text
+    → (full ≡ true → count ≡ length buffer') → Rose 0 (if full then 1 else 0) (full ≡ true)
+    → length text < length buffer → ⊥
 not-full name name' buffer buffer' count false text wrote at (inl more) short = absurd (omega arith)
 not-full name name' buffer buffer' count false text wrote at (inr never) short = absurd cc
 not-full name name' buffer buffer' count true text wrote at rose short =
@@ -34,8 +37,12 @@ sink_alone Sink other = refl
 sink_alone Stopped other = absurd (other refl)
 
 -- what a sink has written fills the start of its buffer
-pub fills : (name name' : ℕ) (buffer buffer' : List ℕ) (count : ℕ) (text : List ℕ) → Held name name' buffer buffer' count text → count ≤ length buffer'
+pub fills : (name name' : ℕ) (buffer buffer' : List ℕ) (count : ℕ) (text : List ℕ)
+    → Held name name' buffer buffer' count text → count ≤ length buffer'
     → Fills (Some (min count (length buffer))) buffer' text
 fills name name' buffer buffer' count text h within =
-    let all : min count (length buffer) ≡ count = omega (arith, within, h.size) in
-    (all ∙ omega (arith, ap length h.prefix, length-take count buffer', within), ap (λ n. take n buffer') all ∙ h.prefix)
+    let all : min count (length buffer) ≡ count = omega (arith, within, h.size) in (
+      all ∙ omega (arith, ap length h.prefix, length-take count buffer', within),
+      ap (λ n. take n buffer') all
+          ∙ h.prefix,
+    )

@@ -36,7 +36,11 @@ may_come rules remaining steps kept h =
     let Right : Next → Type 0 = λ next. MayCome rules.ahead next left in
     let more : ltb kept steps ≡ true → rules.ahead < left = λ is.
     let less : kept < steps = ltb-true kept steps is in
-    elim h.either as (λ _. rules.ahead < left) [ inl last ↦ absurd (omega (arith, last, less)) | inr goes ↦ omega (arith, goes) ] in
+    elim h.either as (λ _. rules.ahead < left) [
+      | inl last ↦ absurd (omega (arith, last, less))
+      | inr goes ↦
+          omega (arith, goes)
+    ] in
     let last : ltb kept steps ≡ false → is_over ≡ true → left ≡ 0 = λ is over.
     let all : steps ≤ kept = ltb-false kept steps is in
     elim h.either as (λ _. left ≡ 0) [
@@ -48,10 +52,13 @@ may_come rules remaining steps kept h =
     ] in
     cond_both (ltb kept steps) Must _ Right more (λ is. cond_both is_over Never May Right (last is) (λ _. tt))
 
-due_after : (rules : Rules) (before : Before) (starts : Option ℕ) (remaining : ℕ) (octets : List ℕ) (block : WindowBlock) (columns : List (List ℕ))
+due_after : (rules : Rules) (before : Before) (starts : Option ℕ) (remaining : ℕ) (octets : List ℕ)
+    (block : WindowBlock) (columns : List (List ℕ))
     → IsDue rules before starts remaining octets → AreKept rules.keep rules.ahead remaining block.steps block.kept
     → block.end_state ≡ register_after block.start (take block.kept block.bits)
-    → IsDue rules (after_window rules before (window_for block (take (steps_size rules.rate before.t block.steps) octets) columns)) (Some block.end_state) (remaining - block.kept)
+    → IsDue rules (after_window rules before (window_for block
+    (take (steps_size rules.rate before.t block.steps) octets) columns)) (Some block.end_state)
+    (remaining - block.kept)
     (drop (steps_size rules.rate before.t block.kept) octets)
 due_after rules before starts remaining octets block columns due kept end_state =
     let rate = rules.rate in
@@ -65,7 +72,9 @@ due_after rules before starts remaining octets block columns due kept end_state 
       begins = ap (λ (v : ℕ). One v) (sym end_state);
       whole = omega (arith, due.whole, rest, length-drop size octets);
       seen = seen;
-      few = elim kept.either as (λ _. seen ≤ rules.ahead) [ inl last ↦ omega (arith, last) | inr goes ↦ omega (arith, goes) ];
+      few =
+          elim kept.either as (λ _. seen ≤ rules.ahead)
+          [ inl last ↦ omega (arith, last) | inr goes ↦ omega (arith, goes) ];
       within = omega (arith, kept.steps_is, kept.within);
       prefix = ap (λ k. drop size (take k octets)) part ∙ drop-take size (steps_size rate (t + block.kept) seen) octets;
       next = may_come rules remaining block.steps block.kept kept;
@@ -74,7 +83,8 @@ due_after rules before starts remaining octets block columns due kept end_state 
 -- ---- all windows
 
 -- the octets are read as windows of these blocks, and no window is missing after them
-pub record AreRead (rules : Rules) (before : Before) (remaining : ℕ) (octets : List ℕ) (blocks : List WindowBlock) (text : List ℕ) : Type 0 where
+pub record AreRead (rules : Rules) (before : Before) (remaining : ℕ) (octets : List ℕ) (blocks : List WindowBlock)
+    (text : List ℕ) : Type 0 where
   pub windows : List Window
   pub to : Before
   pub passed : ArePassed rules before text windows to []
@@ -88,16 +98,21 @@ not_due ahead Must remaining none h = absurd (omega (arith, none, h))
 not_due ahead Never remaining none h = refl
 
 module _ (rules : Rules) (keeps : 0 < rules.keep) (small : rules.keep + rules.ahead ≤ 69632) where
-  all_pass : (before : Before) (starts : Option ℕ) (remaining : ℕ) (octets : List ℕ) (blocks : List WindowBlock) (text : List ℕ) → All (λ octet. octet < 256) octets
-      → IsDue rules before starts remaining octets → AreBlocks rules.rate rules.invert rules.keep rules.ahead starts before.t remaining octets blocks
-      → AreCertified rules.rate rules.invert starts before.t octets blocks text → AreRead rules before remaining octets blocks text
+  all_pass : (before : Before) (starts : Option ℕ) (remaining : ℕ) (octets : List ℕ) (blocks : List WindowBlock)
+      (text : List ℕ) → All (λ octet. octet < 256) octets
+      → IsDue rules before starts remaining octets → AreBlocks rules.rate rules.invert rules.keep rules.ahead starts
+      before.t remaining octets blocks
+      → AreCertified rules.rate rules.invert starts before.t octets blocks text
+      → AreRead rules before remaining octets blocks text
   all_pass before starts remaining octets [] text are_octets due are certified = record {
     windows = [];
     to = before;
     passed = (refl, sym certified);
     ended = not_due rules.ahead before.next remaining are due.next;
     same = refl;
-    kept = sym (ap (λ k. take (steps_size rules.rate before.t k) octets) are ∙ ap (λ k. take k octets) (steps_size-zero rules.rate before.t));
+    kept =
+        sym (ap (λ k. take (steps_size rules.rate before.t k) octets) are
+        ∙ ap (λ k. take k octets) (steps_size-zero rules.rate before.t));
   }
   all_pass before starts remaining octets (block ∷ blocks) text are_octets due are certified =
       let rate = rules.rate in
@@ -110,16 +125,23 @@ module _ (rules : Rules) (keeps : 0 < rules.keep) (small : rules.keep + rules.ah
       let kept : AreKept rules.keep rules.ahead remaining block.steps block.kept
       = are_kept rules.keep rules.ahead remaining block.steps block.kept are.1.steps are.1.kept in
       let inside : block.kept ≤ remaining = omega (arith, kept.within, kept.steps_is) in
-      let is_written = written rules keeps small before starts remaining octets are_octets due are.0 block are.1 columns certified.2.are_columns in
-      let passes = window_passes rules keeps small before starts remaining octets are_octets due are.0 block are.1 columns certified.2.are_columns rest in
+      let is_written = written rules keeps small before starts remaining octets are_octets due are.0 block are.1
+      columns certified.2.are_columns in
+      let passes = window_passes rules keeps small before starts remaining octets are_octets due are.0 block are.1
+      columns certified.2.are_columns rest in
       let others : AreRead rules (after_window rules before w) (remaining - block.kept) (drop size octets) blocks rest
-      = all_pass (after_window rules before w) (Some block.end_state) (remaining - block.kept) (drop size octets) blocks rest (All-drop (λ octet. octet < 256) size octets are_octets)
+      =
+      all_pass (after_window rules before w) (Some block.end_state) (remaining - block.kept)
+      (drop size octets) blocks rest (All-drop (λ octet. octet < 256) size octets are_octets)
       (due_after rules before starts remaining octets block columns due kept are.1.end_state) are.2 certified.3 in
       let whole : text ≡ window_octets w ++ rest = certified.4 ∙ ap (λ v. v ++ rest) certified.2.is_text in
       let dropped : drop (window_size rate t block.steps) (window_octets w ++ rest) ≡ rest
       = drop_at (window_octets w) rest (window_size rate t block.steps) (length-window_octets rate t w is_written) in
-      let after_it : ArePassed rules (after_window rules before w) (drop (window_size rate t block.steps) (window_octets w ++ rest)) others.windows others.to []
-      = subst (λ (v : List ℕ). ArePassed rules (after_window rules before w) v others.windows others.to []) (sym dropped) others.passed in
+      let after_it : ArePassed rules (after_window rules before w)
+      (drop (window_size rate t block.steps) (window_octets w ++ rest)) others.windows others.to []
+      =
+      subst (λ (v : List ℕ). ArePassed rules (after_window rules before w) v others.windows others.to [])
+      (sym dropped) others.passed in
       let here : ArePassed rules before (window_octets w ++ rest) (w ∷ others.windows) others.to []
       = (passes, sym (window-back rate t w rest is_written), after_it) in
       let tells : ℕ → ℕ → WindowBlock = λ end_state dropped. record {
@@ -131,14 +153,16 @@ module _ (rules : Rules) (keeps : 0 < rules.keep) (small : rules.keep + rules.ah
         end_state = end_state;
         dropped = dropped;
       } in
-      let first : take size soft ≡ take size octets = take-take size (steps_size rate t block.steps) octets (steps_size-le rate t block.kept block.steps kept.within) in
+      let first : take size soft ≡ take size octets = take-take size (steps_size rate t block.steps) octets
+      (steps_size-le rate t block.kept block.steps kept.within) in
       record {
         windows = w ∷ others.windows;
         to = others.to;
         passed = subst (λ (v : List ℕ). ArePassed rules before v (w ∷ others.windows) others.to []) (sym whole) here;
         ended = others.ended;
         same = ap (λ (v : ℕ). tells v 0 ∷ map block_of others.windows) (sym are.1.end_state)
-            ∙ ap (λ (v : ℕ). tells block.end_state v ∷ map block_of others.windows) (sym are.1.dropped) ∙ ap (λ (v : List WindowBlock). block ∷ v) others.same;
+            ∙ ap (λ (v : ℕ). tells block.end_state v ∷ map block_of others.windows) (sym are.1.dropped)
+            ∙ ap (λ (v : List WindowBlock). block ∷ v) others.same;
         kept = ap (λ (v : List ℕ). v ++ all_kept rate (t + block.kept) others.windows) first
             ∙ ap (λ (v : List ℕ). take size octets ++ v) others.kept
             ∙ sym (take-add size (steps_size rate (t + block.kept) (remaining - block.kept)) octets)
@@ -151,8 +175,10 @@ first_starts Any = refl
 
 -- the certificate of all blocks passes
 pub certificate_passes : (s : Settings) (octets : List ℕ) (blocks : List WindowBlock) (left : ℕ) (text : List ℕ)
-    → 0 < s.keep → s.keep + s.ahead ≤ 69632 → All (λ octet. octet < 256) octets → AreBlocksOf s octets blocks left → IsCertificate s octets blocks text
-    → (windows : List Window) × IsWhole (rules_by s) text windows × (map block_of windows ≡ blocks) × (all_kept s.rate 0 windows ≡ take (length octets - left) octets)
+    → 0 < s.keep → s.keep + s.ahead ≤ 69632 → All (λ octet. octet < 256) octets → AreBlocksOf s octets blocks left
+    → IsCertificate s octets blocks text
+    → (windows : List Window) × IsWhole (rules_by s) text windows × (map block_of windows ≡ blocks)
+    × (all_kept s.rate 0 windows ≡ take (length octets - left) octets)
 certificate_passes s octets blocks left text keeps small are_octets all certified =
     let rules = rules_by s in
     let due : IsDue rules (at_first rules) (first_start s.start) all.count octets = record {
@@ -164,10 +190,20 @@ certificate_passes s octets blocks left text keeps small are_octets all certifie
       prefix = sym (ap (λ k. take k octets) (steps_size-zero s.rate 0));
       next = tt;
     } in
-    let r = all_pass rules keeps small (at_first rules) (first_start s.start) all.count octets blocks text are_octets due all.are certified in
+    let r = all_pass rules keeps small (at_first rules) (first_start s.start) all.count octets blocks text are_octets
+    due all.are certified in
     let size : steps_size s.rate 0 all.count ≡ length octets - left = omega (arith, all.rest) in (
       r.windows,
-      (record { before = r.to; rest = []; passed = r.passed; is_seen = (nothing rules r.to, omega arith); stops = λ e. absurd (cc) }, r.ended),
+      (
+        record {
+          before = r.to;
+          rest = [];
+          passed = r.passed;
+          is_seen = (nothing rules r.to, omega arith);
+          stops = λ e. absurd (cc);
+        },
+        r.ended,
+      ),
       r.same,
       r.kept ∙ ap (λ k. take k octets) size,
     )

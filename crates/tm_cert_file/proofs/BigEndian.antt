@@ -8,25 +8,29 @@ use Rattle.std.specs.Int.{w32, from_be_bytes}
 use Rattle.tm_cert_file.specs.Window.{column_octets, numbers_in, columns_in}
 use Rattle.tm_cert_file.proofs.Prefixes.{numbers_in-prefix}
 
-pub numbers_in-push : (count : ℕ) (octets : List ℕ) → numbers_in (suc count) octets ≡ numbers_in count octets ++ from_be_bytes w32 (drop (4 * count) octets) ∷ []
+pub numbers_in-push : (count : ℕ) (octets : List ℕ) → numbers_in (suc count) octets ≡ numbers_in count octets
+    ++ from_be_bytes w32 (drop (4 * count) octets) ∷ []
 unfolding numbers_in
 numbers_in-push zero octets = refl
 numbers_in-push (suc count) octets =
     let place : 4 + 4 * count ≡ 4 * suc count = omega arith in
     ap (λ v. from_be_bytes w32 octets ∷ v) (numbers_in-push count (drop 4 octets))
-    ∙ ap (λ v. from_be_bytes w32 octets ∷ (numbers_in count (drop 4 octets) ++ from_be_bytes w32 v ∷ [])) (drop-drop (4 * count) 4 octets ∙ ap (λ k. drop k octets) place)
+    ∙ ap (λ v. from_be_bytes w32 octets ∷ (numbers_in count (drop 4 octets) ++ from_be_bytes w32 v ∷ []))
+    (drop-drop (4 * count) 4 octets ∙ ap (λ k. drop k octets) place)
 
 pub columns_in-none : (octets : List ℕ) → columns_in 0 octets ≡ []
 unfolding columns_in
 columns_in-none octets = refl
 
-pub columns_in-push : (count : ℕ) (octets : List ℕ) → columns_in (suc count) octets ≡ columns_in count octets ++ numbers_in 64 (drop (256 * count) octets) ∷ []
+pub columns_in-push : (count : ℕ) (octets : List ℕ) → columns_in (suc count) octets ≡ columns_in count octets
+    ++ numbers_in 64 (drop (256 * count) octets) ∷ []
 unfolding columns_in
 columns_in-push zero octets = refl
 columns_in-push (suc count) octets =
     let place : 256 + 256 * count ≡ 256 * suc count = omega arith in
     ap (λ v. numbers_in 64 octets ∷ v) (columns_in-push count (drop 256 octets))
-    ∙ ap (λ v. numbers_in 64 octets ∷ (columns_in count (drop 256 octets) ++ numbers_in 64 v ∷ [])) (drop-drop (256 * count) 256 octets ∙ ap (λ k. drop k octets) place)
+    ∙ ap (λ v. numbers_in 64 octets ∷ (columns_in count (drop 256 octets) ++ numbers_in 64 v ∷ []))
+    (drop-drop (256 * count) 256 octets ∙ ap (λ k. drop k octets) place)
 
 pub length-columns_in : (count : ℕ) (octets : List ℕ) → length (columns_in count octets) ≡ count
 unfolding columns_in
@@ -34,7 +38,8 @@ length-columns_in zero octets = refl
 length-columns_in (suc count) octets = ap suc (length-columns_in count (drop 256 octets))
 
 -- the numbers of a column's octets are those of the column
-pub numbers_in-column_octets : (column rest : List ℕ) → All (λ n. n < 2 ^ 32) column → numbers_in (length column) (column_octets column ++ rest) ≡ column
+pub numbers_in-column_octets : (column rest : List ℕ) → All (λ n. n < 2 ^ 32) column
+    → numbers_in (length column) (column_octets column ++ rest) ≡ column
 unfolding numbers_in
 numbers_in-column_octets [] rest small = refl
 numbers_in-column_octets (n ∷ column) rest small =
@@ -52,12 +57,15 @@ from_be_bytes_4-take n xs long =
     let d : get_or (take n xs) 3 0 ≡ get_or xs 3 0 = get_or-take n xs 3 0 (omega arith) in
     omega arith
 
-pub numbers_in-take : (count n : ℕ) (xs : List ℕ) → 4 * count ≤ n → n ≤ length xs → numbers_in count (take n xs) ≡ numbers_in count xs
+pub numbers_in-take : (count n : ℕ) (xs : List ℕ) → 4 * count ≤ n → n ≤ length xs
+    → numbers_in count (take n xs) ≡ numbers_in count xs
 numbers_in-take count n xs long fits =
-    sym (numbers_in-prefix count (take n xs) (drop n xs) (omega (arith, length-take-le n xs fits))) ∙ ap (numbers_in count) (take-append-drop n xs)
+    sym (numbers_in-prefix count (take n xs) (drop n xs) (omega (arith, length-take-le n xs fits)))
+    ∙ ap (numbers_in count) (take-append-drop n xs)
 
 -- one more number of a column
-pub column_more : (s n v : ℕ) (column octets : List ℕ) → length column ≡ 64 → s < 64 → 4 ≤ n → v ≡ from_be_bytes w32 (take n (drop (4 * s) octets))
+pub column_more : (s n v : ℕ) (column octets : List ℕ) → length column ≡ 64 → s < 64 → 4 ≤ n
+    → v ≡ from_be_bytes w32 (take n (drop (4 * s) octets))
     → take s column ≡ numbers_in s octets → take (s + 1) (set column s v) ≡ numbers_in (s + 1) octets
 column_more s n v column octets long below four is prefix =
     let place : suc s ≡ s + 1 = omega arith in
@@ -71,5 +79,6 @@ pub columns_more : (at n k : ℕ) (column octets : List ℕ) → at ≡ 256 * k 
     → column ≡ numbers_in 64 (take n (drop at octets)) → columns_in k octets ++ column ∷ [] ≡ columns_in (k + 1) octets
 columns_more at n k column octets place size fits is =
     let next : suc k ≡ k + 1 = omega arith in
-    ap (λ w. columns_in k octets ++ w ∷ []) (is ∙ numbers_in-take 64 n (drop at octets) (omega arith) (omega (arith, length-drop at octets)) ∙ ap (λ v. numbers_in 64 (drop v octets)) place)
+    ap (λ w. columns_in k octets ++ w ∷ []) (is ∙ numbers_in-take 64 n (drop at octets) (omega arith)
+    (omega (arith, length-drop at octets)) ∙ ap (λ v. numbers_in 64 (drop v octets)) place)
     ∙ sym (columns_in-push k octets) ∙ ap (λ m. columns_in m octets) next

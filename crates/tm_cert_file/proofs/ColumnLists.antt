@@ -19,7 +19,9 @@ use Rattle.tm_conv.proofs.Sizes.{steps_size-le}
 
 -- octets of whole steps have a column
 abbrev pub HasColumn : Type 0
-HasColumn = (starts : ℕ → Bool) (rate : Rate) (invert : Bool) (t steps : ℕ) (octets : List ℕ) → length octets ≡ steps_size rate t steps
+HasColumn =
+    (starts : ℕ → Bool) (rate : Rate) (invert : Bool) (t steps : ℕ) (octets : List ℕ)
+    → length octets ≡ steps_size rate t steps
     → (column : List ℕ) × IsColumn starts rate invert t octets column
 
 -- ---- columns
@@ -31,60 +33,80 @@ columns-first rate invert starts t octets column is = record {
   each = λ k le.
       let none : 0 ≡ k = omega arith in
       let size : 0 ≡ steps_size rate t k = sym (steps_size-zero rate t) ∙ ap (steps_size rate t) none in
-      let P : ℕ → ℕ → Type 0 = λ n i. IsColumn (starts_from starts) rate invert t (take n octets) (get_or (column ∷ []) i []) in
+      let P : ℕ → ℕ → Type 0 = λ n i. IsColumn (starts_from starts) rate invert t (take n octets)
+      (get_or (column ∷ []) i []) in
       subst (λ i. P (steps_size rate t k) i) none (subst (λ n. P n 0) size is);
 }
 
-pub columns-push : (rate : Rate) (invert : Bool) (starts : Option ℕ) (t steps : ℕ) (octets column : List ℕ) (columns : List (List ℕ))
-    → AreColumns rate invert starts t steps octets columns → IsColumn (starts_from starts) rate invert t (take (steps_size rate t (steps + 1)) octets) column
+pub columns-push : (rate : Rate) (invert : Bool) (starts : Option ℕ) (t steps : ℕ) (octets column : List ℕ)
+    (columns : List (List ℕ))
+    → AreColumns rate invert starts t steps octets columns → IsColumn (starts_from starts) rate invert t
+    (take (steps_size rate t (steps + 1)) octets) column
     → AreColumns rate invert starts t (steps + 1) octets (columns ++ column ∷ [])
 columns-push rate invert starts t steps octets column columns are is = record {
   count = length-append columns (column ∷ []) ∙ omega (arith, are.count);
   each = λ k le.
-      let P : ℕ → List ℕ → Type 0 = λ i v. IsColumn (starts_from starts) rate invert t (take (steps_size rate t i) octets) v in
+      let P : ℕ → List ℕ → Type 0 = λ i v. IsColumn (starts_from starts) rate invert t
+      (take (steps_size rate t i) octets) v in
       elim (cases_lt steps k) [
-        | inr below ↦ subst (λ v. P k v) (sym (get_or_append_left columns (column ∷ []) [] k (omega (arith, are.count, below)))) (are.each k below)
+        | inr below ↦ subst (λ v. P k v) (sym (get_or_append_left columns (column ∷ []) [] k
+            (omega (arith, are.count, below)))) (are.each k below)
         | inl last ↦
             (let same : steps + 1 ≡ k = omega (arith, last, le) in
             let place : length columns ≡ k = are.count ∙ same in
-            let there : column ≡ get_or (columns ++ column ∷ []) k [] = sym (get_or-append_seam columns column [] []) ∙ ap (λ i. get_or (columns ++ column ∷ []) i []) place in
+            let there : column ≡ get_or (columns ++ column ∷ []) k [] = sym (get_or-append_seam columns column [] [])
+            ∙ ap (λ i. get_or (columns ++ column ∷ []) i []) place in
             subst (λ v. P k v) there (subst (λ i. P i column) same is))
       ];
 }
 
 -- columns after one more than the others
-columns-after : (rate : Rate) (invert : Bool) (starts : Option ℕ) (t steps more : ℕ) (octets : List ℕ) (columns : List (List ℕ)) (column : List ℕ) (rest : List (List ℕ))
-    → AreColumns rate invert starts t (steps + 1 + more) octets ((columns ++ column ∷ []) ++ rest) → AreColumns rate invert starts t (steps + suc more) octets (columns ++ (column ∷ rest))
+columns-after : (rate : Rate) (invert : Bool) (starts : Option ℕ) (t steps more : ℕ) (octets : List ℕ)
+    (columns : List (List ℕ)) (column : List ℕ) (rest : List (List ℕ))
+    → AreColumns rate invert starts t (steps + 1 + more) octets ((columns ++ column ∷ []) ++ rest)
+    → AreColumns rate invert starts t (steps + suc more) octets (columns ++ (column ∷ rest))
 columns-after rate invert starts t steps more octets columns column rest are =
     let same : steps + 1 + more ≡ steps + suc more = omega arith in
     subst (λ n. AreColumns rate invert starts t n octets (columns ++ (column ∷ rest))) same
-    (subst (λ v. AreColumns rate invert starts t (steps + 1 + more) octets v) (append_assoc columns (column ∷ []) rest) are)
+    (subst (λ v. AreColumns rate invert starts t (steps + 1 + more) octets v)
+    (append_assoc columns (column ∷ []) rest) are)
 
 -- the columns of further steps
-pub columns-more : HasColumn → (rate : Rate) (invert : Bool) (starts : Option ℕ) (t steps more : ℕ) (octets : List ℕ) (columns : List (List ℕ))
+pub columns-more : HasColumn → (rate : Rate) (invert : Bool) (starts : Option ℕ) (t steps more : ℕ) (octets : List ℕ)
+    (columns : List (List ℕ))
     → steps_size rate t (steps + more) ≤ length octets → AreColumns rate invert starts t steps octets columns
     → (rest : List (List ℕ)) × AreColumns rate invert starts t (steps + more) octets (columns ++ rest)
 columns-more exists rate invert starts t steps zero octets columns there are =
-    let same : steps ≡ steps + 0 = omega arith in
-    ([], subst (λ n. AreColumns rate invert starts t n octets (columns ++ [])) same (subst (λ v. AreColumns rate invert starts t steps octets v) (sym (append-nil columns)) are))
+    let same : steps ≡ steps + 0 = omega arith in (
+      [],
+      subst (λ n. AreColumns rate invert starts t n octets (columns ++ [])) same
+          (subst (λ v. AreColumns rate invert starts t steps octets v) (sym (append-nil columns)) are),
+    )
 columns-more exists rate invert starts t steps (suc more) octets columns there are =
     let same : steps + 1 + more ≡ steps + suc more = omega arith in
-    let inside : steps_size rate t (steps + 1) ≤ length octets = omega (arith, there, steps_size-le rate t (steps + 1) (steps + suc more) (omega arith)) in
-    let next = exists (starts_from starts) rate invert t (steps + 1) (take (steps_size rate t (steps + 1)) octets) (length-take-le (steps_size rate t (steps + 1)) octets inside) in
+    let inside : steps_size rate t (steps + 1) ≤ length octets =
+    omega (arith, there, steps_size-le rate t (steps + 1) (steps + suc more) (omega arith)) in
+    let next = exists (starts_from starts) rate invert t (steps + 1) (take (steps_size rate t (steps + 1)) octets)
+    (length-take-le (steps_size rate t (steps + 1)) octets inside) in
     let pushed = columns-push rate invert starts t steps octets next.0 columns are next.1 in
-    let r = columns-more exists rate invert starts t (steps + 1) more octets (columns ++ next.0 ∷ []) (omega (arith, there, ap (steps_size rate t) same)) pushed in
+    let r = columns-more exists rate invert starts t (steps + 1) more octets (columns ++ next.0 ∷ [])
+    (omega (arith, there, ap (steps_size rate t) same)) pushed in
     (next.0 ∷ r.0, columns-after rate invert starts t steps more octets columns next.0 r.0 r.1)
 
 -- the columns of all steps, of which the first is given
-columns-from : HasColumn → (rate : Rate) (invert : Bool) (starts : Option ℕ) (t steps : ℕ) (octets column : List ℕ) → steps_size rate t steps ≤ length octets
-    → IsColumn (starts_from starts) rate invert t [] column → (rest : List (List ℕ)) × AreColumns rate invert starts t steps octets (column ∷ rest)
+columns-from : HasColumn → (rate : Rate) (invert : Bool) (starts : Option ℕ) (t steps : ℕ) (octets column : List ℕ)
+    → steps_size rate t steps ≤ length octets
+    → IsColumn (starts_from starts) rate invert t [] column → (rest : List (List ℕ))
+    × AreColumns rate invert starts t steps octets (column ∷ rest)
 columns-from exists rate invert starts t steps octets column there is =
     let same : 0 + steps ≡ steps = omega arith in
-    let r = columns-more exists rate invert starts t 0 steps octets (column ∷ []) (omega (arith, there, ap (steps_size rate t) same)) (columns-first rate invert starts t octets column is) in
+    let r = columns-more exists rate invert starts t 0 steps octets (column ∷ [])
+    (omega (arith, there, ap (steps_size rate t) same)) (columns-first rate invert starts t octets column is) in
     (r.0, subst (λ n. AreColumns rate invert starts t n octets (column ∷ r.0)) same r.1)
 
 -- the columns of all steps
-pub columns-all : HasColumn → (rate : Rate) (invert : Bool) (starts : Option ℕ) (t steps : ℕ) (octets : List ℕ) → steps_size rate t steps ≤ length octets
+pub columns-all : HasColumn → (rate : Rate) (invert : Bool) (starts : Option ℕ) (t steps : ℕ) (octets : List ℕ)
+    → steps_size rate t steps ≤ length octets
     → (columns : List (List ℕ)) × AreColumns rate invert starts t steps octets columns
 columns-all exists rate invert starts t steps octets there =
     let first = exists (starts_from starts) rate invert t 0 [] (sym (steps_size-zero rate t)) in
@@ -94,12 +116,14 @@ columns-all exists rate invert starts t steps octets there =
 -- ---- what is written of them
 
 -- the columns before and after the first steps were taken
-pub record TookColumns (rate : Rate) (invert : Bool) (starts : Option ℕ) (t steps : ℕ) (octets : List ℕ) (taken taken_now : Option (List ℕ)) : Type 0 where
+pub record TookColumns (rate : Rate) (invert : Bool) (starts : Option ℕ) (t steps : ℕ) (octets : List ℕ)
+    (taken taken_now : Option (List ℕ)) : Type 0 where
   pub columns : List (List ℕ)
   pub are : AreColumns rate invert starts t steps octets columns
   pub wrote : Wrote taken taken_now (flat_map column_octets columns)
 
-pub took-first : (rate : Rate) (invert : Bool) (starts : Option ℕ) (t : ℕ) (octets column : List ℕ) (taken taken_now : Option (List ℕ))
+pub took-first : (rate : Rate) (invert : Bool) (starts : Option ℕ) (t : ℕ) (octets column : List ℕ)
+    (taken taken_now : Option (List ℕ))
     → IsColumn (starts_from starts) rate invert t [] column → Wrote taken taken_now (column_octets column)
     → TookColumns rate invert starts t 0 octets taken taken_now
 took-first rate invert starts t octets column taken taken_now is wrote = record {
@@ -108,53 +132,78 @@ took-first rate invert starts t octets column taken taken_now is wrote = record 
   wrote = wrote ∙ ap (append_known taken) (sym (append-nil (column_octets column)));
 }
 
-flat-push : (columns : List (List ℕ)) (column : List ℕ) → flat_map column_octets (columns ++ column ∷ []) ≡ flat_map column_octets columns ++ column_octets column
-flat-push columns column = flat_map-append column_octets columns (column ∷ []) ∙ ap (λ v. flat_map column_octets columns ++ v) (append-nil (column_octets column))
+flat-push : (columns : List (List ℕ)) (column : List ℕ) → flat_map column_octets (columns ++ column ∷ [])
+    ≡ flat_map column_octets columns ++ column_octets column
+flat-push columns column =
+    flat_map-append column_octets columns (column ∷ [])
+    ∙ ap (λ v. flat_map column_octets columns ++ v) (append-nil (column_octets column))
 
-pub took-push : (rate : Rate) (invert : Bool) (starts : Option ℕ) (t steps : ℕ) (octets column : List ℕ) (taken middle taken_now : Option (List ℕ))
-    → TookColumns rate invert starts t steps octets taken middle → IsColumn (starts_from starts) rate invert t (take (steps_size rate t (steps + 1)) octets) column
-    → Wrote middle taken_now (column_octets column) → TookColumns rate invert starts t (steps + 1) octets taken taken_now
+pub took-push : (rate : Rate) (invert : Bool) (starts : Option ℕ) (t steps : ℕ) (octets column : List ℕ)
+    (taken middle taken_now : Option (List ℕ))
+    → TookColumns rate invert starts t steps octets taken middle
+    → IsColumn (starts_from starts) rate invert t (take (steps_size rate t (steps + 1)) octets) column
+    → Wrote middle taken_now (column_octets column) → TookColumns rate invert starts t
+    (steps + 1) octets taken taken_now
 took-push rate invert starts t steps octets column taken middle taken_now took is wrote = record {
   columns = took.columns ++ column ∷ [];
   are = columns-push rate invert starts t steps octets column took.columns took.are is;
-  wrote = wrote-more taken middle taken_now (flat_map column_octets took.columns) (column_octets column) took.wrote wrote ∙ ap (append_known taken) (sym (flat-push took.columns column));
+  wrote =
+      wrote-more taken middle taken_now (flat_map column_octets took.columns) (column_octets column) took.wrote wrote
+      ∙ ap (append_known taken) (sym (flat-push took.columns column));
 }
 
 -- a prefix of all columns was taken
 abbrev pub TookPrefix : Rate → Bool → Option ℕ → ℕ → ℕ → List ℕ → Option (List ℕ) → Option (List ℕ) → Type 0
 TookPrefix rate invert starts t steps octets taken taken_now =
-    (columns : List (List ℕ)) × AreColumns rate invert starts t steps octets columns × WrotePrefix taken taken_now (flat_map column_octets columns)
+    (columns : List (List ℕ)) × AreColumns rate invert starts t steps octets columns
+    × WrotePrefix taken taken_now (flat_map column_octets columns)
 
-pub cut-first : HasColumn → (rate : Rate) (invert : Bool) (starts : Option ℕ) (t steps count : ℕ) (octets column : List ℕ) (taken taken_now : Option (List ℕ))
-    → steps_size rate t steps ≤ length octets → IsColumn (starts_from starts) rate invert t [] column → count ≤ length (column_octets column)
-    → Wrote taken taken_now (take count (column_octets column)) → TookPrefix rate invert starts t steps octets taken taken_now
+pub cut-first : HasColumn → (rate : Rate) (invert : Bool) (starts : Option ℕ) (t steps count : ℕ)
+    (octets column : List ℕ) (taken taken_now : Option (List ℕ))
+    → steps_size rate t steps ≤ length octets → IsColumn (starts_from starts) rate invert t [] column
+    → count ≤ length (column_octets column)
+    → Wrote taken taken_now (take count (column_octets column))
+    → TookPrefix rate invert starts t steps octets taken taken_now
 cut-first exists rate invert starts t steps count octets column taken taken_now there is few wrote =
-    let r = columns-from exists rate invert starts t steps octets column there is in
-    (column ∷ r.0, r.1, prefix-first taken taken_now count (column_octets column) (flat_map column_octets r.0) few wrote)
+    let r = columns-from exists rate invert starts t steps octets column there is in (
+      column ∷ r.0,
+      r.1,
+      prefix-first taken taken_now count (column_octets column)
+          (flat_map column_octets r.0) few wrote,
+    )
 
-pub cut-push : HasColumn → (rate : Rate) (invert : Bool) (starts : Option ℕ) (t steps all count : ℕ) (octets column : List ℕ) (taken middle taken_now : Option (List ℕ))
+pub cut-push : HasColumn → (rate : Rate) (invert : Bool) (starts : Option ℕ) (t steps all count : ℕ)
+    (octets column : List ℕ) (taken middle taken_now : Option (List ℕ))
     → steps < all → steps_size rate t all ≤ length octets → TookColumns rate invert starts t steps octets taken middle
-    → IsColumn (starts_from starts) rate invert t (take (steps_size rate t (steps + 1)) octets) column → count ≤ length (column_octets column)
-    → Wrote middle taken_now (take count (column_octets column)) → TookPrefix rate invert starts t all octets taken taken_now
+    → IsColumn (starts_from starts) rate invert t (take (steps_size rate t (steps + 1)) octets) column
+    → count ≤ length (column_octets column)
+    → Wrote middle taken_now (take count (column_octets column))
+    → TookPrefix rate invert starts t all octets taken taken_now
 cut-push exists rate invert starts t steps all count octets column taken middle taken_now less there took is few wrote =
     let more : ℕ = all - (steps + 1) in
     let whole : steps + 1 + more ≡ all = omega arith in
     let pushed = columns-push rate invert starts t steps octets column took.columns took.are is in
-    let r = columns-more exists rate invert starts t (steps + 1) more octets (took.columns ++ column ∷ []) (omega (arith, there, ap (steps_size rate t) whole)) pushed in
+    let r = columns-more exists rate invert starts t (steps + 1) more octets (took.columns ++ column ∷ [])
+    (omega (arith, there, ap (steps_size rate t) whole)) pushed in
     let columns : List (List ℕ) = (took.columns ++ column ∷ []) ++ r.0 in
-    let text : flat_map column_octets took.columns ++ (column_octets column ++ flat_map column_octets r.0) ≡ flat_map column_octets columns =
-    sym (flat_map-append column_octets took.columns (column ∷ r.0)) ∙ ap (flat_map column_octets) (sym (append_assoc took.columns (column ∷ []) r.0)) in (
+    let text : flat_map column_octets took.columns ++ (column_octets column ++ flat_map column_octets r.0)
+    ≡ flat_map column_octets columns =
+    sym (flat_map-append column_octets took.columns (column ∷ r.0))
+    ∙ ap (flat_map column_octets) (sym (append_assoc took.columns (column ∷ []) r.0)) in (
       columns,
       subst (λ n. AreColumns rate invert starts t n octets columns) whole r.1,
-      subst (WrotePrefix taken taken_now) text (prefix-more taken middle taken_now (flat_map column_octets took.columns) (column_octets column ++ flat_map column_octets r.0) took.wrote
+      subst (WrotePrefix taken taken_now) text (prefix-more taken middle taken_now
+          (flat_map column_octets took.columns) (column_octets column ++ flat_map column_octets r.0) took.wrote
           (prefix-first middle taken_now count (column_octets column) (flat_map column_octets r.0) few wrote)),
     )
 
 -- ---- the sums that give the columns
 
 -- a column of sums that began like this
-pub column-of : (rate rate' : Rate) (invert invert' : Bool) (starts starts' : Option ℕ) (t t' : ℕ) (octets column : List ℕ)
-    → rate' ≡ rate → invert' ≡ invert → starts' ≡ starts → t' ≡ t → IsColumn (starts_from starts') rate' invert' t' octets column
+pub column-of : (rate rate' : Rate) (invert invert' : Bool) (starts starts' : Option ℕ) (t t' : ℕ)
+    (octets column : List ℕ)
+    → rate' ≡ rate → invert' ≡ invert → starts' ≡ starts → t' ≡ t
+    → IsColumn (starts_from starts') rate' invert' t' octets column
     → IsColumn (starts_from starts) rate invert t octets column
 column-of rate rate' invert invert' starts starts' t t' octets column er ei es et is =
     subst (λ v. IsColumn (starts_from starts) rate invert v octets column) et
@@ -163,10 +212,12 @@ column-of rate rate' invert invert' starts starts' t t' octets column er ei es e
     (subst (λ (v : Rate). IsColumn (starts_from starts') v invert' t' octets column) er is)))
 
 -- the octets of the steps before, and of the next step
-pub octets-next : (rate : Rate) (t here steps at count : ℕ) (octets : List ℕ) → at ≡ steps_size rate t steps → here ≡ t + steps → count ≡ step_size rate here
+pub octets-next : (rate : Rate) (t here steps at count : ℕ) (octets : List ℕ) → at ≡ steps_size rate t steps
+    → here ≡ t + steps → count ≡ step_size rate here
     → take at octets ++ take (at + count - at) (drop at octets) ≡ take (steps_size rate t (steps + 1)) octets
 octets-next rate t here steps at count octets place there size =
     let next : count ≡ step_size rate (t + steps) = size ∙ ap (step_size rate) there in
     let end : at + count ≡ steps_size rate t (steps + 1) = omega (arith, place, next, steps_size-more rate t steps) in
     let same : at + count - at ≡ count = omega arith in
-    ap (λ n. take at octets ++ take n (drop at octets)) same ∙ sym (take-add at count octets) ∙ ap (λ n. take n octets) end
+    ap (λ n. take at octets ++ take n (drop at octets)) same ∙ sym (take-add at count octets)
+    ∙ ap (λ n. take n octets) end

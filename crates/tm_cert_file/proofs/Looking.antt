@@ -28,18 +28,28 @@ pub record Shaped (keep ahead steps kept start : ℕ) : Type 0 where
   pub rest : steps ≤ kept + ahead
   pub register : start < 64
 
-Shaped-from_has_shape : (rules : Rules) (next : Next) (steps kept start : ℕ) → has_shape rules next steps kept start ≡ true → Shaped rules.keep rules.ahead steps kept start
+Shaped-from_has_shape : (rules : Rules) (next : Next) (steps kept start : ℕ)
+    → has_shape rules next steps kept start ≡ true → Shaped rules.keep rules.ahead steps kept start
 Shaped-from_has_shape rules next steps kept start e =
     let whole = eqb kept rules.keep && eqb steps (rules.keep + rules.ahead) in
-    let a = and_parts (ltb 0 steps && leb steps (rules.keep + rules.ahead) && (eqb kept steps || whole) && ltb start 64) (not (is_due next) || ltb rules.ahead steps) e in
-    let b = and_parts (ltb 0 steps && leb steps (rules.keep + rules.ahead) && (eqb kept steps || whole)) (ltb start 64) a.0 in
+    let a = and_parts (ltb 0 steps && leb steps (rules.keep + rules.ahead) &&
+    (eqb kept steps || whole) && ltb start 64) (not (is_due next) || ltb rules.ahead steps) e in
+    let b = and_parts (ltb 0 steps && leb steps (rules.keep + rules.ahead) && (eqb kept steps || whole))
+    (ltb start 64) a.0 in
     let c = and_parts (ltb 0 steps && leb steps (rules.keep + rules.ahead)) (eqb kept steps || whole) b.0 in
     let d = and_parts (ltb 0 steps) (leb steps (rules.keep + rules.ahead)) c.0 in
     let most = leb-true steps (rules.keep + rules.ahead) d.1 in
     let both : (kept ≤ steps) × (steps ≤ kept + rules.ahead) = by_kept (or_cases (eqb kept steps) whole c.1) in
-    record { some = ltb-true 0 steps d.0; most = most; kept_within = both.0; rest = both.1; register = ltb-true start 64 b.1 }
+    record {
+      some = ltb-true 0 steps d.0;
+      most = most;
+      kept_within = both.0;
+      rest = both.1;
+      register = ltb-true start 64 b.1;
+    }
   where
-    by_kept : (eqb kept steps ≡ true) ⊎ ((eqb kept rules.keep && eqb steps (rules.keep + rules.ahead)) ≡ true) → (kept ≤ steps) × (steps ≤ kept + rules.ahead)
+    by_kept : (eqb kept steps ≡ true) ⊎ ((eqb kept rules.keep && eqb steps (rules.keep + rules.ahead)) ≡ true)
+        → (kept ≤ steps) × (steps ≤ kept + rules.ahead)
     by_kept (inl h) = let same = eqb-true kept steps h in (omega arith, omega arith)
     by_kept (inr h) =
         let parts = and_parts (eqb kept rules.keep) (eqb steps (rules.keep + rules.ahead)) h in
@@ -49,12 +59,14 @@ Shaped-from_has_shape rules next steps kept start e =
 
 pub Shaped-from_shape : (rules : Rules) (before : Before) (octets : List ℕ) → shape_of rules before octets ≡ true
     → Shaped rules.keep rules.ahead (steps_in octets) (kept_in octets) (start_in octets)
-Shaped-from_shape rules before octets e = Shaped-from_has_shape rules before.next (steps_in octets) (kept_in octets) (start_in octets) e
+Shaped-from_shape rules before octets e =
+    Shaped-from_has_shape rules before.next (steps_in octets) (kept_in octets) (start_in octets) e
 
 -- ---- more octets
 
 -- no window comes, so no octet is there
-pub none_there : (rules : Rules) (before : Before) (octets : List ℕ) → reason_in rules before octets ≡ None → is_over before.next ≡ true → length octets < 1
+pub none_there : (rules : Rules) (before : Before) (octets : List ℕ) → reason_in rules before octets ≡ None
+    → is_over before.next ≡ true → length octets < 1
 none_there rules before octets none over = by (cases_lt 0 (length octets))
   where
     by : (0 < length octets) ⊎ (length octets ≤ 0) → length octets < 1
@@ -62,19 +74,25 @@ none_there rules before octets none over = by (cases_lt 0 (length octets))
     by (inr le) = omega arith
 
 -- nothing is seen until the next stage
-pub open-more : (rules : Rules) (before : Before) (xs ys : List ℕ) → IsSeen rules before xs More → is_over before.next ≡ false
+pub open-more : (rules : Rules) (before : Before) (xs ys : List ℕ) → IsSeen rules before xs More
+    → is_over before.next ≡ false
     → (17 ≤ length xs + length ys → 17 ≤ length xs)
     → (17 ≤ length xs → bits_end (steps_in xs) ≤ length xs + length ys → bits_end (steps_in xs) ≤ length xs)
-    → (17 ≤ length xs → soft_end rules.rate before.t (steps_in xs) ≤ length xs + length ys → soft_end rules.rate before.t (steps_in xs) ≤ length xs)
+    → (17 ≤ length xs → soft_end rules.rate before.t (steps_in xs) ≤ length xs + length ys
+    → soft_end rules.rate before.t (steps_in xs) ≤ length xs)
     → (17 ≤ length xs → length xs + length ys < window_size rules.rate before.t (steps_in xs))
     → IsSeen rules before (xs ++ ys) More
-open-more rules before xs ys seen due header bits soft size =
-    (none-from_Holds rules before (xs ++ ys) (Holds-more rules before xs ys (Holds-from_none rules before xs seen.0) (λ h. due) header bits soft), by (cases_lt (length xs) 17))
+open-more rules before xs ys seen due header bits soft size = (
+  none-from_Holds rules before (xs ++ ys) (Holds-more rules before xs ys (Holds-from_none rules before xs seen.0)
+      (λ h. due) header bits soft),
+  by (cases_lt (length xs) 17),
+)
   where
     by : (length xs < 17) ⊎ (17 ≤ length xs) → length (xs ++ ys) < window_size rules.rate before.t (steps_in (xs ++ ys))
     by (inl few) = absurd_or (cases_lt (length xs + length ys) 17)
       where
-        absurd_or : (length xs + length ys < 17) ⊎ (17 ≤ length xs + length ys) → length (xs ++ ys) < window_size rules.rate before.t (steps_in (xs ++ ys))
+        absurd_or : (length xs + length ys < 17) ⊎ (17 ≤ length xs + length ys)
+            → length (xs ++ ys) < window_size rules.rate before.t (steps_in (xs ++ ys))
         absurd_or (inl less) = omega (arith, length-append xs ys)
         absurd_or (inr le) = let long = header le in absurd (omega arith)
     by (inr long) =
@@ -92,7 +110,12 @@ module _ (rules : Rules) (before : Before) (octets : List ℕ) (due : is_over be
   pub seen_header : length octets < 17 → IsSeen rules before octets More
   seen_header few = (
     none-from_Holds rules before octets
-        (record { due = λ h. due; shape = λ h. absurd (omega arith); bits = λ h. absurd (omega arith); joined = λ h. absurd (omega arith) }),
+        (record {
+          due = λ h. due;
+          shape = λ h. absurd (omega arith);
+          bits = λ h. absurd (omega arith);
+          joined = λ h. absurd (omega arith);
+        }),
     omega arith,
   )
 
@@ -100,26 +123,46 @@ module _ (rules : Rules) (before : Before) (octets : List ℕ) (due : is_over be
   seen_shape long shape =
       let some = (Shaped-from_shape rules before octets shape).some in (
         none-from_Holds rules before octets
-            (record { due = λ h. due; shape = λ h. shape; bits = λ h. absurd (omega (arith, some)); joined = λ h. absurd (omega (arith, some)) }),
+            (record {
+              due = λ h. due;
+              shape = λ h. shape;
+              bits = λ h. absurd (omega (arith, some));
+              joined = λ h. absurd (omega (arith, some));
+            }),
         omega arith,
       )
 
-  pub seen_bits : length octets ≡ bits_end (steps_in octets) → shape_of rules before octets ≡ true → are_bits (bits_in octets) ≡ true → IsSeen rules before octets More
+  pub seen_bits : length octets ≡ bits_end (steps_in octets) → shape_of rules before octets ≡ true
+      → are_bits (bits_in octets) ≡ true → IsSeen rules before octets More
   seen_bits long shape bits =
       let some = (Shaped-from_shape rules before octets shape).some in
       let more = steps_size_ge rules.rate before.t (steps_in octets) in (
         none-from_Holds rules before octets
-            (record { due = λ h. due; shape = λ h. shape; bits = λ h. bits; joined = λ h. absurd (omega (arith, some, more)) }),
+            (record {
+              due = λ h. due;
+              shape = λ h. shape;
+              bits = λ h. bits;
+              joined = λ h. absurd (omega (arith, some, more));
+            }),
         omega arith,
       )
 
-  pub seen_soft : length octets ≡ soft_end rules.rate before.t (steps_in octets) → shape_of rules before octets ≡ true → are_bits (bits_in octets) ≡ true
+  pub seen_soft : length octets ≡ soft_end rules.rate before.t (steps_in octets) → shape_of rules before octets ≡ true
+      → are_bits (bits_in octets) ≡ true
       → joined_of rules before octets ≡ true → IsSeen rules before octets More
-  seen_soft long shape bits joined =
-      (none-from_Holds rules before octets (record { due = λ h. due; shape = λ h. shape; bits = λ h. bits; joined = λ h. joined }), omega arith)
+  seen_soft long shape bits joined = (
+    none-from_Holds rules before octets (record {
+      due = λ h. due;
+      shape = λ h. shape;
+      bits = λ h. bits;
+      joined = λ h. joined;
+    }),
+    omega arith,
+  )
 
   -- no stage ends here
-  pub seen_between : HeldBefore rules before octets → 17 < length octets → ◌≢◌ {A = ℕ} (length octets) (bits_end (steps_in octets))
+  pub seen_between : HeldBefore rules before octets → 17 < length octets
+      → ◌≢◌ {A = ℕ} (length octets) (bits_end (steps_in octets))
       → ◌≢◌ {A = ℕ} (length octets) (soft_end rules.rate before.t (steps_in octets))
       → reason_in rules before octets ≡ None
   seen_between held long not_bits not_soft =
@@ -131,16 +174,19 @@ module _ (rules : Rules) (before : Before) (octets : List ℕ) (due : is_over be
       })
 
 -- what is seen by a verdict
-pub seen-by_verdict : (rules : Rules) (before : Before) (octets : List ℕ) (verdict : Verdict) → IsJudged rules before octets verdict → IsSeen rules before octets (seen_by verdict)
+pub seen-by_verdict : (rules : Rules) (before : Before) (octets : List ℕ) (verdict : Verdict)
+    → IsJudged rules before octets verdict → IsSeen rules before octets (seen_by verdict)
 seen-by_verdict rules before octets Yes judged = judged
 seen-by_verdict rules before octets (No column register) judged = judged
 seen-by_verdict rules before octets (SumOf sum) judged = judged
 
 -- the same of what is equal
-pub same_part : (held octets : List ℕ) (from from' width count : ℕ) → held ≡ octets → from ≡ from' → width ≡ count → take width (drop from held) ≡ take count (drop from' octets)
+pub same_part : (held octets : List ℕ) (from from' width count : ℕ) → held ≡ octets → from ≡ from' → width ≡ count
+    → take width (drop from held) ≡ take count (drop from' octets)
 same_part held octets from from' width count a b c = λ i. take (c i) (drop (b i) (a i))
 
-pub same_verdict : (claim claim' : Claim) (columns columns' : List (List ℕ)) (start start' : ℕ) (bits bits' : List ℕ) (metric metric' : ℕ) (verdict : Verdict)
+pub same_verdict : (claim claim' : Claim) (columns columns' : List (List ℕ)) (start start' : ℕ) (bits bits' : List ℕ)
+    (metric metric' : ℕ) (verdict : Verdict)
     → claim ≡ claim' → columns ≡ columns' → start ≡ start' → bits ≡ bits' → metric ≡ metric'
     → IsVerdict claim columns start bits metric verdict → IsVerdict claim' columns' start' bits' metric' verdict
 same_verdict claim claim' columns columns' start start' bits bits' metric metric' verdict a b c d e is =
@@ -152,7 +198,8 @@ same_verdict claim claim' columns columns' start start' bits bits' metric metric
 
 pub AreBits-from_are_bits : (bits : List ℕ) → are_bits bits ≡ true → AreBits bits
 AreBits-from_are_bits bits h k d lt =
-    ltb-true (get_or bits k d) 2 (true_from_ne_false (ltb (get_or bits k d) 2) (λ e. false≢true (sym (list_all_at (λ bit. ltb bit 2) bits k d lt e) ∙ h)))
+    ltb-true (get_or bits k d) 2 (true_from_ne_false (ltb (get_or bits k d) 2)
+    (λ e. false≢true (sym (list_all_at (λ bit. ltb bit 2) bits k d lt e) ∙ h)))
 
 -- ---- a window that passed
 
@@ -163,8 +210,11 @@ module _ (s : Reading) (passed : HasPassed s) where
   pub passed_shape : Shaped s.rules.keep s.rules.ahead (steps_in s.octets) (kept_in s.octets) (start_in s.octets)
   passed_shape = Shaped-from_shape s.rules s.before s.octets (passed_holds.shape (omega (arith, passed.just)))
 
-  pub passed_kept : steps_size s.rules.rate s.before.t (kept_in s.octets) ≤ steps_size s.rules.rate s.before.t (steps_in s.octets)
+  pub passed_kept : steps_size s.rules.rate s.before.t (kept_in s.octets)
+      ≤ steps_size s.rules.rate s.before.t (steps_in s.octets)
   passed_kept = steps_size-le s.rules.rate s.before.t (kept_in s.octets) (steps_in s.octets) passed_shape.kept_within
 
   pub passed_bits : AreBits (take (kept_in s.octets) (bits_in s.octets))
-  passed_bits = All-take (λ bit. bit < 2) (kept_in s.octets) (bits_in s.octets) (AreBits-from_are_bits (bits_in s.octets) (passed_holds.bits (omega (arith, passed.just))))
+  passed_bits =
+      All-take (λ bit. bit < 2) (kept_in s.octets) (bits_in s.octets)
+      (AreBits-from_are_bits (bits_in s.octets) (passed_holds.bits (omega (arith, passed.just))))

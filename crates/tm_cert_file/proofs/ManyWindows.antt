@@ -34,7 +34,8 @@ AreThere rate at (block ∷ blocks) = IsThere rate at block × AreThere rate (af
 kept-few : (keep ahead n : ℕ) → kept_steps keep ahead n ≤ window_steps keep ahead n
 kept-few keep ahead n = grind (arith, nat_tests)
 
-pub there-block : (rate : Rate) (invert : Bool) (keep ahead n : ℕ) (at : Place) (block : WindowBlock) → steps_size rate at.t n ≤ length at.octets
+pub there-block : (rate : Rate) (invert : Bool) (keep ahead n : ℕ) (at : Place) (block : WindowBlock)
+    → steps_size rate at.t n ≤ length at.octets
     → IsBlock rate invert keep ahead at.starts at.t n at.octets block → IsThere rate at block
 there-block rate invert keep ahead n at block whole is = record {
   octets = omega (arith, whole, steps_size-le rate at.t block.steps n (omega (arith, is.steps)));
@@ -42,73 +43,110 @@ there-block rate invert keep ahead n at block whole is = record {
 }
 
 -- and those of the kept steps
-pub kept-inside : (rate : Rate) (at : Place) (block : WindowBlock) → IsThere rate at block → steps_size rate at.t block.kept ≤ length at.octets
+pub kept-inside : (rate : Rate) (at : Place) (block : WindowBlock) → IsThere rate at block
+    → steps_size rate at.t block.kept ≤ length at.octets
 kept-inside rate at block there = omega (arith, there.octets, steps_size-le rate at.t block.kept block.steps there.kept)
 
 -- what is left of whole steps after the kept ones
-pub whole-after : (rate : Rate) (invert : Bool) (keep ahead n : ℕ) (at : Place) (block : WindowBlock) → steps_size rate at.t n ≤ length at.octets
-    → IsBlock rate invert keep ahead at.starts at.t n at.octets block → steps_size rate (at.t + block.kept) (n - block.kept) ≤ length (drop (steps_size rate at.t block.kept) at.octets)
+pub whole-after : (rate : Rate) (invert : Bool) (keep ahead n : ℕ) (at : Place) (block : WindowBlock)
+    → steps_size rate at.t n ≤ length at.octets
+    → IsBlock rate invert keep ahead at.starts at.t n at.octets block
+    → steps_size rate (at.t + block.kept) (n - block.kept) ≤ length (drop (steps_size rate at.t block.kept) at.octets)
 whole-after rate invert keep ahead n at block whole is =
     let few : block.kept ≤ n = omega (arith, is.kept, kept-few keep ahead n) in
     let sum : block.kept + (n - block.kept) ≡ n = omega arith in
-    omega (arith, whole, steps_size-add rate at.t block.kept (n - block.kept), ap (steps_size rate at.t) sum, length-drop (steps_size rate at.t block.kept) at.octets)
+    omega (
+      arith,
+      whole,
+      steps_size-add rate at.t block.kept (n - block.kept),
+      ap (steps_size rate at.t) sum,
+      length-drop (steps_size rate at.t block.kept) at.octets,
+    )
 
-pub there-closed : (rate : Rate) (invert : Bool) (keep ahead : ℕ) (from to : Place) (blocks : List WindowBlock) → Closed rate invert keep ahead from blocks to → AreThere rate from blocks
+pub there-closed : (rate : Rate) (invert : Bool) (keep ahead : ℕ) (from to : Place) (blocks : List WindowBlock)
+    → Closed rate invert keep ahead from blocks to → AreThere rate from blocks
 there-closed rate invert keep ahead from to [] closed = tt
-there-closed rate invert keep ahead from to (block ∷ blocks) closed =
-    (there-block rate invert keep ahead (keep + ahead + 1) from block closed.0.room closed.0.is_block, there-closed rate invert keep ahead (after_block rate from block) to blocks closed.1)
+there-closed rate invert keep ahead from to (block ∷ blocks) closed = (
+  there-block rate invert keep ahead (keep + ahead + 1) from block closed.0.room closed.0.is_block,
+  there-closed rate invert keep ahead (after_block rate from block) to blocks closed.1,
+)
 
-pub there-all : (rate : Rate) (invert : Bool) (keep ahead n : ℕ) (at : Place) (blocks : List WindowBlock) → steps_size rate at.t n ≤ length at.octets
+pub there-all : (rate : Rate) (invert : Bool) (keep ahead n : ℕ) (at : Place) (blocks : List WindowBlock)
+    → steps_size rate at.t n ≤ length at.octets
     → AreBlocks rate invert keep ahead at.starts at.t n at.octets blocks → AreThere rate at blocks
 there-all rate invert keep ahead n at [] whole are = tt
 there-all rate invert keep ahead n at (block ∷ blocks) whole are = (
   there-block rate invert keep ahead n at block whole are.1,
-  there-all rate invert keep ahead (n - block.kept) (after_block rate at block) blocks (whole-after rate invert keep ahead n at block whole are.1) are.2,
+  there-all rate invert keep ahead (n - block.kept) (after_block rate at block) blocks
+      (whole-after rate invert keep ahead n at block whole are.1) are.2,
 )
 
 -- ---- their certificate
 
-pub certified-exists : HasColumn → (rate : Rate) (invert : Bool) (at : Place) (blocks : List WindowBlock) → AreThere rate at blocks
+pub certified-exists : HasColumn → (rate : Rate) (invert : Bool) (at : Place) (blocks : List WindowBlock)
+    → AreThere rate at blocks
     → (text : List ℕ) × AreCertified rate invert at.starts at.t at.octets blocks text
 certified-exists exists rate invert at [] there = ([], refl)
 certified-exists exists rate invert at (block ∷ blocks) there =
     let size : ℕ = steps_size rate at.t block.steps in
-    let first = certified-some exists rate invert at.starts at.t (take size at.octets) block (omega (arith, length-take-le size at.octets there.0.octets)) in
+    let first = certified-some exists rate invert at.starts at.t (take size at.octets) block
+    (omega (arith, length-take-le size at.octets there.0.octets)) in
     let rest = certified-exists exists rate invert (after_block rate at block) blocks there.1 in
     (first.0 ++ rest.0, (first.0, rest.0, first.1, rest.1, refl))
 
-pub certificate-exists : HasColumn → (s : Settings) (octets : List ℕ) (blocks : List WindowBlock) (left : ℕ) → AreBlocksOf s octets blocks left
+pub certificate-exists : HasColumn → (s : Settings) (octets : List ℕ) (blocks : List WindowBlock) (left : ℕ)
+    → AreBlocksOf s octets blocks left
     → (text : List ℕ) × IsCertificate s octets blocks text
 certificate-exists exists s octets blocks left are =
-    certified-exists exists s.rate s.invert (first_place s octets) blocks (there-all s.rate s.invert s.keep s.ahead are.count (first_place s octets) blocks are.steps.whole are.are)
+    certified-exists exists s.rate s.invert (first_place s octets) blocks
+    (there-all s.rate s.invert s.keep s.ahead are.count (first_place s octets) blocks are.steps.whole are.are)
 
-columns-one : OneColumn → (rate : Rate) (invert : Bool) (starts : Option ℕ) (t steps : ℕ) (octets : List ℕ) (columns others : List (List ℕ))
-    → AreColumns rate invert starts t steps octets columns → AreColumns rate invert starts t steps octets others → columns ≡ others
+columns-one : OneColumn → (rate : Rate) (invert : Bool) (starts : Option ℕ) (t steps : ℕ) (octets : List ℕ)
+    (columns others : List (List ℕ))
+    → AreColumns rate invert starts t steps octets columns → AreColumns rate invert starts t steps octets others
+    → columns ≡ others
 columns-one one rate invert starts t steps octets columns others are be =
     ext_get_or [] columns others (are.count ∙ sym be.count) (λ k lt.
     let le : k ≤ steps = omega (arith, lt, are.count) in
     one _ rate invert t _ _ _ (are.each k le) (be.each k le))
 
-window-one : OneColumn → (rate : Rate) (invert : Bool) (starts : Option ℕ) (t : ℕ) (octets : List ℕ) (block : WindowBlock) (text other : List ℕ)
-    → IsCertified rate invert starts t octets block text → IsCertified rate invert starts t octets block other → text ≡ other
+window-one : OneColumn → (rate : Rate) (invert : Bool) (starts : Option ℕ) (t : ℕ) (octets : List ℕ)
+    (block : WindowBlock) (text other : List ℕ)
+    → IsCertified rate invert starts t octets block text → IsCertified rate invert starts t octets block other
+    → text ≡ other
 window-one one rate invert starts t octets block text other is be =
-    let same = columns-one one rate invert starts t block.steps octets is.columns be.columns is.are_columns be.are_columns in
+    let same = columns-one one rate invert starts t block.steps octets is.columns be.columns is.are_columns
+    be.are_columns in
     is.is_text
-    ∙ ap (λ (columns : List (List ℕ)). window_octets (record { steps = block.steps; kept = block.kept; start = block.start; metric = block.metric; bits = block.bits; octets = octets; columns = columns })) same
+    ∙ ap (λ (columns : List (List ℕ)). window_octets (record {
+      steps = block.steps;
+      kept = block.kept;
+      start = block.start;
+      metric = block.metric;
+      bits = block.bits;
+      octets = octets;
+      columns = columns;
+    })) same
     ∙ sym be.is_text
 
-pub certified-one : OneColumn → (rate : Rate) (invert : Bool) (starts : Option ℕ) (t : ℕ) (octets : List ℕ) (blocks : List WindowBlock) (text other : List ℕ)
-    → AreCertified rate invert starts t octets blocks text → AreCertified rate invert starts t octets blocks other → text ≡ other
+pub certified-one : OneColumn → (rate : Rate) (invert : Bool) (starts : Option ℕ) (t : ℕ) (octets : List ℕ)
+    (blocks : List WindowBlock) (text other : List ℕ)
+    → AreCertified rate invert starts t octets blocks text → AreCertified rate invert starts t octets blocks other
+    → text ≡ other
 certified-one one rate invert starts t octets [] text other are be = are ∙ sym be
 certified-one one rate invert starts t octets (block ∷ blocks) text other are be =
-    let first : are.0 ≡ be.0 = window-one one rate invert starts t (take (steps_size rate t block.steps) octets) block are.0 be.0 are.2 be.2 in
+    let first : are.0 ≡ be.0 = window-one one rate invert starts t
+    (take (steps_size rate t block.steps) octets) block are.0 be.0 are.2 be.2 in
     let rest : are.1 ≡ be.1 =
-    certified-one one rate invert (Some block.end_state) (t + block.kept) (drop (steps_size rate t block.kept) octets) blocks are.1 be.1 are.3 be.3 in
+    certified-one one rate invert (Some block.end_state) (t + block.kept)
+    (drop (steps_size rate t block.kept) octets) blocks are.1 be.1 are.3 be.3 in
     are.4 ∙ ap (λ (v : List ℕ). v ++ are.1) first ∙ ap (λ (v : List ℕ). be.0 ++ v) rest ∙ sym be.4
 
-pub certified-append : (rate : Rate) (invert : Bool) (keep ahead : ℕ) (from to : Place) (first rest : List WindowBlock) (text more : List ℕ)
+pub certified-append : (rate : Rate) (invert : Bool) (keep ahead : ℕ) (from to : Place)
+    (first rest : List WindowBlock) (text more : List ℕ)
     → Closed rate invert keep ahead from first to → AreCertified rate invert from.starts from.t from.octets first text
-    → AreCertified rate invert to.starts to.t to.octets rest more → AreCertified rate invert from.starts from.t from.octets (first ++ rest) (text ++ more)
+    → AreCertified rate invert to.starts to.t to.octets rest more
+    → AreCertified rate invert from.starts from.t from.octets (first ++ rest) (text ++ more)
 certified-append rate invert keep ahead from to [] rest text more closed are be =
     let there = subst (λ (p : Place). AreCertified rate invert p.starts p.t p.octets rest more) (sym closed) be in
     let none : more ≡ text ++ more = ap (λ (v : List ℕ). v ++ more) (sym are) in
@@ -121,29 +159,42 @@ certified-append rate invert keep ahead from to (block ∷ first) rest text more
   ap (λ (v : List ℕ). v ++ more) are.4 ∙ append_assoc are.0 are.1 more,
 )
 
-pub certified-split : (rate : Rate) (invert : Bool) (keep ahead : ℕ) (from to : Place) (first rest : List WindowBlock) (whole : List ℕ)
-    → Closed rate invert keep ahead from first to → AreCertified rate invert from.starts from.t from.octets (first ++ rest) whole
+pub certified-split : (rate : Rate) (invert : Bool) (keep ahead : ℕ) (from to : Place) (first rest : List WindowBlock)
+    (whole : List ℕ)
+    → Closed rate invert keep ahead from first to → AreCertified rate invert from.starts from.t from.octets
+    (first ++ rest) whole
     → (text : List ℕ) × (more : List ℕ) × AreCertified rate invert from.starts from.t from.octets first text
     × AreCertified rate invert to.starts to.t to.octets rest more × (whole ≡ text ++ more)
 certified-split rate invert keep ahead from to [] rest whole closed are =
     ([], whole, refl, subst (λ (p : Place). AreCertified rate invert p.starts p.t p.octets rest whole) closed are, refl)
 certified-split rate invert keep ahead from to (block ∷ first) rest whole closed are =
-    let h = certified-split rate invert keep ahead (after_block rate from block) to first rest are.1 closed.1 are.3 in
-    (are.0 ++ h.0, h.1, (are.0, h.0, are.2, h.2, refl), h.3, are.4 ∙ ap (λ (v : List ℕ). are.0 ++ v) h.4 ∙ sym (append_assoc are.0 h.0 h.1))
+    let h = certified-split rate invert keep ahead (after_block rate from block) to first rest are.1 closed.1 are.3 in (
+      are.0 ++ h.0,
+      h.1,
+      (are.0, h.0, are.2, h.2, refl),
+      h.3,
+      are.4 ∙ ap (λ (v : List ℕ). are.0 ++ v) h.4
+          ∙ sym (append_assoc are.0 h.0 h.1),
+    )
 
 -- whatever octets come
-pub certified-longer : (rate : Rate) (invert : Bool) (at : Place) (blocks : List WindowBlock) (more text : List ℕ) → AreThere rate at blocks
-    → AreCertified rate invert at.starts at.t at.octets blocks text → AreCertified rate invert at.starts at.t (at.octets ++ more) blocks text
+pub certified-longer : (rate : Rate) (invert : Bool) (at : Place) (blocks : List WindowBlock) (more text : List ℕ)
+    → AreThere rate at blocks
+    → AreCertified rate invert at.starts at.t at.octets blocks text
+    → AreCertified rate invert at.starts at.t (at.octets ++ more) blocks text
 certified-longer rate invert at [] more text there are = are
 certified-longer rate invert at (block ∷ blocks) more text there are =
     let size : ℕ = steps_size rate at.t block.steps in
     let cut : ℕ = steps_size rate at.t block.kept in
-    let prefix : take size at.octets ≡ take size (at.octets ++ more) = sym (take-append-le size at.octets more there.0.octets) in
-    let back : drop cut at.octets ++ more ≡ drop cut (at.octets ++ more) = sym (drop-append-le cut at.octets more (kept-inside rate at block there.0)) in
+    let prefix : take size at.octets ≡ take size (at.octets ++ more) =
+    sym (take-append-le size at.octets more there.0.octets) in
+    let back : drop cut at.octets ++ more ≡ drop cut (at.octets ++ more) =
+    sym (drop-append-le cut at.octets more (kept-inside rate at block there.0)) in
     let rest = certified-longer rate invert (after_block rate at block) blocks more are.1 there.1 are.3 in (
       are.0,
       are.1,
       subst (λ (v : List ℕ). IsCertified rate invert at.starts at.t v block are.0) prefix are.2,
-      subst (λ (v : List ℕ). AreCertified rate invert (Some block.end_state) (at.t + block.kept) v blocks are.1) back rest,
+      subst (λ (v : List ℕ). AreCertified rate invert (Some block.end_state) (at.t + block.kept) v blocks are.1) back
+          rest,
       are.4,
     )

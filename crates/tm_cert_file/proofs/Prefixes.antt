@@ -31,52 +31,65 @@ steps_in-prefix xs ys long = from_be_bytes_4-prefix xs ys (omega arith)
 
 pub kept_in-prefix : (xs ys : List ℕ) → 17 ≤ length xs → kept_in (xs ++ ys) ≡ kept_in xs
 kept_in-prefix xs ys long =
-    ap (from_be_bytes w32) (drop-append-le 4 xs ys (omega arith)) ∙ from_be_bytes_4-prefix (drop 4 xs) ys (omega (arith, length-drop 4 xs))
+    ap (from_be_bytes w32) (drop-append-le 4 xs ys (omega arith))
+    ∙ from_be_bytes_4-prefix (drop 4 xs) ys (omega (arith, length-drop 4 xs))
 
 pub start_in-prefix : (xs ys : List ℕ) → 17 ≤ length xs → start_in (xs ++ ys) ≡ start_in xs
 start_in-prefix xs ys long = get_or_append_left xs ys 0 8 (omega arith)
 
 pub metric_in-prefix : (xs ys : List ℕ) → 17 ≤ length xs → metric_in (xs ++ ys) ≡ metric_in xs
 metric_in-prefix xs ys long =
-    ap (from_be_bytes w64) (drop-append-le 9 xs ys (omega arith)) ∙ from_be_bytes_8-prefix (drop 9 xs) ys (omega (arith, length-drop 9 xs))
+    ap (from_be_bytes w64) (drop-append-le 9 xs ys (omega arith))
+    ∙ from_be_bytes_8-prefix (drop 9 xs) ys (omega (arith, length-drop 9 xs))
 
 -- ---- with the steps given by an equation, so that no goal shows how they are read
 
-pub part-prefix : (from count : ℕ) (xs ys : List ℕ) → from + count ≤ length xs → take count (drop from (xs ++ ys)) ≡ take count (drop from xs)
+pub part-prefix : (from count : ℕ) (xs ys : List ℕ) → from + count ≤ length xs
+    → take count (drop from (xs ++ ys)) ≡ take count (drop from xs)
 part-prefix from count xs ys long =
-    ap (take count) (drop-append-le from xs ys (omega arith)) ∙ take-append-le count (drop from xs) ys (omega (arith, length-drop from xs))
+    ap (take count) (drop-append-le from xs ys (omega arith))
+    ∙ take-append-le count (drop from xs) ys (omega (arith, length-drop from xs))
 
 pub bits_in-prefix : (xs ys : List ℕ) → bits_end (steps_in xs) ≤ length xs → bits_in (xs ++ ys) ≡ bits_in xs
 bits_in-prefix xs ys long =
-    ap (λ v. take v (drop 17 (xs ++ ys))) (steps_in-prefix xs ys (omega arith)) ∙ part-prefix 17 (steps_in xs) xs ys long
+    ap (λ v. take v (drop 17 (xs ++ ys))) (steps_in-prefix xs ys (omega arith))
+    ∙ part-prefix 17 (steps_in xs) xs ys long
 
-pub soft_in-prefix : (rate : Rate) (t : ℕ) (xs ys : List ℕ) → soft_end rate t (steps_in xs) ≤ length xs → soft_in rate t (xs ++ ys) ≡ soft_in rate t xs
+pub soft_in-prefix : (rate : Rate) (t : ℕ) (xs ys : List ℕ) → soft_end rate t (steps_in xs) ≤ length xs
+    → soft_in rate t (xs ++ ys) ≡ soft_in rate t xs
 soft_in-prefix rate t xs ys long =
     ap (λ v. take (steps_size rate t v) (drop (bits_end v) (xs ++ ys))) (steps_in-prefix xs ys (omega arith))
     ∙ part-prefix (bits_end (steps_in xs)) (steps_size rate t (steps_in xs)) xs ys long
 
-pub numbers_in-prefix : (count : ℕ) (xs ys : List ℕ) → 4 * count ≤ length xs → numbers_in count (xs ++ ys) ≡ numbers_in count xs
+pub numbers_in-prefix : (count : ℕ) (xs ys : List ℕ) → 4 * count ≤ length xs
+    → numbers_in count (xs ++ ys) ≡ numbers_in count xs
 unfolding numbers_in
 numbers_in-prefix zero xs ys long = refl
 numbers_in-prefix (suc count) xs ys long =
     let all : 4 * suc count ≤ length xs = long in
     let first = from_be_bytes_4-prefix xs ys (omega arith) in
     let rest : numbers_in count (drop 4 (xs ++ ys)) ≡ numbers_in count (drop 4 xs)
-    = ap (numbers_in count) (drop-append-le 4 xs ys (omega arith)) ∙ numbers_in-prefix count (drop 4 xs) ys (omega (arith, length-drop 4 xs)) in
+    =
+    ap (numbers_in count) (drop-append-le 4 xs ys (omega arith))
+    ∙ numbers_in-prefix count (drop 4 xs) ys (omega (arith, length-drop 4 xs)) in
     λ i. first i ∷ rest i
 
-pub columns_in-prefix : (count : ℕ) (xs ys : List ℕ) → 256 * count ≤ length xs → columns_in count (xs ++ ys) ≡ columns_in count xs
+pub columns_in-prefix : (count : ℕ) (xs ys : List ℕ) → 256 * count ≤ length xs
+    → columns_in count (xs ++ ys) ≡ columns_in count xs
 unfolding columns_in
 columns_in-prefix zero xs ys long = refl
 columns_in-prefix (suc count) xs ys long =
     let all : 256 * suc count ≤ length xs = long in
     let first = numbers_in-prefix 64 xs ys (omega arith) in
     let rest : columns_in count (drop 256 (xs ++ ys)) ≡ columns_in count (drop 256 xs)
-    = ap (columns_in count) (drop-append-le 256 xs ys (omega arith)) ∙ columns_in-prefix count (drop 256 xs) ys (omega (arith, length-drop 256 xs)) in
+    =
+    ap (columns_in count) (drop-append-le 256 xs ys (omega arith))
+    ∙ columns_in-prefix count (drop 256 xs) ys (omega (arith, length-drop 256 xs)) in
     λ i. first i ∷ rest i
 
 -- a whole window is the same whatever comes after it
-pub window_in-prefix : (rate : Rate) (t : ℕ) (xs ys : List ℕ) → window_size rate t (steps_in xs) ≤ length xs → window_in rate t (xs ++ ys) ≡ window_in rate t xs
+pub window_in-prefix : (rate : Rate) (t : ℕ) (xs ys : List ℕ) → window_size rate t (steps_in xs) ≤ length xs
+    → window_in rate t (xs ++ ys) ≡ window_in rate t xs
 window_in-prefix rate t xs ys long =
     let n = steps_in xs in
     let end = soft_end rate t n in
@@ -86,8 +99,17 @@ window_in-prefix rate t xs ys long =
     let metric = metric_in-prefix xs ys (omega arith) in
     let bits = bits_in-prefix xs ys (omega arith) in
     let soft = soft_in-prefix rate t xs ys (omega arith) in
-    let columns : columns_in (steps_in (xs ++ ys) + 1) (drop (soft_end rate t (steps_in (xs ++ ys))) (xs ++ ys)) ≡ columns_in (n + 1) (drop end xs)
+    let columns : columns_in (steps_in (xs ++ ys) + 1) (drop (soft_end rate t (steps_in (xs ++ ys))) (xs ++ ys))
+    ≡ columns_in (n + 1) (drop end xs)
     = ap (λ v. columns_in (v + 1) (drop (soft_end rate t v) (xs ++ ys))) steps
     ∙ ap (columns_in (n + 1)) (drop-append-le end xs ys (omega arith))
     ∙ columns_in-prefix (n + 1) (drop end xs) ys (omega (arith, length-drop end xs)) in
-    λ i. record { steps = steps i; kept = kept i; start = start i; metric = metric i; bits = bits i; octets = soft i; columns = columns i }
+    λ i. record {
+      steps = steps i;
+      kept = kept i;
+      start = start i;
+      metric = metric i;
+      bits = bits i;
+      octets = soft i;
+      columns = columns i;
+    }

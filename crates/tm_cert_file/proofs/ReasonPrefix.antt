@@ -8,7 +8,8 @@ use Rattle.tm_cert_file.specs.Seen.{is_over, are_bits, reason_in}
 use Rattle.tm_cert_file.proofs.Prefixes.{steps_in-prefix, bits_in-prefix}
 use Rattle.tm_cert_file.proofs.Stages.{shape_of, joined_of, shape_of-prefix, joined_of-prefix}
 
--- the first reason, by whether no window may come, and at each of three stages whether octets are wanting and whether what they say is right
+-- the first reason, by whether no window may come, and at each of three stages whether octets are
+-- wanting and whether what they say is right
 staged : (over short shape few bits part joined : Bool) → Option Reason
 staged over short shape few bits part joined =
     if over then Some Shape
@@ -24,13 +25,16 @@ staged over short shape few bits part joined =
 abbrev Stays : (wanting right wanting_now right_now : Bool) → Type 0
 Stays wanting right wanting_now right_now = wanting ≡ false → (wanting_now ≡ false) × (right_now ≡ right)
 
-staged-stays : (over short shape few bits part joined short_now shape_now few_now bits_now part_now joined_now : Bool) (reason : Reason)
+staged-stays : (over short shape few bits part joined short_now shape_now few_now bits_now part_now joined_now : Bool)
+    (reason : Reason)
     → Stays short shape short_now shape_now → Stays few bits few_now bits_now → Stays part joined part_now joined_now
-    → staged over short shape few bits part joined ≡ Some reason → staged over short_now shape_now few_now bits_now part_now joined_now ≡ Some reason
+    → staged over short shape few bits part joined ≡ Some reason
+    → staged over short_now shape_now few_now bits_now part_now joined_now ≡ Some reason
 unfolding staged
 staged-stays true short shape few bits part joined _ _ _ _ _ _ reason header body soft shows = shows
 staged-stays false true shape few bits part joined _ _ _ _ _ _ reason header body soft shows = absurd cc
-staged-stays false false false few bits part joined _ _ _ _ _ _ reason header body soft shows = rw ((header refl).0, (header refl).1) shows
+staged-stays false false false few bits part joined _ _ _ _ _ _ reason header body soft shows =
+    rw ((header refl).0, (header refl).1) shows
 staged-stays false false true true bits part joined _ _ _ _ _ _ reason header body soft shows = absurd cc
 staged-stays false false true false false part joined _ _ _ _ _ _ reason header body soft shows =
     rw ((header refl).0, (header refl).1, (body refl).0, (body refl).1) shows
@@ -61,13 +65,15 @@ staged_in rules before octets =
     (nat_lt (length octets) (bits_end (steps_in octets))) (are_bits (bits_in octets))
     (nat_lt (length octets) (soft_end rules.rate before.t (steps_in octets))) (joined_of rules before octets)
 
-in-stages : (rules : Rules) (before : Before) (octets : List ℕ) → 0 < length octets → reason_in rules before octets ≡ staged_in rules before octets
+in-stages : (rules : Rules) (before : Before) (octets : List ℕ) → 0 < length octets
+    → reason_in rules before octets ≡ staged_in rules before octets
 unfolding staged reason_in
 in-stages rules before [] some = absurd (omega arith)
 in-stages rules before (octet ∷ octets) some = refl
 
 header-stays : (rules : Rules) (before : Before) (octets more : List ℕ)
-    → Stays (nat_lt (length octets) 17) (shape_of rules before octets) (nat_lt (length (octets ++ more)) 17) (shape_of rules before (octets ++ more))
+    → Stays (nat_lt (length octets) 17) (shape_of rules before octets) (nat_lt (length (octets ++ more)) 17)
+    (shape_of rules before (octets ++ more))
 header-stays rules before octets more enough =
     let long : 17 ≤ length octets = ltb-false _ _ enough in
     (le-ltb _ _ (omega (arith, length-append octets more)), shape_of-prefix rules before octets more long)
@@ -77,12 +83,16 @@ body-stays : (octets more : List ℕ)
     (nat_lt (length (octets ++ more)) (bits_end (steps_in (octets ++ more)))) (are_bits (bits_in (octets ++ more)))
 body-stays octets more enough =
     let long : bits_end (steps_in octets) ≤ length octets = ltb-false _ _ enough in
-    let steps = steps_in-prefix octets more (omega arith) in
-    (ap (λ n. nat_lt (length (octets ++ more)) (bits_end n)) steps ∙ le-ltb _ _ (omega (arith, length-append octets more)), ap are_bits (bits_in-prefix octets more long))
+    let steps = steps_in-prefix octets more (omega arith) in (
+      ap (λ n. nat_lt (length (octets ++ more)) (bits_end n)) steps
+          ∙ le-ltb _ _ (omega (arith, length-append octets more)),
+      ap are_bits (bits_in-prefix octets more long),
+    )
 
 soft-stays : (rules : Rules) (before : Before) (octets more : List ℕ)
     → Stays (nat_lt (length octets) (soft_end rules.rate before.t (steps_in octets))) (joined_of rules before octets)
-    (nat_lt (length (octets ++ more)) (soft_end rules.rate before.t (steps_in (octets ++ more)))) (joined_of rules before (octets ++ more))
+    (nat_lt (length (octets ++ more)) (soft_end rules.rate before.t (steps_in (octets ++ more))))
+    (joined_of rules before (octets ++ more))
 soft-stays rules before octets more enough =
     let long : soft_end rules.rate before.t (steps_in octets) ≤ length octets = ltb-false _ _ enough in
     let steps = steps_in-prefix octets more (omega arith) in
@@ -107,5 +117,6 @@ reason_in-stays rules before (octet ∷ octets) more reason shows =
     let some : 0 < length all = omega arith in
     let some_now : 0 < length (all ++ more) = omega (arith, length-append all more) in
     in-stages rules before (all ++ more) some_now
-    ∙ staged-stays _ _ _ _ _ _ _ _ _ _ _ _ _ reason (header-stays rules before all more) (body-stays all more) (soft-stays rules before all more)
+    ∙ staged-stays _ _ _ _ _ _ _ _ _ _ _ _ _ reason (header-stays rules before all more) (body-stays all more)
+    (soft-stays rules before all more)
     (sym (in-stages rules before all some) ∙ shows)

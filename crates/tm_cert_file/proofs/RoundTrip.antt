@@ -21,28 +21,42 @@ length-column_octets (n ∷ column) =
     let k : length (n ∷ column) ≡ suc (length column) = refl in
     omega (arith, h, k, length-column_octets column)
 
-length-columns : (columns : List (List ℕ)) → All IsWide columns → length (flat_map column_octets columns) ≡ 256 * length columns
+length-columns : (columns : List (List ℕ)) → All IsWide columns
+    → length (flat_map column_octets columns) ≡ 256 * length columns
 length-columns [] wide = refl
 length-columns (column ∷ columns) wide =
     let here = All-head IsWide column columns wide in
-    let h : length (flat_map column_octets (column ∷ columns)) ≡ length (column_octets column) + length (flat_map column_octets columns)
+    let h : length (flat_map column_octets (column ∷ columns))
+    ≡ length (column_octets column) + length (flat_map column_octets columns)
     = length-append (column_octets column) (flat_map column_octets columns) in
     let k : length (column ∷ columns) ≡ suc (length columns) = refl in
-    omega (arith, h, k, here.long, length-column_octets column, length-columns columns (All-tail IsWide column columns wide))
+    omega (
+      arith,
+      h,
+      k,
+      here.long,
+      length-column_octets column,
+      length-columns columns (All-tail IsWide column columns wide),
+    )
 
 column-back : (column rest : List ℕ) → IsWide column → numbers_in 64 (column_octets column ++ rest) ≡ column
-column-back column rest h = ap (λ k. numbers_in k (column_octets column ++ rest)) (sym h.long) ∙ numbers_in-column_octets column rest h.each
+column-back column rest h =
+    ap (λ k. numbers_in k (column_octets column ++ rest)) (sym h.long) ∙ numbers_in-column_octets column rest h.each
 
-columns-back : (columns : List (List ℕ)) (rest : List ℕ) → All IsWide columns → columns_in (length columns) (flat_map column_octets columns ++ rest) ≡ columns
+columns-back : (columns : List (List ℕ)) (rest : List ℕ) → All IsWide columns
+    → columns_in (length columns) (flat_map column_octets columns ++ rest) ≡ columns
 unfolding columns_in
 columns-back [] rest wide = refl
 columns-back (column ∷ columns) rest wide =
     let here = All-head IsWide column columns wide in
     let others = flat_map column_octets columns ++ rest in
-    let whole : (column_octets column ++ flat_map column_octets columns) ++ rest ≡ column_octets column ++ others = append_assoc (column_octets column) (flat_map column_octets columns) rest in
-    let after : drop 256 (column_octets column ++ others) ≡ others = drop_at (column_octets column) others 256 (omega (arith, length-column_octets column, here.long)) in
+    let whole : (column_octets column ++ flat_map column_octets columns) ++ rest ≡ column_octets column ++ others =
+    append_assoc (column_octets column) (flat_map column_octets columns) rest in
+    let after : drop 256 (column_octets column ++ others) ≡ others =
+    drop_at (column_octets column) others 256 (omega (arith, length-column_octets column, here.long)) in
     ap (λ v. numbers_in 64 v ∷ columns_in (length columns) (drop 256 v)) whole
-    ∙ ap (λ v. v ∷ columns_in (length columns) (drop 256 (column_octets column ++ others))) (column-back column others here)
+    ∙ ap (λ v. v ∷ columns_in (length columns) (drop 256 (column_octets column ++ others)))
+    (column-back column others here)
     ∙ ap (λ v. column ∷ columns_in (length columns) v) after
     ∙ ap (λ v. column ∷ v) (columns-back columns rest (All-tail IsWide column columns wide))
 
@@ -62,29 +76,39 @@ pub record IsWritten (rate : Rate) (t : ℕ) (w : Window) : Type 0 where
 tail_of : Window → List ℕ → List ℕ
 tail_of w rest = w.bits ++ (w.octets ++ (flat_map column_octets w.columns ++ rest))
 
-module _ (rate : Rate) (t : ℕ) (all rest : List ℕ) (w : Window) (written : IsWritten rate t w) (steps : steps_in all ≡ w.steps) (tail : drop 17 all ≡ tail_of w rest) where
+module _ (rate : Rate) (t : ℕ) (all rest : List ℕ) (w : Window) (written : IsWritten rate t w)
+    (steps : steps_in all ≡ w.steps) (tail : drop 17 all ≡ tail_of w rest) where
   soft-after : drop (17 + steps_in all) all ≡ w.octets ++ (flat_map column_octets w.columns ++ rest)
   unfolding tail_of
   soft-after =
       sym (drop-drop (steps_in all) 17 all) ∙ ap (drop (steps_in all)) tail
-      ∙ drop_at w.bits (w.octets ++ (flat_map column_octets w.columns ++ rest)) (steps_in all) (written.bits ∙ sym steps)
+      ∙ drop_at w.bits (w.octets ++ (flat_map column_octets w.columns ++ rest)) (steps_in all)
+      (written.bits ∙ sym steps)
 
   size-back : length w.octets ≡ steps_size rate t (steps_in all)
   size-back = written.octets ∙ ap (steps_size rate t) (sym steps)
 
-  columns-after : drop (17 + steps_in all + steps_size rate t (steps_in all)) all ≡ flat_map column_octets w.columns ++ rest
+  columns-after : drop (17 + steps_in all + steps_size rate t (steps_in all)) all ≡ flat_map column_octets w.columns
+      ++ rest
   columns-after =
-      sym (drop-drop (steps_size rate t (steps_in all)) (17 + steps_in all) all) ∙ ap (drop (steps_size rate t (steps_in all))) soft-after
+      sym (drop-drop (steps_size rate t (steps_in all)) (17 + steps_in all) all)
+      ∙ ap (drop (steps_size rate t (steps_in all))) soft-after
       ∙ drop_at w.octets (flat_map column_octets w.columns ++ rest) (steps_size rate t (steps_in all)) size-back
 
   bits-back : bits_in all ≡ w.bits
   unfolding tail_of
-  bits-back = ap (take (steps_in all)) tail ∙ take_at w.bits (w.octets ++ (flat_map column_octets w.columns ++ rest)) (steps_in all) (written.bits ∙ sym steps)
+  bits-back =
+      ap (take (steps_in all)) tail
+      ∙ take_at w.bits (w.octets ++ (flat_map column_octets w.columns ++ rest)) (steps_in all)
+      (written.bits ∙ sym steps)
 
   soft-back : soft_in rate t all ≡ w.octets
-  soft-back = ap (take (steps_size rate t (steps_in all))) soft-after ∙ take_at w.octets (flat_map column_octets w.columns ++ rest) (steps_size rate t (steps_in all)) size-back
+  soft-back =
+      ap (take (steps_size rate t (steps_in all))) soft-after
+      ∙ take_at w.octets (flat_map column_octets w.columns ++ rest) (steps_size rate t (steps_in all)) size-back
 
-  all_columns-back : columns_in (steps_in all + 1) (drop (17 + steps_in all + steps_size rate t (steps_in all)) all) ≡ w.columns
+  all_columns-back : columns_in (steps_in all + 1) (drop (17 + steps_in all + steps_size rate t (steps_in all)) all)
+      ≡ w.columns
   all_columns-back =
       let count : steps_in all + 1 ≡ length w.columns = omega (arith, steps, written.count) in
       ap (λ k. columns_in k (drop (17 + steps_in all + steps_size rate t (steps_in all)) all)) count
@@ -92,7 +116,15 @@ module _ (rate : Rate) (t : ℕ) (all rest : List ℕ) (w : Window) (written : I
 
   back : kept_in all ≡ w.kept → start_in all ≡ w.start → metric_in all ≡ w.metric → window_in rate t all ≡ w
   back kept start metric =
-      λ i. record { steps = steps i; kept = kept i; start = start i; metric = metric i; bits = bits-back i; octets = soft-back i; columns = all_columns-back i }
+      λ i. record {
+        steps = steps i;
+        kept = kept i;
+        start = start i;
+        metric = metric i;
+        bits = bits-back i;
+        octets = soft-back i;
+        columns = all_columns-back i;
+      }
 
 module _ (rate : Rate) (t : ℕ) (w : Window) (rest : List ℕ) where
   steps-back : w.steps < 2 ^ 32 → steps_in (window_octets w ++ rest) ≡ w.steps
@@ -114,12 +146,15 @@ module _ (rate : Rate) (t : ℕ) (w : Window) (rest : List ℕ) where
       ∙ append_assoc w.bits w.octets (flat_map column_octets w.columns ++ rest)
 
 -- the window that its octets begin with
-pub window-back : (rate : Rate) (t : ℕ) (w : Window) (rest : List ℕ) → IsWritten rate t w → window_in rate t (window_octets w ++ rest) ≡ w
+pub window-back : (rate : Rate) (t : ℕ) (w : Window) (rest : List ℕ) → IsWritten rate t w
+    → window_in rate t (window_octets w ++ rest) ≡ w
 window-back rate t w rest h =
-    back rate t (window_octets w ++ rest) rest w h (steps-back rate t w rest h.steps) (tail-back rate t w rest) (kept-back rate t w rest h.kept) (start-back rate t w rest)
+    back rate t (window_octets w ++ rest) rest w h (steps-back rate t w rest h.steps) (tail-back rate t w rest)
+    (kept-back rate t w rest h.kept) (start-back rate t w rest)
     (metric-back rate t w rest h.metric)
 
-pub length-window_octets : (rate : Rate) (t : ℕ) (w : Window) → IsWritten rate t w → length (window_octets w) ≡ window_size rate t w.steps
+pub length-window_octets : (rate : Rate) (t : ℕ) (w : Window) → IsWritten rate t w
+    → length (window_octets w) ≡ window_size rate t w.steps
 length-window_octets rate t w h =
     let head = header_octets w.steps w.kept w.start w.metric in
     let header : length head ≡ 17 = refl in

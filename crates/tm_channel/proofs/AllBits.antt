@@ -21,26 +21,31 @@ due-nil c =
 pub beyond-nil : (c : Configuration) (fs : List Found) → beyond (due c []) fs ≡ fs
 beyond-nil c fs = ap (λ (l : List Found). drop (length l) fs) (due-nil c)
 
-pub due-then-last : (c : Configuration) (bits : List Bool) → due c bits ++ beyond (due c bits) (places (rules_of c) bits) ≡ places (rules_of c) bits
+pub due-then-last : (c : Configuration) (bits : List Bool) → due c bits
+    ++ beyond (due c bits) (places (rules_of c) bits) ≡ places (rules_of c) bits
 due-then-last c bits =
     let fs : List Found = places (rules_of c) bits in
     ap (λ n. due c bits ++ drop n fs) (length-due c bits) ∙ take-append-drop (due_count c bits) fs
 
-pub all-items : (c : Configuration) (bits : List Bool) (items others : List ItemValue) → AreItemsOf c bits (beyond (due c []) (due c bits)) items
+pub all-items : (c : Configuration) (bits : List Bool) (items others : List ItemValue)
+    → AreItemsOf c bits (beyond (due c []) (due c bits)) items
     → AreItemsOf c bits (beyond (due c bits) (places (rules_of c) bits)) others → AreItems c bits (items ++ others)
 all-items c bits items others are also =
     subst (λ (fs : List Found). AreItemsOf c bits fs (items ++ others)) (due-then-last c bits)
     (items-append c bits (due c bits) (beyond (due c bits) (places (rules_of c) bits)) items others
     (subst (λ (fs : List Found). AreItemsOf c bits fs items) (beyond-nil c (due c bits)) are) also)
 
-pub some-items : (c : Configuration) (bits : List Bool) (items others : List ItemValue) → AreItemsOf c bits (beyond (due c []) (due c bits)) items
-    → AreFirstItemsOf c bits (beyond (due c bits) (places (rules_of c) bits)) others → AreFirstItemsOf c bits (places (rules_of c) bits) (items ++ others)
+pub some-items : (c : Configuration) (bits : List Bool) (items others : List ItemValue)
+    → AreItemsOf c bits (beyond (due c []) (due c bits)) items
+    → AreFirstItemsOf c bits (beyond (due c bits) (places (rules_of c) bits)) others
+    → AreFirstItemsOf c bits (places (rules_of c) bits) (items ++ others)
 some-items c bits items others are also =
     subst (λ (fs : List Found). AreFirstItemsOf c bits fs (items ++ others)) (due-then-last c bits)
     (first-append c bits (due c bits) (beyond (due c bits) (places (rules_of c) bits)) items others
     (subst (λ (fs : List Found). AreItemsOf c bits fs items) (beyond-nil c (due c bits)) are) also)
 
-pub few-items : (c : Configuration) (bits : List Bool) (items : List ItemValue) → AreFirstItemsOf c bits (beyond (due c []) (due c bits)) items
+pub few-items : (c : Configuration) (bits : List Bool) (items : List ItemValue)
+    → AreFirstItemsOf c bits (beyond (due c []) (due c bits)) items
     → AreFirstItemsOf c bits (places (rules_of c) bits) items
 few-items c bits items are =
     subst (λ (fs : List Found). AreFirstItemsOf c bits fs items) (due-then-last c bits)

@@ -12,7 +12,8 @@ pub batches-le : (size n : ℕ) → in_batches size n ≤ n
 batches-le size n = mul-div-le n size
 
 -- after whole batches stand fewer than one
-pub not_full : (size m n : ℕ) → in_batches size m ≤ n → n - in_batches size m < size → in_batches size n ≡ in_batches size m
+pub not_full : (size m n : ℕ) → in_batches size m ≤ n → n - in_batches size m < size
+    → in_batches size n ≡ in_batches size m
 not_full size m n least few =
     let count = m / size in
     let parts : n ≡ count * size + (n - size * count) = omega (arith, least, mul_comm count size) in

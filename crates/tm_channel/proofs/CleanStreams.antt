@@ -36,17 +36,22 @@ blocks_of c frames = map (sent_block c) frames
 
 -- a frame's unit, as it is received where nothing is disturbed
 abbrev clean_unit : Configuration → List ℕ → SentUnit
-clean_unit c frame = record { received = record { gap = []; marker = marker_bits; block = sent_block c frame }; frame = frame }
+clean_unit c frame =
+    record { received = record { gap = []; marker = marker_bits; block = sent_block c frame }; frame = frame }
 
 abbrev clean_units : Configuration → List (List ℕ) → List SentUnit
 clean_units c frames = map (clean_unit c) frames
 
-entries-are : (c : Configuration) (frames : List (List ℕ)) → clean_entries (blocks_of c frames) ≡ entries_of (clean_units c frames)
+entries-are : (c : Configuration) (frames : List (List ℕ)) → clean_entries (blocks_of c frames)
+    ≡ entries_of (clean_units c frames)
 entries-are c [] = refl
-entries-are c (frame ∷ frames) = ap (λ (l : List Entry). record { gap = []; marker = marker_bits; block = sent_block c frame } ∷ l) (entries-are c frames)
+entries-are c (frame ∷ frames) =
+    ap (λ (l : List Entry). record { gap = []; marker = marker_bits; block = sent_block c frame } ∷ l)
+    (entries-are c frames)
 
 -- what is sent are marked codeblocks
-bits-are : (c : Configuration) (frames : List (List ℕ)) → sent_bits c frames ≡ joined (clean_entries (blocks_of c frames)) []
+bits-are : (c : Configuration) (frames : List (List ℕ)) → sent_bits c frames
+    ≡ joined (clean_entries (blocks_of c frames)) []
 unfolding cadu
 bits-are c [] = refl
 bits-are c (frame ∷ frames) =
@@ -57,46 +62,59 @@ bits-are c (frame ∷ frames) =
 blocks-sized : (c : Configuration) (frames : List (List ℕ)) → IsAccepted c → AllByRecursion (IsFrame c) frames
     → AllByRecursion (λ block. length block ≡ (rules_of c).block_bits) (blocks_of c frames)
 blocks-sized c [] ok are = tt
-blocks-sized c (frame ∷ frames) ok are =
-    (length-bits_of (sent_codeblock c frame) ∙ ap (λ n. 8 * n) (length-sent_codeblock c frame ok are.0), blocks-sized c frames ok are.1)
+blocks-sized c (frame ∷ frames) ok are = (
+  length-bits_of (sent_codeblock c frame) ∙ ap (λ n. 8 * n) (length-sent_codeblock c frame ok are.0),
+  blocks-sized c frames ok are.1,
+)
 
-units-are_frames : (c : Configuration) (frames : List (List ℕ)) → AllByRecursion (IsFrame c) frames → AllByRecursion (λ (u : SentUnit). IsFrame c u.frame) (clean_units c frames)
+units-are_frames : (c : Configuration) (frames : List (List ℕ)) → AllByRecursion (IsFrame c) frames
+    → AllByRecursion (λ (u : SentUnit). IsFrame c u.frame) (clean_units c frames)
 units-are_frames c [] are = tt
 units-are_frames c (frame ∷ frames) are = (are.0, units-are_frames c frames are.1)
 
 -- there are frames enough to verify the first
-enough : (c : Configuration) (frames : List (List ℕ)) → c.verify < length frames → (blocks_of c frames ≡ []) ⊎ ((rules_of c).verify < length (blocks_of c frames))
+enough : (c : Configuration) (frames : List (List ℕ)) → c.verify < length frames → (blocks_of c frames ≡ [])
+    ⊎ ((rules_of c).verify < length (blocks_of c frames))
 enough c frames many = inr (omega (arith, many, length-map frames (sent_block c)))
 
-marked : (c : Configuration) (frames : List (List ℕ)) → IsAccepted c → AllByRecursion (IsFrame c) frames → c.verify < length frames
+marked : (c : Configuration) (frames : List (List ℕ)) → IsAccepted c → AllByRecursion (IsFrame c) frames
+    → c.verify < length frames
     → IsMarked (rules_of c) (sent_bits c frames) (entries_of (clean_units c frames)) []
 marked c frames ok are many =
     subst (λ (es : List Entry). IsMarked (rules_of c) (sent_bits c frames) es []) (entries-are c frames)
-    (subst (λ (bits : List Bool). IsMarked (rules_of c) bits (clean_entries (blocks_of c frames)) []) (sym (bits-are c frames))
+    (subst (λ (bits : List Bool). IsMarked (rules_of c) bits (clean_entries (blocks_of c frames)) [])
+    (sym (bits-are c frames))
     (clean-marked (rules_of c) (blocks_of c frames) (blocks-sized c frames ok are) (enough c frames many)))
 
 -- the bits of frames are a stream of their units
-sent-clean : (c : Configuration) (frames : List (List ℕ)) → IsAccepted c → AllByRecursion (IsFrame c) frames → c.verify < length frames
+sent-clean : (c : Configuration) (frames : List (List ℕ)) → IsAccepted c → AllByRecursion (IsFrame c) frames
+    → c.verify < length frames
     → IsSent c (sent_bits c frames) (clean_units c frames) []
-sent-clean c frames ok are many = record { marked = marked c frames ok are many; frames = units-are_frames c frames are }
+sent-clean c frames ok are many =
+    record { marked = marked c frames ok are many; frames = units-are_frames c frames are }
 
-places-are : (c : Configuration) (frames : List (List ℕ)) → IsAccepted c → AllByRecursion (IsFrame c) frames → c.verify < length frames
+places-are : (c : Configuration) (frames : List (List ℕ)) → IsAccepted c → AllByRecursion (IsFrame c) frames
+    → c.verify < length frames
     → unit_places c (clean_units c frames) ≡ clean_places (8 * codeblock_length c) 0 (blocks_of c frames)
 places-are c frames ok are many =
-    sym (places-marked (rules_of c) (sent_bits c frames) (entries_of (clean_units c frames)) [] (marked c frames ok are many))
+    sym (places-marked (rules_of c) (sent_bits c frames) (entries_of (clean_units c frames)) []
+    (marked c frames ok are many))
     ∙ ap (places (rules_of c)) (bits-are c frames)
     ∙ places-clean (rules_of c) (blocks_of c frames) (blocks-sized c frames ok are) (enough c frames many)
 
 -- of fewer none is found
-places-none : (c : Configuration) (frames : List (List ℕ)) → IsAccepted c → AllByRecursion (IsFrame c) frames → length frames ≤ c.verify
+places-none : (c : Configuration) (frames : List (List ℕ)) → IsAccepted c → AllByRecursion (IsFrame c) frames
+    → length frames ≤ c.verify
     → places (rules_of c) (sent_bits c frames) ≡ []
 places-none c frames ok are few =
     ap (places (rules_of c)) (bits-are c frames)
-    ∙ places-too_few (rules_of c) (blocks_of c frames) (blocks-sized c frames ok are) (omega (arith, few, length-map frames (sent_block c)))
+    ∙ places-too_few (rules_of c) (blocks_of c frames) (blocks-sized c frames ok are)
+    (omega (arith, few, length-map frames (sent_block c)))
 
 -- ---- one item
 
-answers-are : (bound : ℕ) (columns : List (List ℕ)) (answers : List Answer) → AreRepaired bound columns columns answers → answers ≡ replicate (length columns) (Fixed 0)
+answers-are : (bound : ℕ) (columns : List (List ℕ)) (answers : List Answer)
+    → AreRepaired bound columns columns answers → answers ≡ replicate (length columns) (Fixed 0)
 answers-are bound [] [] are = refl
 answers-are bound [] (answer ∷ answers) are = absurd are
 answers-are bound (column ∷ columns) [] are = absurd are
@@ -109,34 +127,50 @@ columns-near : (bound : ℕ) (columns : List (List ℕ)) → AreWithin bound col
 columns-near bound [] = tt
 columns-near bound (column ∷ columns) = (let none = distance-self column in omega arith, columns-near bound columns)
 
-clean-answers : (c : Configuration) (frame : List ℕ) → replicate (length (sent_columns c frame)) (Fixed 0) ≡ clean_answers c
+clean-answers : (c : Configuration) (frame : List ℕ) → replicate (length (sent_columns c frame)) (Fixed 0)
+    ≡ clean_answers c
 unfolding received_columns
 clean-answers c frame = go (is_uncoded c.code)
   where
-    go : (none : Bool) → replicate (length (cond none [] (map (received_column c (codeblock_of c frame)) (range_with_len 0 c.depth)))) (Fixed 0) ≡ cond none [] (replicate c.depth (Fixed 0))
+    go : (none : Bool) → replicate (length (cond none [] (map (received_column c (codeblock_of c frame))
+        (range_with_len 0 c.depth)))) (Fixed 0) ≡ cond none [] (replicate c.depth (Fixed 0))
     go true = refl
-    go false = ap (λ n. replicate n (Fixed 0)) (length-map-range_with_len (received_column c (codeblock_of c frame)) 0 c.depth)
+    go false =
+        ap (λ n. replicate n (Fixed 0))
+        (length-map-range_with_len (received_column c (codeblock_of c frame)) 0 c.depth)
 
 clean-one : (c : Configuration) (at : ℕ) (frame : List ℕ) (item : ItemValue) → IsAccepted c → IsFrame c frame
     → IsAsSent c (record { place = at; distance = 0; bridged = false; inverted = false }) (clean_unit c frame) item
-    → item ≡ record { found = record { place = at; distance = 0; bridged = false; inverted = false }; answers = clean_answers c; frame = frame }
+    → item ≡ record {
+      found = record { place = at; distance = 0; bridged = false; inverted = false };
+      answers = clean_answers c;
+      frame = frame;
+    }
 clean-one c at frame item ok is it =
     let same = received-as_sent c frame ok is in
     let answers : item.answers ≡ clean_answers c =
     answers-are c.repair (sent_columns c frame) item.answers
-    (subst (λ (b : List ℕ). AreRepaired c.repair (received_columns c b) (sent_columns c frame) item.answers) same it.answers)
+    (subst (λ (b : List ℕ). AreRepaired c.repair (received_columns c b) (sent_columns c frame) item.answers) same
+    it.answers)
     ∙ clean-answers c frame in
-    let near : IsNear c frame (codeblock_of c frame) = record { columns = columns-near c.repair (sent_columns c frame); uncoded = λ none. refl } in
+    let near : IsNear c frame (codeblock_of c frame) = record {
+      columns = columns-near c.repair
+          (sent_columns c frame);
+      uncoded = λ none. refl;
+    } in
     let back : item.frame ≡ frame = it.frame (subst (λ (b : List ℕ). IsNear c frame b) (sym same) near) in
     (λ i. record { found = it.place i; answers = answers i; frame = back i })
 
-clean-from : (c : Configuration) (at : ℕ) (frames : List (List ℕ)) (items : List ItemValue) → IsAccepted c → AllByRecursion (IsFrame c) frames
-    → AreAsSent c (clean_places (8 * codeblock_length c) at (blocks_of c frames)) (clean_units c frames) items → items ≡ clean_items c at frames
+clean-from : (c : Configuration) (at : ℕ) (frames : List (List ℕ)) (items : List ItemValue) → IsAccepted c
+    → AllByRecursion (IsFrame c) frames
+    → AreAsSent c (clean_places (8 * codeblock_length c) at (blocks_of c frames)) (clean_units c frames) items
+    → items ≡ clean_items c at frames
 clean-from c at [] [] ok are sent = refl
 clean-from c at [] (item ∷ items) ok are sent = absurd sent
 clean-from c at (frame ∷ frames) [] ok are sent = absurd sent
 clean-from c at (frame ∷ frames) (item ∷ items) ok are sent =
-    (λ i. clean-one c at frame item ok are.0 sent.0 i ∷ clean-from c (at + 32 + 8 * codeblock_length c) frames items ok are.1 sent.1 i)
+    (λ i. clean-one c at frame item ok are.0 sent.0 i ∷ clean-from c
+    (at + 32 + 8 * codeblock_length c) frames items ok are.1 sent.1 i)
 
 -- no places have no items
 no-items : (c : Configuration) (bits : List Bool) (items : List ItemValue) → AreItemsOf c bits [] items → items ≡ []
@@ -144,22 +178,24 @@ no-items c bits [] are = refl
 no-items c bits (item ∷ items) are = absurd are
 
 -- the items of frames that were sent are those of the frames that are found
-pub items-clean : (c : Configuration) (frames : List (List ℕ)) (items : List ItemValue) → IsAccepted c → AllByRecursion (IsFrame c) frames
+pub items-clean : (c : Configuration) (frames : List (List ℕ)) (items : List ItemValue) → IsAccepted c
+    → AllByRecursion (IsFrame c) frames
     → AreItems c (sent_bits c frames) items → items ≡ clean_items c 0 (found_frames c frames)
-items-clean c frames items ok are its = elim (cases_lt c.verify (length frames)) as (λ _. items ≡ clean_items c 0 (found_frames c frames)) [
-  | inl many ↦ (
-      let more : nat_le (length frames) c.verify ≡ false = grind (arith, nat_tests) in
-      let all : found_frames c frames ≡ frames = ap (λ t. cond t [] frames) more in
-      clean-from c 0 frames items ok are
-      (subst (λ (fs : List Found). AreAsSent c fs (clean_units c frames) items) (places-are c frames ok are many)
-      (items-as_sent c (sent_bits c frames) (clean_units c frames) [] items ok (sent-clean c frames ok are many) its))
-      ∙ ap (clean_items c 0) (sym all)
-      )
-  | inr few ↦ (
-      let fewer : nat_le (length frames) c.verify ≡ true = grind (arith, nat_tests) in
-      let none : found_frames c frames ≡ [] = ap (λ t. cond t [] frames) fewer in
-      no-items c (sent_bits c frames) items
-      (subst (λ (fs : List Found). AreItemsOf c (sent_bits c frames) fs items) (places-none c frames ok are few) its)
-      ∙ ap (clean_items c 0) (sym none)
-      )
-]
+items-clean c frames items ok are its =
+    elim (cases_lt c.verify (length frames)) as (λ _. items ≡ clean_items c 0 (found_frames c frames)) [
+      | inl many ↦ (
+          let more : nat_le (length frames) c.verify ≡ false = grind (arith, nat_tests) in
+          let all : found_frames c frames ≡ frames = ap (λ t. cond t [] frames) more in
+          clean-from c 0 frames items ok are
+          (subst (λ (fs : List Found). AreAsSent c fs (clean_units c frames) items) (places-are c frames ok are many)
+          (items-as_sent c (sent_bits c frames) (clean_units c frames) [] items ok (sent-clean c frames ok are many) its))
+          ∙ ap (clean_items c 0) (sym all)
+          )
+      | inr few ↦ (
+          let fewer : nat_le (length frames) c.verify ≡ true = grind (arith, nat_tests) in
+          let none : found_frames c frames ≡ [] = ap (λ t. cond t [] frames) fewer in
+          no-items c (sent_bits c frames) items
+          (subst (λ (fs : List Found). AreItemsOf c (sent_bits c frames) fs items) (places-none c frames ok are few) its)
+          ∙ ap (clean_items c 0) (sym none)
+          )
+    ]

@@ -31,7 +31,8 @@ use Rattle.tm_channel.proofs.SentPhase.{Complements, phase-complemented, phase-s
 
 -- ---- no octet is dropped
 
-slips-sent : (rate : Option Rate) (c : Configuration) (octets : List ℕ) (blocks : List WindowBlock) (left : ℕ) → c.skip ≡ 0
+slips-sent : (rate : Option Rate) (c : Configuration) (octets : List ℕ) (blocks : List WindowBlock) (left : ℕ)
+    → c.skip ≡ 0
     → BlocksAt rate c 0 (symbols_by rate c (bits_of octets)) blocks left → slips_of blocks ≡ 0
 slips-sent None c octets blocks left none are = ap slips_of are.0
 slips-sent (Some rate) c octets blocks left none are =
@@ -41,22 +42,26 @@ slips-sent (Some rate) c octets blocks left none are =
     (blocks-sent w.seen w 0 bits blocks left (AreBits-bit_numbers (bits_of octets)) (omega arith)
     (subst (λ (l : List ℕ). AreBlocksIn w l blocks left) (soft-sent c rate (bits_of octets) none) are))
 
-slips-complemented : (rate : Option Rate) (c : Configuration) (octets : List ℕ) (blocks : List WindowBlock) (left : ℕ) → c.skip ≡ 0
+slips-complemented : (rate : Option Rate) (c : Configuration) (octets : List ℕ) (blocks : List WindowBlock) (left : ℕ)
+    → c.skip ≡ 0
     → BlocksAt rate c 0 (complemented_octets (symbols_by rate c (bits_of octets))) blocks left → slips_of blocks ≡ 0
 slips-complemented None c octets blocks left none are = ap slips_of are.0
 slips-complemented (Some rate) c octets blocks left none are =
     let w = windows_of c rate in
     let bits = bit_numbers (bits_of octets) in
     let symbols = sent_for rate (is_inverted rate c.invert) (bits_of octets) in
-    let same : soft_octets c 0 (complemented_octets (symbols_by (Some rate) c (bits_of octets))) ≡ complemented_octets (sure_symbols (settings_of c rate) 0 bits) =
-    ap (map (soft_value c)) (drop-none c.skip (complemented_octets (levels (low_level c.soft) symbols)) none) ∙ values-complemented c symbols in
+    let same : soft_octets c 0 (complemented_octets (symbols_by (Some rate) c (bits_of octets)))
+    ≡ complemented_octets (sure_symbols (settings_of c rate) 0 bits) =
+    ap (map (soft_value c)) (drop-none c.skip (complemented_octets (levels (low_level c.soft) symbols)) none)
+    ∙ values-complemented c symbols in
     whole-slips w.settings (complemented_octets (sure_symbols w.settings 0 bits)) blocks left
     (blocks-complemented w.seen w 0 bits blocks left (AreBits-bit_numbers (bits_of octets)) (omega arith)
     (subst (λ (l : List ℕ). AreBlocksIn w l blocks left) same are))
 
 -- ---- and all bits come
 
-clean-is : (c : Configuration) (bits : List Bool) (blocks : List WindowBlock) (count : ℕ) → length bits ≡ count → slips_of blocks ≡ 0
+clean-is : (c : Configuration) (bits : List Bool) (blocks : List WindowBlock) (count : ℕ) → length bits ≡ count
+    → slips_of blocks ≡ 0
     → totals_of c bits blocks ≡ clean_totals c count
 clean-is c bits blocks count is none = λ i. record { bits = is i; slips = if c.follow then Some (none i) else None }
 
@@ -64,28 +69,40 @@ abbrev pub CleanBits : Type 0
 CleanBits = (c : Configuration) (octets : List ℕ) (bits : List Bool) → IsAccepted c → c.skip ≡ 0 → IsStartKnown c
     → Inner c 0 (symbols_of_octets c octets) bits → bits ≡ bits_of octets
 
-pub totals-clean : HasBest → CleanBits → (c : Configuration) (octets : List ℕ) (handed : List (Handed ItemValue)) (totals : Totals) → IsAccepted c → c.skip ≡ 0 → IsStartKnown c
+pub totals-clean : HasBest → CleanBits → (c : Configuration) (octets : List ℕ) (handed : List (Handed ItemValue))
+    (totals : Totals) → IsAccepted c → c.skip ≡ 0 → IsStartKnown c
     → AreReceived c (sent c octets) handed totals → totals ≡ clean_totals c (8 * length (cadus c octets))
 totals-clean best clean c octets handed totals ok none start r =
     let phase : skip_of r.chosen ≡ 0 = ap skip_of (phase-sent best c octets r.chosen none r.choice) ∙ sent-skip c in
     let all = r.are_items in
     let blocks = all.1.blocks in
-    let are : AreInnerBlocks c 0 (sent c octets) blocks all.1.left = subst (λ (n : ℕ). AreInnerBlocks c n (sent c octets) blocks all.1.left) phase all.1.are_blocks in
+    let are : AreInnerBlocks c 0 (sent c octets) blocks all.1.left =
+    subst (λ (n : ℕ). AreInnerBlocks c n (sent c octets) blocks all.1.left) phase all.1.are_blocks in
     let bits : all.0 ≡ bits_of (cadus c octets) =
-    clean c (cadus c octets) all.0 ok none start (record { blocks = blocks; left = all.1.left; are_blocks = are; are_bits = all.1.are_bits }) in
+    clean c (cadus c octets) all.0 ok none start (record {
+      blocks = blocks;
+      left = all.1.left;
+      are_blocks = are;
+      are_bits = all.1.are_bits;
+    }) in
     all.2 ∙ clean-is c all.0 blocks (8 * length (cadus c octets)) (ap length bits ∙ length-bits_of (cadus c octets))
     (slips-sent c.inner c (cadus c octets) blocks all.1.left none are)
 
-pub totals-complemented : HasBest → Complements → ComplementedBlocks → (c : Configuration) (octets : List ℕ) (handed : List (Handed ItemValue)) (totals : Totals) → IsAccepted c
+pub totals-complemented : HasBest → Complements → ComplementedBlocks
+    → (c : Configuration) (octets : List ℕ) (handed : List (Handed ItemValue)) (totals : Totals) → IsAccepted c
     → c.inner ≡ Some R12 → c.start ≡ Any → c.skip ≡ 0
-    → AreReceived c (complemented_octets (sent c octets)) handed totals → totals ≡ clean_totals c (8 * length (cadus c octets))
+    → AreReceived c (complemented_octets (sent c octets)) handed totals
+    → totals ≡ clean_totals c (8 * length (cadus c octets))
 totals-complemented best turns complemented c octets handed totals ok half any none r =
-    let phase : skip_of r.chosen ≡ 0 = ap skip_of (phase-complemented best turns c octets r.chosen none r.choice) ∙ sent-skip c in
+    let phase : skip_of r.chosen ≡ 0 = ap skip_of (phase-complemented best turns c octets r.chosen none r.choice)
+    ∙ sent-skip c in
     let all = r.are_items in
     let blocks = all.1.blocks in
     let symbols = complemented_octets (sent c octets) in
-    let are : AreInnerBlocks c 0 symbols blocks all.1.left = subst (λ (n : ℕ). AreInnerBlocks c n symbols blocks all.1.left) phase all.1.are_blocks in
-    let bits = all.1.are_bits ∙ half-complemented complemented c c.inner (cadus c octets) blocks all.1.left refl ok half any none are in
+    let are : AreInnerBlocks c 0 symbols blocks all.1.left =
+    subst (λ (n : ℕ). AreInnerBlocks c n symbols blocks all.1.left) phase all.1.are_blocks in
+    let bits = all.1.are_bits ∙ half-complemented complemented c c.inner
+    (cadus c octets) blocks all.1.left refl ok half any none are in
     all.2 ∙ clean-is c all.0 blocks (8 * length (cadus c octets))
     (ap length bits ∙ length-map (bits_of (cadus c octets)) flip ∙ length-bits_of (cadus c octets))
     (slips-complemented c.inner c (cadus c octets) blocks all.1.left none are)

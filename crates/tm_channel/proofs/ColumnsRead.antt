@@ -26,7 +26,8 @@ column_elements basis depth codeblock j = map (element_of basis) (column depth j
 
 pub all-read : (c : Configuration) (codeblock : List ℕ) (words : List Word) (basis : Basis) (depth size : ℕ)
     → c.code ≢ Uncoded → depth ≡ c.depth → size ≡ word_length c → basis ≡ c.basis → length words ≡ depth
-    → first_symbols size (take depth words) ≡ map (column_elements basis depth codeblock) (range_with_len 0 depth) → all_symbols c words ≡ received_columns c codeblock
+    → first_symbols size (take depth words) ≡ map (column_elements basis depth codeblock) (range_with_len 0 depth)
+    → all_symbols c words ≡ received_columns c codeblock
 unfolding received_columns
 all-read c codeblock words basis depth size coded by_depth by_size by_basis long read = rw
     (uncoded_false c.code coded) (
@@ -40,12 +41,14 @@ take-less (suc few) zero xs le = absurd (omega arith)
 take-less (suc few) (suc many) [] le = refl
 take-less (suc few) (suc many) (x ∷ xs) le = ap (λ l. x ∷ l) (take-less few many xs (omega arith))
 
-get_or-words : (f : Word → List ℕ) (words : List Word) (i : ℕ) (d : Word) → i < length words → get_or (map f words) i [] ≡ f (get_or words i d)
+get_or-words : (f : Word → List ℕ) (words : List Word) (i : ℕ) (d : Word) → i < length words
+    → get_or (map f words) i [] ≡ f (get_or words i d)
 get_or-words f [] i d below = absurd (omega arith)
 get_or-words f (w ∷ words) zero d below = refl
 get_or-words f (w ∷ words) (suc i) d below = get_or-words f words i d (omega arith)
 
-map-both : (c : Configuration) (words : List Word) → map (data_octets c) (all_symbols c words) ≡ map (λ (w : Word). data_octets c (symbols_of c w)) words
+map-both : (c : Configuration) (words : List Word) → map (data_octets c) (all_symbols c words)
+    ≡ map (λ (w : Word). data_octets c (symbols_of c w)) words
 map-both c [] = refl
 map-both c (w ∷ words) = ap (λ l. data_octets c (symbols_of c w) ∷ l) (map-both c words)
 
@@ -63,13 +66,16 @@ data-is c basis size w by_size by_basis =
 pub all-written : (c : Configuration) (codeblock : List ℕ) (words : List Word) (basis : Basis) (depth size : ℕ)
     (frame : List ℕ) → c.code ≢ Uncoded → 0 < c.depth → depth ≡ c.depth → size ≡ data_length c → basis ≡ c.basis
     → length words ≡ c.depth → length frame ≡ c.depth * data_length c
-    → ((i : ℕ) (d : Word) → i < depth → column depth i frame ≡ map (sent_octet basis) (numbers (take size (get_or words i d).symbols)))
+    → ((i : ℕ) (d : Word) → i < depth → column depth i frame
+    ≡ map (sent_octet basis) (numbers (take size (get_or words i d).symbols)))
     → frame ≡ frame_of c codeblock (all_symbols c words)
 unfolding frame_of
 all-written c codeblock words basis depth size frame coded some by_depth by_size by_basis long room written = rw
     (uncoded_false c.code coded) (
-    same_columns c.depth frame (interleaved c.depth (data_length c) columns) some (room ∙ sym (length-interleaved c.depth (data_length c) columns))
-    (λ i below. at i below ∙ sym (column-interleaved c.depth (data_length c) i columns below (ap length (sym (at i below)) ∙ length-column c.depth (data_length c) i frame below room))))
+    same_columns c.depth frame (interleaved c.depth (data_length c) columns) some
+    (room ∙ sym (length-interleaved c.depth (data_length c) columns))
+    (λ i below. at i below ∙ sym (column-interleaved c.depth (data_length c) i columns below
+    (ap length (sym (at i below)) ∙ length-column c.depth (data_length c) i frame below room))))
   where
     columns : List (List ℕ)
     columns = map (data_octets c) (all_symbols c words)
@@ -81,5 +87,6 @@ all-written c codeblock words basis depth size frame coded some by_depth by_size
     at i below =
         (λ k. column (sym by_depth k) i frame) ∙ written i none (subst (λ n. i < n) (sym by_depth) below)
         ∙ data-is c basis size (get_or words i none) by_size by_basis
-        ∙ sym (get_or-words (λ (w : Word). data_octets c (symbols_of c w)) words i none (subst (λ n. i < n) (sym long) below))
+        ∙ sym (get_or-words (λ (w : Word). data_octets c (symbols_of c w)) words i none
+        (subst (λ n. i < n) (sym long) below))
         ∙ ap (λ (l : List (List ℕ)). get_or l i []) (sym (map-both c words))

@@ -47,14 +47,19 @@ numbers_pass = refl
 octet-complemented : (octet : ℕ) → octet < 256 → bits_of_octet (255 - octet) ≡ complement (bits_of_octet octet)
 octet-complemented octet small =
     let bits = complement (bits_of_octet octet) in
-    let long : length (complement (bits_of_octet octet)) ≡ 8 = length-map (bits_of_octet octet) flip ∙ length-low_bits 8 octet in
-    let same : number_of (complement (bits_of_octet octet)) ≡ 255 - octet = same_below 256 (λ octet. number_of (complement (bits_of_octet octet))) (λ octet. 255 - octet) numbers_pass octet small in
+    let long : length (complement (bits_of_octet octet)) ≡ 8 = length-map (bits_of_octet octet) flip
+    ∙ length-low_bits 8 octet in
+    let same : number_of (complement (bits_of_octet octet)) ≡ 255 - octet =
+    same_below 256 (λ octet. number_of (complement (bits_of_octet octet)))
+    (λ octet. 255 - octet) numbers_pass octet small in
     (λ i. low_bits (sym long i) (sym same i)) ∙ low_bits-number_of bits
 
-bits-complemented : (octets : List ℕ) → AreOctets octets → bits_of (complemented_octets octets) ≡ complement (bits_of octets)
+bits-complemented : (octets : List ℕ) → AreOctets octets → bits_of (complemented_octets octets)
+    ≡ complement (bits_of octets)
 bits-complemented [] are = refl
 bits-complemented (octet ∷ octets) are =
-    (λ i. octet-complemented octet (are 0 0 (omega arith)) i ++ bits-complemented octets (AreOctets-rest octet octets are) i)
+    (λ i. octet-complemented octet (are 0 0 (omega arith)) i
+    ++ bits-complemented octets (AreOctets-rest octet octets are) i)
     ∙ sym (map-append flip (bits_of_octet octet) (bits_of octets))
 
 -- two values that come to 255 are nearest to different bits
@@ -65,27 +70,38 @@ complemented-test a b sum = elim (cases_Bool (nat_le 128 b)) [
 ]
 
 -- the bit that an octet complemented is nearest to
-nearest-complemented : (c : Configuration) (octet : ℕ) → octet < 256 → nearest_bit c (255 - octet) ≡ flip (nearest_bit c octet)
-nearest-complemented c octet small = complemented-test (soft_value c (255 - octet)) (soft_value c octet) (go (is_signed c.soft))
+nearest-complemented : (c : Configuration) (octet : ℕ) → octet < 256
+    → nearest_bit c (255 - octet) ≡ flip (nearest_bit c octet)
+nearest-complemented c octet small =
+    complemented-test (soft_value c (255 - octet)) (soft_value c octet) (go (is_signed c.soft))
   where
-    go : (signed : Bool) → (if signed then (255 - octet + 128) % 256 else 255 - octet) + (if signed then (octet + 128) % 256 else octet) ≡ 255
+    go : (signed : Bool) → (if signed then (255 - octet + 128) % 256 else 255 - octet) +
+        (if signed then (octet + 128) % 256 else octet) ≡ 255
     go true = omega arith
     go false = omega arith
 
-all-nearest-complemented : (c : Configuration) (octets : List ℕ) → AreOctets octets → map (nearest_bit c) (complemented_octets octets) ≡ complement (map (nearest_bit c) octets)
+all-nearest-complemented : (c : Configuration) (octets : List ℕ) → AreOctets octets
+    → map (nearest_bit c) (complemented_octets octets) ≡ complement (map (nearest_bit c) octets)
 all-nearest-complemented c [] are = refl
 all-nearest-complemented c (octet ∷ octets) are =
-    (λ i. nearest-complemented c octet (are 0 0 (omega arith)) i ∷ all-nearest-complemented c octets (AreOctets-rest octet octets are) i)
+    (λ i. nearest-complemented c octet (are 0 0 (omega arith)) i
+    ∷ all-nearest-complemented c octets (AreOctets-rest octet octets are) i)
 
-plain-complemented : (pack : Bool) (c : Configuration) (octets : List ℕ) → AreOctets octets → plain_bits_by pack c (complemented_octets octets) ≡ complement (plain_bits_by pack c octets)
+plain-complemented : (pack : Bool) (c : Configuration) (octets : List ℕ) → AreOctets octets
+    → plain_bits_by pack c (complemented_octets octets) ≡ complement (plain_bits_by pack c octets)
 plain-complemented true c octets are = bits-complemented octets are
 plain-complemented false c octets are = all-nearest-complemented c octets are
 
-inner-complemented : (c : Configuration) (rate : Option Rate) (phase : ℕ) (octets : List ℕ) (blocks : List WindowBlock) (left : ℕ) → rate ≡ None → AreOctets octets
+inner-complemented : (c : Configuration) (rate : Option Rate) (phase : ℕ) (octets : List ℕ)
+    (blocks : List WindowBlock) (left : ℕ) → rate ≡ None → AreOctets octets
     → BlocksAt rate c phase octets blocks left
-    → BlocksAt rate c phase (complemented_octets octets) blocks left × (complement (bits_at rate c octets blocks) ≡ bits_at rate c (complemented_octets octets) blocks)
-inner-complemented c None phase octets blocks left none small are =
-    (are, sym (drop-complement c.skip (plain_bits c octets)) ∙ ap (drop c.skip) (sym (plain-complemented c.pack c octets small)))
+    → BlocksAt rate c phase (complemented_octets octets) blocks left
+    × (complement (bits_at rate c octets blocks) ≡ bits_at rate c (complemented_octets octets) blocks)
+inner-complemented c None phase octets blocks left none small are = (
+  are,
+  sym (drop-complement c.skip (plain_bits c octets))
+      ∙ ap (drop c.skip) (sym (plain-complemented c.pack c octets small)),
+)
 inner-complemented c (Some rate) phase octets blocks left none small are = absurd (cc)
 
 pub received-complemented : (c : Configuration) (phase : ℕ) (octets : List ℕ) (items : List ItemValue) → IsAccepted c
@@ -95,7 +111,13 @@ received-complemented c phase octets items ok none find small r =
     let both = inner-complemented c c.inner phase octets r.inner.blocks r.inner.left none small r.inner.are_blocks in
     record {
       bits = complement r.bits;
-      inner = record { blocks = r.inner.blocks; left = r.inner.left; are_blocks = both.0; are_bits = ap complement r.inner.are_bits ∙ both.1 };
+      inner =
+          record {
+            blocks = r.inner.blocks;
+            left = r.inner.left;
+            are_blocks = both.0;
+            are_bits = ap complement r.inner.are_bits ∙ both.1;
+          };
       are_items = items-complemented c r.bits items ok find r.are_items;
     }
 
@@ -103,11 +125,14 @@ received-complemented c phase octets items ok none find small r =
 
 -- the blocks of symbols complemented keep the bits complemented
 abbrev pub ComplementedBlocks : Type 0
-ComplementedBlocks = (s : Settings) (register : ℕ) (bits : List ℕ) (blocks : List WindowBlock) (left : ℕ) → 64 ≤ s.keep → AreBits bits
+ComplementedBlocks =
+    (s : Settings) (register : ℕ) (bits : List ℕ) (blocks : List WindowBlock) (left : ℕ) → 64 ≤ s.keep → AreBits bits
     → s.start ≡ Any → s.rate ≡ R12 → register < 64 → (bits ≡ []) ⊎ (6 ≤ length bits)
-    → AreBlocksOf s (complemented_octets (sure_symbols s register bits)) blocks left → AreClean (complement_numbers bits) blocks left
+    → AreBlocksOf s (complemented_octets (sure_symbols s register bits)) blocks left
+    → AreClean (complement_numbers bits) blocks left
 
-value-complemented : (c : Configuration) (symbol : ℕ) → soft_value c (255 - level (low_level c.soft) symbol) ≡ 255 - cond (symbol == 0) 0 255
+value-complemented : (c : Configuration) (symbol : ℕ) → soft_value c (255 - level (low_level c.soft) symbol)
+    ≡ 255 - cond (symbol == 0) 0 255
 value-complemented c symbol = go c.soft (symbol == 0)
   where
     go : (form : SoftForm) (zero_symbol : Bool)
@@ -119,16 +144,20 @@ value-complemented c symbol = go c.soft (symbol == 0)
     go Signed true = refl
     go Signed false = refl
 
-pub values-complemented : (c : Configuration) (symbols : List ℕ) → map (soft_value c) (complemented_octets (levels (low_level c.soft) symbols)) ≡ complemented_octets (sure symbols)
+pub values-complemented : (c : Configuration) (symbols : List ℕ)
+    → map (soft_value c) (complemented_octets (levels (low_level c.soft) symbols))
+    ≡ complemented_octets (sure symbols)
 values-complemented c [] = refl
 values-complemented c (symbol ∷ symbols) = (λ i. value-complemented c symbol i ∷ values-complemented c symbols i)
 
-numbers-complemented : (bits : List Bool) → map (λ bit. bit == 1) (complement_numbers (bit_numbers bits)) ≡ complement bits
+numbers-complemented : (bits : List Bool) → map (λ bit. bit == 1) (complement_numbers (bit_numbers bits))
+    ≡ complement bits
 numbers-complemented [] = refl
 numbers-complemented (true ∷ bits) = ap (λ l. false ∷ l) (numbers-complemented bits)
 numbers-complemented (false ∷ bits) = ap (λ l. true ∷ l) (numbers-complemented bits)
 
-pub half-complemented : ComplementedBlocks → (c : Configuration) (rate : Option Rate) (octets : List ℕ) (blocks : List WindowBlock)
+pub half-complemented : ComplementedBlocks → (c : Configuration) (rate : Option Rate) (octets : List ℕ)
+    (blocks : List WindowBlock)
     (left : ℕ) → c.inner ≡ rate
     → IsAccepted c → c.inner ≡ Some R12 → c.start ≡ Any → c.skip ≡ 0
     → BlocksAt rate c 0 (complemented_octets (symbols_by rate c (bits_of octets))) blocks left
@@ -138,16 +167,29 @@ half-complemented complemented c (Some rate) octets blocks left is ok half any n
     let w = windows_of c rate in
     let bits = bit_numbers (bits_of octets) in
     let symbols = sent_for rate (is_inverted rate c.invert) (bits_of octets) in
-    let same : soft_octets c 0 (complemented_octets (symbols_by (Some rate) c (bits_of octets))) ≡ complemented_octets (sure_symbols (settings_of c rate) 0 bits) =
-    ap (map (soft_value c)) (drop-none c.skip (complemented_octets (levels (low_level c.soft) symbols)) none) ∙ values-complemented c symbols in
-    let it = complemented (settings_of c rate) 0 bits blocks left ok.some_keep (AreBits-bit_numbers (bits_of octets)) any
+    let same : soft_octets c 0 (complemented_octets (symbols_by (Some rate) c (bits_of octets)))
+    ≡ complemented_octets (sure_symbols (settings_of c rate) 0 bits) =
+    ap (map (soft_value c)) (drop-none c.skip (complemented_octets (levels (low_level c.soft) symbols)) none)
+    ∙ values-complemented c symbols in
+    let it = complemented (settings_of c rate) 0 bits blocks left ok.some_keep
+    (AreBits-bit_numbers (bits_of octets)) any
     (half-rate c rate is half) (omega arith) (some-steps octets)
     (blocks-complemented w.seen w 0 bits blocks left (AreBits-bit_numbers (bits_of octets)) (omega arith)
     (subst (λ (l : List ℕ). AreBlocksIn w l blocks left) same are)) in
     ap (map (λ bit. bit == 1)) it.kept ∙ numbers-complemented (bits_of octets)
 
 twice-complemented : (item : ItemValue) → complemented_item (complemented_item item) ≡ item
-twice-complemented item = (λ i. record { found = record { place = item.found.place; distance = item.found.distance; bridged = item.found.bridged; inverted = twice item.found.inverted i }; answers = item.answers; frame = item.frame })
+twice-complemented item =
+    (λ i. record {
+      found = record {
+        place = item.found.place;
+        distance = item.found.distance;
+        bridged = item.found.bridged;
+        inverted = twice item.found.inverted i;
+      };
+      answers = item.answers;
+      frame = item.frame;
+    })
   where
     twice : (b : Bool) → flip (flip b) ≡ b
     twice true = refl
@@ -159,14 +201,17 @@ all-twice (item ∷ items) = (λ i. twice-complemented item i ∷ all-twice item
 
 pub received-half_complemented : ComplementedBlocks → (c : Configuration) (octets : List ℕ) (items : List ItemValue)
     → IsAccepted c → c.inner ≡ Some R12 → c.polarity ≡ Find → c.start ≡ Any → c.skip ≡ 0 → AreOctets octets
-    → Receive c 0 (complemented_octets (sent c octets)) items → items ≡ map complemented_item (clean_items c 0 (found_frames c (whole_frames c.frame_length octets)))
+    → Receive c 0 (complemented_octets (sent c octets)) items
+    → items ≡ map complemented_item (clean_items c 0 (found_frames c (whole_frames c.frame_length octets)))
 received-half_complemented complemented c octets items ok half find any none small r =
     let frames = whole_frames c.frame_length octets in
     let bits : r.bits ≡ complement (sent_bits c (whole_frames c.frame_length octets)) =
     r.inner.are_bits ∙ half-complemented complemented c c.inner
     (cadus c octets) r.inner.blocks r.inner.left refl ok half any none r.inner.are_blocks
     ∙ ap complement (bits-sent c octets) in
-    let upright : complement r.bits ≡ sent_bits c (whole_frames c.frame_length octets) = ap complement bits ∙ complement-twice (sent_bits c frames) in
+    let upright : complement r.bits ≡ sent_bits c (whole_frames c.frame_length octets) = ap complement bits
+    ∙ complement-twice (sent_bits c frames) in
     sym (all-twice items)
     ∙ ap (map complemented_item) (items-clean c frames (map complemented_item items) ok (are_frames c octets ok small)
-    (subst (λ (l : List Bool). AreItems c l (map complemented_item items)) upright (items-complemented c r.bits items ok find r.are_items)))
+    (subst (λ (l : List Bool). AreItems c l (map complemented_item items)) upright
+    (items-complemented c r.bits items ok find r.are_items)))

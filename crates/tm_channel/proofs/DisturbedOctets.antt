@@ -68,11 +68,32 @@ unfolding inverted_entry match_of are_verified wrong_bits low_bits
 marked = record {
   parts = refl;
   are_entries = (
-    record { marker = refl; block = refl; gap = no-gap None (joined (entries_of units) last); waits = tt; bridged = tt; verified = refl },
+    record {
+      marker = refl;
+      block = refl;
+      gap = no-gap None (joined (entries_of units) last);
+      waits = tt;
+      bridged = tt;
+      verified = refl;
+    },
     (
-      record { marker = refl; block = refl; gap = λ q below. absurd (omega (arith, below)); waits = tt; bridged = (refl, omega arith); verified = refl },
+      record {
+        marker = refl;
+        block = refl;
+        gap = λ q below. absurd (omega (arith, below));
+        waits = tt;
+        bridged = (refl, omega arith);
+        verified = refl;
+      },
       (
-        record { marker = refl; block = refl; gap = one-gap _; waits = inl (omega arith); bridged = tt; verified = refl },
+        record {
+          marker = refl;
+          block = refl;
+          gap = one-gap _;
+          waits = inl (omega arith);
+          bridged = tt;
+          verified = refl;
+        },
         (
           last-gap _,
           inr (omega arith),
@@ -112,9 +133,11 @@ columns-sent = ap (received_columns link) zeros-sent
 
 pub column-wrong : AreWithin 0 (received_columns link (0 ∷ 0 ∷ 1 ∷ replicate 14 0)) (sent_columns link frame) → ⊥
 unfolding received_columns
-column-wrong within = let h = subst (AreWithin 0 ((0 ∷ 0 ∷ 1 ∷ replicate 14 0) ∷ [])) columns-sent within in omega (arith, h.0)
+column-wrong within =
+    let h = subst (AreWithin 0 ((0 ∷ 0 ∷ 1 ∷ replicate 14 0) ∷ [])) columns-sent within in omega (arith, h.0)
 
-near : (codeblock : List ℕ) → AreWithin 8 (received_columns link codeblock) (replicate 17 0 ∷ []) → IsNear link frame codeblock
+near : (codeblock : List ℕ) → AreWithin 8 (received_columns link codeblock) (replicate 17 0 ∷ [])
+    → IsNear link frame codeblock
 near codeblock within = record {
   columns = subst (AreWithin 8 (received_columns link codeblock)) (sym columns-sent) within;
   uncoded = λ none. absurd cc;

@@ -26,26 +26,38 @@ record Split (c : Configuration) (bits : List Bool) (fs gs : List Found) (items 
   parts : items ≡ first ++ rest
   are_first : AreItemsOf c bits fs first
 
-split : (c : Configuration) (bits : List Bool) (fs gs : List Found) (items : List ItemValue) → AreItemsOf c bits (fs ++ gs) items → Split c bits fs gs items
+split : (c : Configuration) (bits : List Bool) (fs gs : List Found) (items : List ItemValue)
+    → AreItemsOf c bits (fs ++ gs) items → Split c bits fs gs items
 split c bits [] gs items are = record { first = []; rest = items; parts = refl; are_first = tt }
 split c bits (f ∷ fs) gs [] are = absurd are
 split c bits (f ∷ fs) gs (item ∷ items) are =
     let more = split c bits fs gs items are.1 in
-    record { first = item ∷ more.first; rest = more.rest; parts = ap (λ l. item ∷ l) more.parts; are_first = (are.0, more.are_first) }
+    record {
+      first = item ∷ more.first;
+      rest = more.rest;
+      parts = ap (λ l. item ∷ l) more.parts;
+      are_first = (are.0, more.are_first);
+    }
 
 -- a codeblock that ends within the prefix of bits is the same in them all
-codeblock-prefix : (c : Configuration) (prefix rest : List Bool) (f : Found) → f.place + 32 + 8 * codeblock_length c ≤ length prefix → codeblock_at c (prefix ++ rest) f ≡ codeblock_at c prefix f
+codeblock-prefix : (c : Configuration) (prefix rest : List Bool) (f : Found)
+    → f.place + 32 + 8 * codeblock_length c ≤ length prefix
+    → codeblock_at c (prefix ++ rest) f ≡ codeblock_at c prefix f
 codeblock-prefix c prefix rest f within =
     ap (codeblock_in c f.inverted)
     (ap (take (8 * codeblock_length c)) (drop-append-le (f.place + 32) prefix rest (omega arith))
-    ∙ take-append-le (8 * codeblock_length c) (drop (f.place + 32) prefix) rest (omega (arith, length-drop (f.place + 32) prefix)))
+    ∙ take-append-le (8 * codeblock_length c) (drop (f.place + 32) prefix) rest
+    (omega (arith, length-drop (f.place + 32) prefix)))
 
-items-prefix : (c : Configuration) (prefix rest : List Bool) (fs : List Found) (items : List ItemValue) → EndWithin c (length prefix) fs → AreItemsOf c prefix fs items → AreItemsOf c (prefix ++ rest) fs items
+items-prefix : (c : Configuration) (prefix rest : List Bool) (fs : List Found) (items : List ItemValue)
+    → EndWithin c (length prefix) fs → AreItemsOf c prefix fs items → AreItemsOf c (prefix ++ rest) fs items
 items-prefix c prefix rest [] [] within are = tt
 items-prefix c prefix rest [] (item ∷ items) within are = absurd are
 items-prefix c prefix rest (f ∷ fs) [] within are = absurd are
-items-prefix c prefix rest (f ∷ fs) (item ∷ items) within are =
-    (subst (λ (b : List ℕ). IsItem c f b item) (sym (codeblock-prefix c prefix rest f within.0)) are.0, items-prefix c prefix rest fs items within.1 are.1)
+items-prefix c prefix rest (f ∷ fs) (item ∷ items) within are = (
+  subst (λ (b : List ℕ). IsItem c f b item) (sym (codeblock-prefix c prefix rest f within.0)) are.0,
+  items-prefix c prefix rest fs items within.1 are.1,
+)
 
 within-more : (c : Configuration) (n m : ℕ) (fs : List Found) → n ≤ m → EndWithin c n fs → EndWithin c m fs
 within-more c n m [] le within = tt
@@ -58,16 +70,21 @@ within-take c n (suc k) (f ∷ fs) within = (within.0, within-take c n k fs with
 
 -- the items of some of the first places of a prefix stand first among those of all bits
 pub first-items : (c : Configuration) (prefix rest : List Bool) (k : ℕ) (due items : List ItemValue) → IsAccepted c
-    → AreItemsOf c prefix (take k (places (rules_of c) prefix)) due → AreItems c (prefix ++ rest) items → (others : List ItemValue) × (items ≡ due ++ others)
+    → AreItemsOf c prefix (take k (places (rules_of c) prefix)) due → AreItems c (prefix ++ rest) items
+    → (others : List ItemValue) × (items ≡ due ++ others)
 first-items c prefix rest k due items ok first all =
     let fs = places (rules_of c) prefix in
     let gs = drop (length fs) (places (rules_of c) (prefix ++ rest)) in
     let whole : places (rules_of c) (prefix ++ rest) ≡ take k (places (rules_of c) prefix) ++ (drop k fs ++ gs) =
-    places-goes_on (rules_of c) prefix rest ∙ ap (λ l. l ++ gs) (sym (take-append-drop k fs)) ∙ append_assoc (take k fs) (drop k fs) gs in
-    let parts = split c (prefix ++ rest) (take k fs) (drop k fs ++ gs) items (subst (λ (l : List Found). AreItemsOf c (prefix ++ rest) l items) whole all) in
+    places-goes_on (rules_of c) prefix rest ∙ ap (λ l. l ++ gs) (sym (take-append-drop k fs))
+    ∙ append_assoc (take k fs) (drop k fs) gs in
+    let parts = split c (prefix ++ rest) (take k fs) (drop k fs ++ gs) items
+    (subst (λ (l : List Found). AreItemsOf c (prefix ++ rest) l items) whole all) in
     let within = within-take c (length prefix) k fs (places-end (rules_of c) prefix) in
     let same : parts.first ≡ due =
-    items-same c (prefix ++ rest) (take k fs) parts.first due ok (within-more c (length prefix) (length (prefix ++ rest)) (take k fs) (omega (arith, length-append prefix rest)) within)
+    items-same c (prefix ++ rest) (take k fs) parts.first due ok
+    (within-more c (length prefix) (length (prefix ++ rest)) (take k fs)
+    (omega (arith, length-append prefix rest)) within)
     parts.are_first (items-prefix c prefix rest (take k fs) due within first) in
     (parts.rest, parts.parts ∙ ap (λ l. l ++ parts.rest) same)
 
@@ -77,10 +94,13 @@ DueBits = (c : Configuration) (phase : ℕ) (octets more : List ℕ) (due blocks
     → AreInnerDue c phase octets due → AreInnerBlocks c phase (octets ++ more) blocks left
     → (rest : List Bool) × (inner_bits c (octets ++ more) blocks ≡ inner_bits c octets due ++ rest)
 
-pub due-first : DueBits → (c : Configuration) (phase : ℕ) (octets more : List ℕ) (due items : List ItemValue) → IsAccepted c
-    → ReceiveDue c phase octets due → Receive c phase (octets ++ more) items → (others : List ItemValue) × (items ≡ due ++ others)
+pub due-first : DueBits → (c : Configuration) (phase : ℕ) (octets more : List ℕ) (due items : List ItemValue)
+    → IsAccepted c
+    → ReceiveDue c phase octets due → Receive c phase (octets ++ more) items → (others : List ItemValue)
+    × (items ≡ due ++ others)
 due-first bits_first c phase octets more due items ok first all =
     let prefix = inner_bits c octets first.blocks in
-    let bits = bits_first c phase octets more first.blocks all.inner.blocks all.inner.left first.are_due all.inner.are_blocks in
+    let bits = bits_first c phase octets more first.blocks all.inner.blocks all.inner.left first.are_due
+    all.inner.are_blocks in
     first-items c prefix bits.0 (due_count c prefix) due items ok first.are_items
     (subst (λ (l : List Bool). AreItems c l items) (all.inner.are_bits ∙ bits.1) all.are_items)

@@ -38,58 +38,92 @@ use Rattle.tm_channel.proofs.SentCodeblocks.{octets-received}
 
 -- ---- the octets of frames
 
-frame-few : (c : Configuration) (codeblock : List ℕ) (words : List (List ℕ)) → IsAccepted c → length codeblock ≤ codeblock_length c → length (frame_of c codeblock words) ≤ c.frame_length
+frame-few : (c : Configuration) (codeblock : List ℕ) (words : List (List ℕ)) → IsAccepted c
+    → length codeblock ≤ codeblock_length c → length (frame_of c codeblock words) ≤ c.frame_length
 unfolding frame_of
-frame-few c codeblock words ok few = elim (uncoded_cases c.code) as (λ _. length (cond (is_uncoded c.code) codeblock (interleaved c.depth (data_length c) (map (data_octets c) words))) ≤ c.frame_length) [
-  | inl none ↦
-      let checks : c.depth * (2 * correctable c.code) ≡ 0 = ap (λ code. c.depth * (2 * correctable code)) none.1 ∙ omega arith in
-      rw none.0 (omega (arith, few, codeblock_length-is c ok, checks))
-  | inr some ↦ rw some.0 (omega (arith, length-interleaved c.depth (data_length c) (map (data_octets c) words), ok.whole))
-]
+frame-few c codeblock words ok few =
+    elim (uncoded_cases c.code) as
+    (λ _. length (cond (is_uncoded c.code) codeblock
+    (interleaved c.depth (data_length c) (map (data_octets c) words))) ≤ c.frame_length) [
+      | inl none ↦
+          let checks : c.depth * (2 * correctable c.code) ≡ 0 = ap (λ code. c.depth * (2 * correctable code)) none.1
+          ∙ omega arith in
+          rw none.0 (omega (arith, few, codeblock_length-is c ok, checks))
+      | inr some ↦ rw some.0 (omega (
+        arith,
+        length-interleaved c.depth (data_length c) (map (data_octets c) words),
+        ok.whole,
+      ))
+    ]
 
-item-few : (c : Configuration) (bits : List Bool) (f : Found) (item : ItemValue) → IsAccepted c → IsItem c f (codeblock_at c bits f) item → length item.frame ≤ c.frame_length
+item-few : (c : Configuration) (bits : List Bool) (f : Found) (item : ItemValue) → IsAccepted c
+    → IsItem c f (codeblock_at c bits f) item → length item.frame ≤ c.frame_length
 item-few c bits f item ok is = omega (arith, ap length is.frame, go (are_fixed item.answers))
   where
     codeblock : length (codeblock_at c bits f) ≤ codeblock_length c
     codeblock =
         let after = take (8 * codeblock_length c) (drop (f.place + 32) bits) in
-        omega (arith, octets-received c f.inverted after, length-take (8 * codeblock_length c) (drop (f.place + 32) bits))
+        omega (
+          arith,
+          octets-received c f.inverted after,
+          length-take (8 * codeblock_length c)
+              (drop (f.place + 32) bits),
+        )
 
     go : (fixed : Bool) → length (cond fixed (frame_of c (codeblock_at c bits f) is.words) []) ≤ c.frame_length
     go true = frame-few c (codeblock_at c bits f) is.words ok codeblock
     go false = omega arith
 
-frames-few : (c : Configuration) (bits : List Bool) (fs : List Found) (items : List ItemValue) → IsAccepted c → AreItemsOf c bits fs items → length (frames_of items) ≤ length items * c.frame_length
+frames-few : (c : Configuration) (bits : List Bool) (fs : List Found) (items : List ItemValue) → IsAccepted c
+    → AreItemsOf c bits fs items → length (frames_of items) ≤ length items * c.frame_length
 frames-few c bits [] [] ok are = omega arith
 frames-few c bits [] (item ∷ items) ok are = absurd are
 frames-few c bits (f ∷ fs) [] ok are = absurd are
 frames-few c bits (f ∷ fs) (item ∷ items) ok are =
-    omega (arith, length-append item.frame (frames_of items), item-few c bits f item ok are.0, frames-few c bits fs items ok are.1, suc-mul (length items) c.frame_length)
+    omega (
+      arith,
+      length-append item.frame (frames_of items),
+      item-few c bits f item ok are.0,
+      frames-few c bits fs items ok are.1,
+      suc-mul (length items) c.frame_length,
+    )
 
 -- those after others
-after-few : (c : Configuration) (bits : List Bool) (fs : List Found) (before items : List ItemValue) → IsAccepted c → AreItemsOf c bits fs (before ++ items) → length (frames_of items) ≤ length items * c.frame_length
+after-few : (c : Configuration) (bits : List Bool) (fs : List Found) (before items : List ItemValue) → IsAccepted c
+    → AreItemsOf c bits fs (before ++ items) → length (frames_of items) ≤ length items * c.frame_length
 after-few c bits fs [] items ok are = frames-few c bits fs items ok are
 after-few c bits [] (item ∷ before) items ok are = absurd are
 after-few c bits (f ∷ fs) (item ∷ before) items ok are = after-few c bits fs before items ok are.1
 
 -- ---- items of bits that go on
 
-as-many : (c : Configuration) (bits : List Bool) (fs : List Found) (items : List ItemValue) → AreItemsOf c bits fs items → length items ≡ length fs
+as-many : (c : Configuration) (bits : List Bool) (fs : List Found) (items : List ItemValue)
+    → AreItemsOf c bits fs items → length items ≡ length fs
 as-many c bits [] [] are = refl
 as-many c bits [] (item ∷ items) are = absurd are
 as-many c bits (f ∷ fs) [] are = absurd are
 as-many c bits (f ∷ fs) (item ∷ items) are = ap suc (as-many c bits fs items are.1)
 
 -- after the items that were due there are these, where so few bits came
-items-few : (c : Configuration) (bits piece : List Bool) (before items : List ItemValue) (fs : List Found) (octets : ℕ) → IsAccepted c → AreItemsOf c bits (due c bits) before
-    → AreItemsOf c (bits ++ piece) fs (before ++ items) → length fs ≤ length (places (rules_of c) (bits ++ piece)) → length piece ≤ most_bits c octets → AreFew c octets items
+items-few : (c : Configuration) (bits piece : List Bool) (before items : List ItemValue) (fs : List Found)
+    (octets : ℕ) → IsAccepted c → AreItemsOf c bits (due c bits) before
+    → AreItemsOf c (bits ++ piece) fs (before ++ items) → length fs ≤ length (places (rules_of c) (bits ++ piece))
+    → length piece ≤ most_bits c octets → AreFew c octets items
 items-few c bits piece before items fs octets ok were are within few =
     let unit = 32 + (rules_of c).block_bits in
     let whole = most_bits c octets / unit in
     let all = length (places (rules_of c) bits) in
     let some : 0 < unit = omega arith in
-    let short : length piece ≤ (whole + 1) * unit = omega (arith, few, lt-div-mul-add {a = most_bits c octets} {b = unit} some, suc-mul whole unit, ap (λ n. n * unit) (next whole)) in
-    let waits : all < c.batch * (all / c.batch) + c.batch = omega (arith, lt-div-mul-add {a = all} {b = c.batch} ok.some_batch, mul_comm (all / c.batch) c.batch) in
+    let short : length piece ≤ (whole + 1) * unit = omega (
+      arith,
+      few,
+      lt-div-mul-add {a = most_bits c octets} {b = unit} some,
+      suc-mul whole unit,
+      ap (λ n. n * unit) (next whole),
+    )
+    in
+    let waits : all < c.batch * (all / c.batch) + c.batch =
+    omega (arith, lt-div-mul-add {a = all} {b = c.batch} ok.some_batch, mul_comm (all / c.batch) c.batch) in
     let count : length items ≤ most_items c octets =
     omega (
       arith,
@@ -100,7 +134,11 @@ items-few c bits piece before items fs octets ok were are within few =
       as-many c (bits ++ piece) fs (before ++ items) are,
       length-append before items,
       within,
-    ) in (count, le-through (length (frames_of items)) (after-few c (bits ++ piece) fs before items ok are) (mul-le-mul_right c.frame_length count))
+    ) in (
+      count,
+      le-through (length (frames_of items)) (after-few c (bits ++ piece) fs before items ok are)
+          (mul-le-mul_right c.frame_length count),
+    )
   where
     next : (n : ℕ) → n + 1 ≡ suc n
     next n = omega arith
@@ -110,15 +148,18 @@ items-few c bits piece before items fs octets ok were are within few =
 
 -- ---- the bits that come
 
-found-few : (rate : Option Rate) (c : Configuration) (skip : ℕ) (kept octets : List ℕ) → length kept ≤ waiting_bits c c.batch + held_bits c + length octets
+found-few : (rate : Option Rate) (c : Configuration) (skip : ℕ) (kept octets : List ℕ)
+    → length kept ≤ waiting_bits c c.batch + held_bits c + length octets
     → length (bits_found c rate skip kept octets) ≤ most_bits_at rate c (length octets)
 found-few None c skip kept octets few = omega (arith, length-drop skip (plain_bits c octets), length-plain c octets)
 found-few (Some rate) c skip kept octets few = omega (arith, few, length-map kept (λ bit. bit == 1))
 
 -- at the end with no inner code none
-last-few : (rate : Option Rate) (c : Configuration) (given : List ℕ) (blocks last : List WindowBlock) (piece : List Bool) → bits_at rate c given (blocks ++ last) ≡ bits_at rate c given blocks ++ piece
+last-few : (rate : Option Rate) (c : Configuration) (given : List ℕ) (blocks last : List WindowBlock)
+    (piece : List Bool) → bits_at rate c given (blocks ++ last) ≡ bits_at rate c given blocks ++ piece
     → length (kept_bits last) ≤ waiting_bits c c.batch + held_bits c → length piece ≤ most_bits_at rate c 0
-last-few None c given blocks last piece is few = omega (arith, ap length is, length-append (drop c.skip (plain_bits c given)) piece)
+last-few None c given blocks last piece is few =
+    omega (arith, ap length is, length-append (drop c.skip (plain_bits c given)) piece)
 last-few (Some rate) c given blocks last piece is few =
     omega (
       arith,
@@ -133,13 +174,17 @@ last-few (Some rate) c given blocks last piece is few =
 
 -- ---- what a receiver hands over
 
-items-after : (chosen : Option Chosen) (items : List ItemValue) → items_of (with_phase chosen [] ++ map Item items) ≡ items
+items-after : (chosen : Option Chosen) (items : List ItemValue)
+    → items_of (with_phase chosen [] ++ map Item items) ≡ items
 items-after chosen items =
-    items_of-append (with_phase chosen []) (map Item items) ∙ ap (λ l. l ++ items_of (map Item items)) (items_of-with_phase chosen []) ∙ items_of-items items
+    items_of-append (with_phase chosen []) (map Item items)
+    ∙ ap (λ l. l ++ items_of (map Item items)) (items_of-with_phase chosen []) ∙ items_of-items items
 
 -- with further octets
-pub stages-few : (s now : Stages) (given octets : List ℕ) (done more : List (Handed ItemValue)) → IsAccepted s.inner.config → now.inner.config ≡ s.inner.config
-    → (stood : StagesFor s given done) → StagesOn now (given ++ octets) (done ++ more) stood.handed → AreFew s.inner.config (length octets) (items_of more)
+pub stages-few : (s now : Stages) (given octets : List ℕ) (done more : List (Handed ItemValue))
+    → IsAccepted s.inner.config → now.inner.config ≡ s.inner.config
+    → (stood : StagesFor s given done) → StagesOn now (given ++ octets) (done ++ more) stood.handed
+    → AreFew s.inner.config (length octets) (items_of more)
 stages-few s now given octets done more ok same stood on =
     let c = s.inner.config in
     let there = on.0 in
@@ -155,13 +200,17 @@ stages-few s now given octets done more ok same stood on =
     let all : there.items ≡ stood.items ++ items_of more =
     sym (turn-items (phase_of there.handed) there.items (done ++ more) there.are) ∙ items_of-append done more
     ∙ ap (λ l. l ++ items_of more) (turn-items (phase_of stood.handed) stood.items done stood.are) in
-    let are = subst (λ (k : Configuration). AreItemsOf k (inner_bits k (given ++ octets) (items_of there.handed)) (due k (inner_bits k (given ++ octets) (items_of there.handed))) there.items)
+    let are = subst (λ (k : Configuration). AreItemsOf k (inner_bits k (given ++ octets) (items_of there.handed))
+    (due k (inner_bits k (given ++ octets) (items_of there.handed))) there.items)
     same there.are_items in
     let whole = subst (λ (l : List Bool). AreItemsOf c l (due c l) (stood.items ++ items_of more)) is
-    (subst (AreItemsOf c (inner_bits c (given ++ octets) (items_of there.handed)) (due c (inner_bits c (given ++ octets) (items_of there.handed)))) all are) in
+    (subst (AreItemsOf c (inner_bits c (given ++ octets) (items_of there.handed))
+    (due c (inner_bits c (given ++ octets) (items_of there.handed)))) all are) in
     let waits = on.1 ++ map Item there.waiting in
-    let due_all = subst (λ (k : Configuration). AreHandedDue k (given ++ octets) (there.handed ++ map Item there.waiting)) same there.are_due in
-    let due_on = subst (AreHandedDue c (given ++ octets)) (ap (λ l. l ++ map Item there.waiting) on.2 ∙ append_assoc stood.handed on.1 (map Item there.waiting)) due_all in
+    let due_all = subst (λ (k : Configuration). AreHandedDue k (given ++ octets)
+    (there.handed ++ map Item there.waiting)) same there.are_due in
+    let due_on = subst (AreHandedDue c (given ++ octets)) (ap (λ l. l ++ map Item there.waiting) on.2
+    ∙ append_assoc stood.handed on.1 (map Item there.waiting)) due_all in
     let kept : length (kept_bits further) ≤ length (kept_bits (items_of waits)) =
     omega (
       arith,
@@ -170,23 +219,39 @@ stages-few s now given octets done more ok same stood on =
       length-append (kept_bits further) (kept_bits (items_of (map Item there.waiting))),
     ) in
     let few = found-few c.inner c skip (kept_bits further) octets
-    (omega (arith, kept, waiting-more-few c given octets stood.handed stood.waiting waits stood.are_due due_on, stood.few, needed-few c.inner c)) in
+    (omega (
+      arith,
+      kept,
+      waiting-more-few c given octets stood.handed stood.waiting waits stood.are_due due_on,
+      stood.few,
+      needed-few c.inner c,
+    )) in
     let within : length (due c (bits ++ piece)) ≤ length (places (rules_of c) (bits ++ piece)) =
     omega (arith, length-due c (bits ++ piece), batches-le c.batch (length (places (rules_of c) (bits ++ piece)))) in
-    items-few c bits piece stood.items (items_of more) (due c (bits ++ piece)) (length octets) ok stood.are_items whole within few
+    items-few c bits piece stood.items (items_of more) (due c (bits ++ piece))
+    (length octets) ok stood.are_items whole within few
 
 -- at the end
-pub ends-few : {T : Type 0} (took : T → ItemValue → T → Type 0) (s : Stages) (bits_now : BitReceiving) (taker middle now : T) (room : ℕ) (phase : Option Chosen) (piece : List Bool) (totals : Totals)
-    → IsAccepted s.inner.config → IsOf s → IsRoomy s 0 room → Ends s.inner room phase piece totals → (p : Received took s.bits bits_now taker middle piece) (q : ReceivedLast took bits_now middle now)
+pub ends-few : {T : Type 0} (took : T → ItemValue → T → Type 0) (s : Stages) (bits_now : BitReceiving)
+    (taker middle now : T) (room : ℕ) (phase : Option Chosen) (piece : List Bool) (totals : Totals)
+    → IsAccepted s.inner.config → IsOf s → IsRoomy s 0 room → Ends s.inner room phase piece totals
+    → (p : Received took s.bits bits_now taker middle piece) (q : ReceivedLast took bits_now middle now)
     → (given : List ℕ) (done : List (Handed ItemValue)) → StagesFor s given done
     → AreFew s.inner.config 0 (items_of (with_phase phase [] ++ map Item (p.items ++ q.items)))
 ends-few took s bits_now taker middle now room phase piece totals ok of roomy ends p q given done stood =
     let c = s.inner.config in
     let bits = inner_bits c given (items_of stood.handed) in
     let e = ends given stood.handed stood.waiting (omega (arith, stood.few, roomy)) stood.inner stood.are_due in
-    let items = items-ended took s bits_now taker middle now piece of p q given done stood (ended s given done stood room phase piece totals roomy ends).few in
+    let items = items-ended took s bits_now taker middle now piece of p q given done stood
+    (ended s given done stood room phase piece totals roomy ends).few in
     let few = last-few c.inner c given (items_of stood.handed) (items_of e.last) piece
     (ap (inner_bits c given) (sym (items_of-append stood.handed e.last)) ∙ e.bits)
-    (omega (arith, waiting-last-few c given stood.handed stood.waiting e.last e.left stood.are_due e.are_handed, stood.few, needed-few c.inner c)) in
+    (omega (
+      arith,
+      waiting-last-few c given stood.handed stood.waiting e.last e.left stood.are_due e.are_handed,
+      stood.few,
+      needed-few c.inner c,
+    )) in
     subst (AreFew c 0) (sym (items-after phase (p.items ++ q.items)))
-    (items-few c bits piece stood.items (p.items ++ q.items) (places (rules_of c) (bits ++ piece)) 0 ok stood.are_items items (omega arith) few)
+    (items-few c bits piece stood.items (p.items ++ q.items)
+    (places (rules_of c) (bits ++ piece)) 0 ok stood.are_items items (omega arith) few)

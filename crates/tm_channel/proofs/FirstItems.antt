@@ -19,40 +19,59 @@ use Rattle.tm_channel.specs.Receive.{Receive, ReceiveFirst, ReceivePrefix}
 use Rattle.tm_channel.proofs.DueItems.{first-items}
 
 -- first items are items of as many places
-first-take : (c : Configuration) (bits : List Bool) (fs : List Found) (items : List ItemValue) → AreFirstItemsOf c bits fs items → AreItemsOf c bits (take (length items) fs) items
+first-take : (c : Configuration) (bits : List Bool) (fs : List Found) (items : List ItemValue)
+    → AreFirstItemsOf c bits fs items → AreItemsOf c bits (take (length items) fs) items
 first-take c bits fs [] are = tt
 first-take c bits [] (item ∷ items) are = absurd are
 first-take c bits (f ∷ fs) (item ∷ items) are = (are.0, first-take c bits fs items are.1)
 
 -- the bits of first blocks stand first
-bits-first : StayClosed → StandFirst → (rate : Option Rate) (c : Configuration) (phase : ℕ) (octets more : List ℕ) (first blocks : List WindowBlock) (left : ℕ)
+bits-first : StayClosed → StandFirst → (rate : Option Rate) (c : Configuration) (phase : ℕ) (octets more : List ℕ)
+    (first blocks : List WindowBlock) (left : ℕ)
     → FirstAt rate c phase octets first → BlocksAt rate c phase (octets ++ more) blocks left
     → (rest : List Bool) × (bits_at rate c (octets ++ more) blocks ≡ bits_at rate c octets first ++ rest)
-bits-first stay stand None c phase octets more first blocks left is all =
-    (drop (c.skip - length (plain_bits c octets)) (plain_bits c more), ap (drop c.skip) (plain-append c octets more) ∙ drop-split c.skip (plain_bits c octets) (plain_bits c more))
+bits-first stay stand None c phase octets more first blocks left is all = (
+  drop (c.skip - length (plain_bits c octets)) (plain_bits c more),
+  ap (drop c.skip) (plain-append c octets more)
+      ∙ drop-split c.skip (plain_bits c octets) (plain_bits c more),
+)
 bits-first stay stand (Some rate) c phase octets more first blocks left is all =
     let w = windows_of c rate in
     let longer = soft-more c phase octets more in
-    let split = stand w _ first blocks left (stay w (soft_octets c phase octets) _ first is) (subst (λ (l : List ℕ). AreBlocksIn w l blocks left) longer all) in
-    let is_one : ℕ → Bool = λ bit. bit == 1 in
-    (map is_one (kept_bits split.0), ap (λ l. map is_one (kept_bits l)) split.1 ∙ ap (map is_one) (kept-append first split.0) ∙ map-append is_one (kept_bits first) (kept_bits split.0))
+    let split = stand w _ first blocks left (stay w (soft_octets c phase octets) _ first is)
+    (subst (λ (l : List ℕ). AreBlocksIn w l blocks left) longer all) in
+    let is_one : ℕ → Bool = λ bit. bit == 1 in (
+      map is_one (kept_bits split.0),
+      ap (λ l. map is_one (kept_bits l)) split.1
+          ∙ ap (map is_one) (kept-append first split.0) ∙ map-append is_one (kept_bits first) (kept_bits split.0),
+    )
 
-pub first-stand : StayClosed → StandFirst → (c : Configuration) (phase : ℕ) (octets more : List ℕ) (first items : List ItemValue) → IsAccepted c
-    → ReceiveFirst c phase octets first → Receive c phase (octets ++ more) items → (rest : List ItemValue) × (items ≡ first ++ rest)
+pub first-stand : StayClosed → StandFirst → (c : Configuration) (phase : ℕ) (octets more : List ℕ)
+    (first items : List ItemValue) → IsAccepted c
+    → ReceiveFirst c phase octets first → Receive c phase (octets ++ more) items → (rest : List ItemValue)
+    × (items ≡ first ++ rest)
 first-stand stay stand c phase octets more first items ok prefix all =
     let bits = inner_bits c octets prefix.blocks in
-    let split = bits-first stay stand c.inner c phase octets more prefix.blocks all.inner.blocks all.inner.left prefix.are_first all.inner.are_blocks in
-    first-items c bits split.0 (length first) first items ok (first-take c bits (places (rules_of c) bits) first prefix.are_items)
+    let split = bits-first stay stand c.inner c phase octets more prefix.blocks all.inner.blocks all.inner.left
+    prefix.are_first all.inner.are_blocks in
+    first-items c bits split.0 (length first) first items ok
+    (first-take c bits (places (rules_of c) bits) first prefix.are_items)
     (subst (λ (l : List Bool). AreItems c l items) (all.inner.are_bits ∙ split.1) all.are_items)
 
 -- octets come to one list of bits
 abbrev pub OneList : Type 0
-OneList = (c : Configuration) (phase : ℕ) (octets : List ℕ) (bits others : List Bool) → Inner c phase octets bits → Inner c phase octets others → bits ≡ others
+OneList =
+    (c : Configuration) (phase : ℕ) (octets : List ℕ) (bits others : List Bool) → Inner c phase octets bits
+    → Inner c phase octets others → bits ≡ others
 
-pub prefix-stand : OneList → (c : Configuration) (phase : ℕ) (octets : List ℕ) (first items : List ItemValue) → IsAccepted c
-    → ReceivePrefix c phase octets first → Receive c phase octets items → (rest : List ItemValue) × (items ≡ first ++ rest)
+pub prefix-stand : OneList → (c : Configuration) (phase : ℕ) (octets : List ℕ) (first items : List ItemValue)
+    → IsAccepted c
+    → ReceivePrefix c phase octets first → Receive c phase octets items → (rest : List ItemValue)
+    × (items ≡ first ++ rest)
 prefix-stand one c phase octets first items ok prefix all =
     let bits = prefix.bits in
-    let same : all.bits ≡ bits ++ [] = one c phase octets all.bits bits all.inner prefix.inner ∙ sym (append-nil bits) in
-    first-items c bits [] (length first) first items ok (first-take c bits (places (rules_of c) bits) first prefix.are_items)
+    let same : all.bits ≡ bits ++ [] = one c phase octets all.bits bits all.inner prefix.inner
+    ∙ sym (append-nil bits) in
+    first-items c bits [] (length first) first items ok (first-take c bits
+    (places (rules_of c) bits) first prefix.are_items)
     (subst (λ (l : List Bool). AreItems c l items) same all.are_items)

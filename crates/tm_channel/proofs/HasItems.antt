@@ -21,7 +21,8 @@ as-answer : (e bound : ℕ) (column : List ℕ) (nearest : Nearest) → IsNeares
 as-answer e bound column (FixedWord c d) is = (Fixed d, c, is)
 as-answer e bound column BeyondWord is = (Beyond, [], is)
 
-has-answers : (c : Configuration) (columns : List (List ℕ)) → (answers : List Answer) × (words : List (List ℕ)) × AreNearest c columns answers words
+has-answers : (c : Configuration) (columns : List (List ℕ)) → (answers : List Answer) × (words : List (List ℕ))
+    × AreNearest c columns answers words
 has-answers c [] = ([], [], tt)
 has-answers c (column ∷ columns) =
     let nearest = has_nearest (correctable c.code) c.repair column in
@@ -36,7 +37,8 @@ has-item c f codeblock =
       record { place = refl; words = h.1; nearest = h.2; frame = refl },
     )
 
-has-items-of : (c : Configuration) (bits : List Bool) (fs : List Found) → (items : List ItemValue) × AreItemsOf c bits fs items
+has-items-of : (c : Configuration) (bits : List Bool) (fs : List Found) → (items : List ItemValue)
+    × AreItemsOf c bits fs items
 has-items-of c bits [] = ([], tt)
 has-items-of c bits (f ∷ fs) =
     let one = has-item c f (codeblock_at c bits f) in
@@ -45,9 +47,11 @@ has-items-of c bits (f ∷ fs) =
 
 -- octets come to bits
 abbrev pub HasBits : Type 0
-HasBits = (c : Configuration) (phase : ℕ) (octets : List ℕ) → IsAccepted c → (bits : List Bool) × Inner c phase octets bits
+HasBits =
+    (c : Configuration) (phase : ℕ) (octets : List ℕ) → IsAccepted c → (bits : List Bool) × Inner c phase octets bits
 
-pub has-items : HasBits → (c : Configuration) (phase : ℕ) (octets : List ℕ) → IsAccepted c → (items : List ItemValue) × Receive c phase octets items
+pub has-items : HasBits → (c : Configuration) (phase : ℕ) (octets : List ℕ) → IsAccepted c → (items : List ItemValue)
+    × Receive c phase octets items
 has-items exists c phase octets ok =
     let bits = exists c phase octets ok in
     let h = has-items-of c bits.0 (places (rules_of c) bits.0) in

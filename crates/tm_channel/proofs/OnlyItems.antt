@@ -31,13 +31,16 @@ found-same (Fixed d) b v w same = let it = found-fixed b w v d (sym same) in (sy
 found-same Beyond (Fixed d) v w same = absurd (let no : true ≡ false = ap is_beyond same in cc)
 found-same Beyond Beyond v w same = (refl, λ fixed. absurd (let no : false ≡ true = fixed in cc))
 
-words-same : (a : Answer) (answers : List Answer) (v w : List ℕ) (vs ws : List (List ℕ)) → (are_fixed (a ∷ []) ≡ true → v ≡ w) → (are_fixed answers ≡ true → vs ≡ ws)
+words-same : (a : Answer) (answers : List Answer) (v w : List ℕ) (vs ws : List (List ℕ))
+    → (are_fixed (a ∷ []) ≡ true → v ≡ w) → (are_fixed answers ≡ true → vs ≡ ws)
     → are_fixed (a ∷ answers) ≡ true → (v ∷ vs) ≡ (w ∷ ws)
 words-same (Fixed d) answers v w vs ws first more fixed = (λ i. first refl i ∷ more fixed i)
 words-same Beyond answers v w vs ws first more fixed = absurd (let no : false ≡ true = fixed in cc)
 
-answers-same : (c : Configuration) (columns : List (List ℕ)) (firsts seconds : List Answer) (vs ws : List (List ℕ)) → IsAccepted c
-    → AreShort columns → AreNearest c columns firsts vs → AreNearest c columns seconds ws → (firsts ≡ seconds) × (are_fixed firsts ≡ true → vs ≡ ws)
+answers-same : (c : Configuration) (columns : List (List ℕ)) (firsts seconds : List Answer) (vs ws : List (List ℕ))
+    → IsAccepted c
+    → AreShort columns → AreNearest c columns firsts vs → AreNearest c columns seconds ws → (firsts ≡ seconds)
+    × (are_fixed firsts ≡ true → vs ≡ ws)
 answers-same c [] [] [] [] [] ok short are others = (refl, λ _. refl)
 answers-same c (column ∷ columns) (a ∷ firsts) (b ∷ seconds) (v ∷ vs) (w ∷ ws) ok short are others =
     let one = found-same a b v w (nearest_only (correctable c.code) c.repair column (found a v)
@@ -54,19 +57,25 @@ frame-same c codeblock false vs ws same = refl
 item-same : (c : Configuration) (f : Found) (codeblock : List ℕ) (item other : ItemValue) → IsAccepted c
     → AreShort (received_columns c codeblock) → IsItem c f codeblock item → IsItem c f codeblock other → item ≡ other
 item-same c f codeblock item other ok short it that =
-    let same = answers-same c (received_columns c codeblock) item.answers other.answers it.words that.words ok short it.nearest that.nearest in
+    let same = answers-same c (received_columns c codeblock) item.answers other.answers it.words that.words ok short
+    it.nearest that.nearest in
     let frame : item.frame ≡ other.frame =
     it.frame ∙ frame-same c codeblock (are_fixed item.answers) it.words that.words same.1
-    ∙ ap (λ (answers : List Answer). cond (are_fixed answers) (frame_of c codeblock that.words) []) same.0 ∙ sym that.frame in
+    ∙ ap (λ (answers : List Answer). cond (are_fixed answers) (frame_of c codeblock that.words) []) same.0
+    ∙ sym that.frame in
     (λ i. record { found = (it.place ∙ sym that.place) i; answers = same.0 i; frame = frame i })
 
 -- ---- a word has at most 255 symbols
 
-short-from : (c : Configuration) (codeblock : List ℕ) (i n : ℕ) → length codeblock ≡ codeblock_length c → word_length c ≤ 255 → i + n ≤ c.depth
+short-from : (c : Configuration) (codeblock : List ℕ) (i n : ℕ) → length codeblock ≡ codeblock_length c
+    → word_length c ≤ 255 → i + n ≤ c.depth
     → AreShort (map (received_column c codeblock) (range_with_len i n))
 short-from c codeblock i zero long short within = tt
-short-from c codeblock i (suc n) long short within =
-    (let size = length-received c codeblock i long (omega arith) in omega (arith, size), short-from c codeblock (i + 1) n long short (omega arith))
+short-from c codeblock i (suc n) long short within = (
+  let size = length-received c codeblock i long (omega arith) in
+      omega (arith, size),
+  short-from c codeblock (i + 1) n long short (omega arith),
+)
 
 columns-short : (c : Configuration) (codeblock : List ℕ) → IsAccepted c → length codeblock ≡ codeblock_length c
     → AreShort (received_columns c codeblock)
@@ -78,19 +87,24 @@ columns-short c codeblock ok long = elim (coded c ok) [
 ]
 
 -- a codeblock stands whole after a place
-codeblock-whole : (c : Configuration) (bits : List Bool) (f : Found) → f.place + 32 + 8 * codeblock_length c ≤ length bits → length (codeblock_at c bits f) ≡ codeblock_length c
+codeblock-whole : (c : Configuration) (bits : List Bool) (f : Found)
+    → f.place + 32 + 8 * codeblock_length c ≤ length bits → length (codeblock_at c bits f) ≡ codeblock_length c
 codeblock-whole c bits f within =
     let rest = drop (f.place + 32) bits in
     length-codeblock_in c f.inverted (take (8 * codeblock_length c) rest)
     (length-take-le (8 * codeblock_length c) rest (omega (arith, length-drop (f.place + 32) bits)))
 
 pub items-same : (c : Configuration) (bits : List Bool) (fs : List Found) (items others : List ItemValue) → IsAccepted c
-    → AllByRecursion (λ f. f.place + 32 + 8 * codeblock_length c ≤ length bits) fs → AreItemsOf c bits fs items → AreItemsOf c bits fs others → items ≡ others
+    → AllByRecursion (λ f. f.place + 32 + 8 * codeblock_length c ≤ length bits) fs → AreItemsOf c bits fs items
+    → AreItemsOf c bits fs others → items ≡ others
 items-same c bits [] [] [] ok within are too = refl
 items-same c bits (f ∷ fs) (item ∷ items) (other ∷ others) ok within are too =
     let short = columns-short c (codeblock_at c bits f) ok (codeblock-whole c bits f within.0) in
-    (λ i. item-same c f (codeblock_at c bits f) item other ok short are.0 too.0 i ∷ items-same c bits fs items others ok within.1 are.1 too.1 i)
+    (λ i. item-same c f (codeblock_at c bits f) item other ok short are.0 too.0 i
+    ∷ items-same c bits fs items others ok within.1 are.1 too.1 i)
 items-same c bits fs items others ok within are too = absurd (assumption)
 
-pub items-only : (c : Configuration) (bits : List Bool) (items others : List ItemValue) → IsAccepted c → AreItems c bits items → AreItems c bits others → items ≡ others
-items-only c bits items others ok are too = items-same c bits (places (rules_of c) bits) items others ok (places-end (rules_of c) bits) are too
+pub items-only : (c : Configuration) (bits : List Bool) (items others : List ItemValue) → IsAccepted c
+    → AreItems c bits items → AreItems c bits others → items ≡ others
+items-only c bits items others ok are too =
+    items-same c bits (places (rules_of c) bits) items others ok (places-end (rules_of c) bits) are too

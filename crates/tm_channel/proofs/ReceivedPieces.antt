@@ -16,19 +16,22 @@ use Rattle.tm_channel.specs.OctetReceiving.{BitReceiving, BitReceiverStandsFor, 
 use Rattle.tm_channel.proofs.Pieces.{goes-then, due-then, first-due-then, first-due-all}
 
 -- no bits
-pub received-none : {T : Type 0} (took : T → ItemValue → T → Type 0) (s : BitReceiving) (taker : T) → Received took s s taker taker []
+pub received-none : {T : Type 0} (took : T → ItemValue → T → Type 0) (s : BitReceiving) (taker : T)
+    → Received took s s taker taker []
 received-none took s taker = record {
   config = refl;
   stands = λ bits few stood. subst (BitReceiverStandsFor s) (sym (append-nil bits)) stood;
   items = [];
   handed = refl;
   due = λ bits few stood. subst (λ (fs : List Found). AreItemsOf s.batch.config (bits ++ []) fs [])
-      (sym (ap (λ (l : List Bool). beyond (due s.batch.config bits) (due s.batch.config l)) (append-nil bits) ∙ drop-length (due s.batch.config bits))) tt;
+      (sym (ap (λ (l : List Bool). beyond (due s.batch.config bits) (due s.batch.config l)) (append-nil bits)
+      ∙ drop-length (due s.batch.config bits))) tt;
 }
 
 -- bits were given to a receiver, of which its search reported nothing
 abbrev pub Pushes : BitReceiving → BitReceiving → List Bool → Type 0
-Pushes a b piece = (handed : ℕ) (bits : List Bool) → length (bits ++ piece) < 2 ^ 63 → Holds a.search a.room a.batch handed bits
+Pushes a b piece =
+    (handed : ℕ) (bits : List Bool) → length (bits ++ piece) < 2 ^ 63 → Holds a.search a.room a.batch handed bits
     → HoldsMore b.search b.room b.batch handed bits piece
 
 held-then : (a b : BitReceiving) (piece bits : List Bool) → b.batch.config ≡ a.batch.config → Pushes a b piece
@@ -39,7 +42,8 @@ held-then a b piece bits config pushes few stood =
     (pushes (due_count a.batch.config bits) bits few stood)
 
 -- and then the codeblocks that are whole with them were kept, and each batch that was full was handed over
-pub received-turn : {T : Type 0} (took : T → ItemValue → T → Type 0) (a b c : BitReceiving) (taker now : T) (piece : List Bool) (items : List ItemValue)
+pub received-turn : {T : Type 0} (took : T → ItemValue → T → Type 0) (a b c : BitReceiving) (taker now : T)
+    (piece : List Bool) (items : List ItemValue)
     → b.batch.config ≡ a.batch.config → Pushes a b piece → c.batch.config ≡ b.batch.config
     → Settles b c items → HandedOver took taker items now → Received took a c taker now piece
 received-turn took a b c taker now piece items config pushes same settles handed = record {
@@ -52,7 +56,8 @@ received-turn took a b c taker now piece items config pushes same settles handed
 }
 
 -- at an item of which the taker failed
-pub part-turn : {T : Type 0} (took broke : T → ItemValue → T → Type 0) (a b c : BitReceiving) (taker now : T) (piece : List Bool) (tried : List ItemValue)
+pub part-turn : {T : Type 0} (took broke : T → ItemValue → T → Type 0) (a b c : BitReceiving) (taker now : T)
+    (piece : List Bool) (tried : List ItemValue)
     → b.batch.config ≡ a.batch.config → Pushes a b piece → c.batch.config ≡ b.batch.config
     → SettlesPart b tried → HandedPart took broke taker tried now → ReceivedPart took broke a c taker now piece
 part-turn took broke a b c taker now piece tried config pushes same settles handed = record {
@@ -64,8 +69,10 @@ part-turn took broke a b c taker now piece tried config pushes same settles hand
 }
 
 -- bits, and then others
-pub received-then : {T : Type 0} (took : T → ItemValue → T → Type 0) (a b c : BitReceiving) (taker middle now : T) (bits more : List Bool)
-    → Received took a b taker middle bits → Received took b c middle now more → Received took a c taker now (bits ++ more)
+pub received-then : {T : Type 0} (took : T → ItemValue → T → Type 0) (a b c : BitReceiving) (taker middle now : T)
+    (bits more : List Bool)
+    → Received took a b taker middle bits → Received took b c middle now more
+    → Received took a c taker now (bits ++ more)
 received-then took a b c taker middle now bits more p q = record {
   config = q.config ∙ p.config;
   stands = goes-then (BitReceiverStandsFor a) (BitReceiverStandsFor b) (BitReceiverStandsFor c)
@@ -78,8 +85,10 @@ received-then took a b c taker middle now bits more p q = record {
 }
 
 -- bits, and then others at which the taker fails
-pub part-then : {T : Type 0} (took broke : T → ItemValue → T → Type 0) (a b c : BitReceiving) (taker middle now : T) (bits more : List Bool)
-    → Received took a b taker middle bits → ReceivedPart took broke b c middle now more → ReceivedPart took broke a c taker now (bits ++ more)
+pub part-then : {T : Type 0} (took broke : T → ItemValue → T → Type 0) (a b c : BitReceiving) (taker middle now : T)
+    (bits more : List Bool)
+    → Received took a b taker middle bits → ReceivedPart took broke b c middle now more
+    → ReceivedPart took broke a c taker now (bits ++ more)
 part-then took broke a b c taker middle now bits more p q = record {
   config = q.config ∙ p.config;
   tried = p.items ++ q.tried;
@@ -90,7 +99,8 @@ part-then took broke a b c taker middle now bits more p q = record {
 }
 
 -- bits at which the taker fails, with others after them
-pub part-all : {T : Type 0} (took broke : T → ItemValue → T → Type 0) (a b : BitReceiving) (taker now : T) (bits more : List Bool)
+pub part-all : {T : Type 0} (took broke : T → ItemValue → T → Type 0) (a b : BitReceiving) (taker now : T)
+    (bits more : List Bool)
     → ReceivedPart took broke a b taker now bits → ReceivedPart took broke a b taker now (bits ++ more)
 part-all took broke a b taker now bits more p = record {
   config = p.config;

@@ -36,7 +36,8 @@ is_found (FixedWord c d) = true
 is_found BeyondWord = false
 
 -- an answer that says that this word is nearest
-pub found-fixed : (answer : Answer) (word sent : List ℕ) (d : ℕ) → found answer word ≡ FixedWord sent d → (answer ≡ Fixed d) × (word ≡ sent)
+pub found-fixed : (answer : Answer) (word sent : List ℕ) (d : ℕ) → found answer word ≡ FixedWord sent d
+    → (answer ≡ Fixed d) × (word ≡ sent)
 unfolding distance_in word_in is_found
 found-fixed (Fixed e) word sent d same = (ap (λ n. Fixed (distance_in n)) same, ap word_in same)
 found-fixed Beyond word sent d same = absurd (let no : false ≡ true = ap is_found same in cc)
@@ -51,15 +52,20 @@ word-is c column sent word answer ok short code within nearest =
     (nearest_only (correctable c.code) c.repair column (found answer word)
     (FixedWord sent (distance sent column)) ok.repair short nearest (code, refl, within))
 
-repaired : (c : Configuration) (columns others : List (List ℕ)) (answers : List Answer) (words : List (List ℕ)) → IsAccepted c
+repaired : (c : Configuration) (columns others : List (List ℕ)) (answers : List Answer) (words : List (List ℕ))
+    → IsAccepted c
     → AreCodewords c columns others → AreNearest c columns answers words → AreRepaired c.repair columns others answers
 repaired c [] [] [] [] ok codes nearest = tt
-repaired c (column ∷ columns) (sent ∷ others) (answer ∷ answers) (word ∷ words) ok codes nearest =
-    ((λ within. (word-is c column sent word answer ok codes.0 codes.1 within nearest.0).0), repaired c columns others answers words ok codes.2 nearest.1)
+repaired c (column ∷ columns) (sent ∷ others) (answer ∷ answers) (word ∷ words) ok codes nearest = (
+  (λ within. (word-is c column sent word answer ok codes.0 codes.1 within nearest.0).0),
+  repaired c columns others answers words ok codes.2 nearest.1,
+)
 repaired c columns others answers words ok codes nearest = absurd (assumption)
 
-words-are : (c : Configuration) (columns others : List (List ℕ)) (answers : List Answer) (words : List (List ℕ)) → IsAccepted c
-    → AreCodewords c columns others → AreWithin c.repair columns others → AreNearest c columns answers words → (are_fixed answers ≡ true) × (words ≡ others)
+words-are : (c : Configuration) (columns others : List (List ℕ)) (answers : List Answer) (words : List (List ℕ))
+    → IsAccepted c
+    → AreCodewords c columns others → AreWithin c.repair columns others → AreNearest c columns answers words
+    → (are_fixed answers ≡ true) × (words ≡ others)
 words-are c [] [] [] [] ok codes within nearest = (refl, refl)
 words-are c (column ∷ columns) (sent ∷ others) (answer ∷ answers) (word ∷ words) ok codes within nearest =
     let one = word-is c column sent word answer ok codes.0 codes.1 within.0 nearest.0 in
@@ -70,50 +76,72 @@ words-are c columns others answers words ok codes within nearest = absurd (assum
 -- ---- codeblocks
 
 -- the codeblock after an entry's place is the entry's block
-codeblock-is : (c : Configuration) (at : ℕ) (before : Option Before) (e : Entry) (prefix rest : List Bool) → length prefix ≡ at → length e.marker ≡ 32 → length e.block ≡ 8 * codeblock_length c
-    → codeblock_at c (prefix ++ (e.gap ++ (e.marker ++ (e.block ++ rest)))) (place_of (rules_of c) at before e) ≡ codeblock_in c (place_of (rules_of c) at before e).inverted e.block
+codeblock-is : (c : Configuration) (at : ℕ) (before : Option Before) (e : Entry) (prefix rest : List Bool)
+    → length prefix ≡ at → length e.marker ≡ 32 → length e.block ≡ 8 * codeblock_length c
+    → codeblock_at c (prefix ++ (e.gap ++ (e.marker ++ (e.block ++ rest)))) (place_of (rules_of c) at before e)
+    ≡ codeblock_in c (place_of (rules_of c) at before e).inverted e.block
 codeblock-is c at before e prefix rest long mark size =
     ap (codeblock_in c (place_of (rules_of c) at before e).inverted)
     ((λ i. take (8 * codeblock_length c) (drop (where_is i) (whole i)))
-    ∙ ap (take (8 * codeblock_length c)) (drop_at (prefix ++ (e.gap ++ e.marker)) (e.block ++ rest) (at + length e.gap + 32) (omega (arith, length-append prefix (e.gap ++ e.marker), length-append e.gap e.marker)))
+    ∙ ap (take (8 * codeblock_length c)) (drop_at (prefix ++ (e.gap ++ e.marker)) (e.block ++ rest)
+    (at + length e.gap + 32)
+    (omega (arith, length-append prefix (e.gap ++ e.marker), length-append e.gap e.marker)))
     ∙ take_at e.block rest (8 * codeblock_length c) size)
   where
     where_is : (place_of (rules_of c) at before e).place + 32 ≡ at + length e.gap + 32
     where_is = ap (λ n. n + 32) (place_of-place (rules_of c) at before e)
 
     whole : prefix ++ (e.gap ++ (e.marker ++ (e.block ++ rest))) ≡ (prefix ++ (e.gap ++ e.marker)) ++ (e.block ++ rest)
-    whole = ap (λ l. prefix ++ l) (sym (append_assoc e.gap e.marker (e.block ++ rest))) ∙ sym (append_assoc prefix (e.gap ++ e.marker) (e.block ++ rest))
+    whole =
+        ap (λ l. prefix ++ l) (sym (append_assoc e.gap e.marker (e.block ++ rest)))
+        ∙ sym (append_assoc prefix (e.gap ++ e.marker) (e.block ++ rest))
 
 -- what follows an entry, and where
-next-prefix : (c : Configuration) (at : ℕ) (before : Option Before) (e : Entry) (prefix rest : List Bool) → length prefix ≡ at → length e.marker ≡ 32 → length e.block ≡ 8 * codeblock_length c
+next-prefix : (c : Configuration) (at : ℕ) (before : Option Before) (e : Entry) (prefix rest : List Bool)
+    → length prefix ≡ at → length e.marker ≡ 32 → length e.block ≡ 8 * codeblock_length c
     → (prefix ++ (e.gap ++ (e.marker ++ (e.block ++ rest))) ≡ (prefix ++ (e.gap ++ (e.marker ++ e.block))) ++ rest)
-    × (length (prefix ++ (e.gap ++ (e.marker ++ e.block))) ≡ (place_of (rules_of c) at before e).place + 32 + 8 * codeblock_length c)
+    × (length (prefix ++ (e.gap ++ (e.marker ++ e.block))) ≡
+    (place_of (rules_of c) at before e).place + 32 + 8 * codeblock_length c)
 next-prefix c at before e prefix rest long mark size = (
-  ap (λ l. prefix ++ l) (ap (λ l. e.gap ++ l) (sym (append_assoc e.marker e.block rest)) ∙ sym (append_assoc e.gap (e.marker ++ e.block) rest))
+  ap (λ l. prefix ++ l) (ap (λ l. e.gap ++ l) (sym (append_assoc e.marker e.block rest))
+      ∙ sym (append_assoc e.gap (e.marker ++ e.block) rest))
       ∙ sym (append_assoc prefix (e.gap ++ (e.marker ++ e.block)) rest),
-  omega (arith, place_of-place (rules_of c) at before e, length-append prefix (e.gap ++ (e.marker ++ e.block)), length-append e.gap (e.marker ++ e.block), length-append e.marker e.block),
+  omega (
+    arith,
+    place_of-place (rules_of c) at before e,
+    length-append prefix (e.gap ++ (e.marker ++ e.block)),
+    length-append e.gap (e.marker ++ e.block),
+    length-append e.marker e.block,
+  ),
 )
 
 -- what is said of the codeblock that was received of a frame
-as_sent-one : (c : Configuration) (f : Found) (u : SentUnit) (codeblock : List ℕ) (item : ItemValue) → IsAccepted c → IsFrame c u.frame → length u.received.block ≡ 8 * codeblock_length c
+as_sent-one : (c : Configuration) (f : Found) (u : SentUnit) (codeblock : List ℕ) (item : ItemValue) → IsAccepted c
+    → IsFrame c u.frame → length u.received.block ≡ 8 * codeblock_length c
     → codeblock ≡ unit_codeblock c f u → IsItem c f codeblock item → IsAsSent c f u item
 as_sent-one c f u codeblock item ok is size same it =
     let received = unit_codeblock c f u in
     let codes = are_codewords c u.frame received ok is (length-codeblock_in c f.inverted u.received.block size) in
-    let nearest : AreNearest c (received_columns c received) item.answers it.words = subst (λ (b : List ℕ). AreNearest c (received_columns c b) item.answers it.words) same it.nearest in
+    let nearest : AreNearest c (received_columns c received) item.answers it.words =
+    subst (λ (b : List ℕ). AreNearest c (received_columns c b) item.answers it.words) same it.nearest in
     record {
       place = it.place;
-      answers = repaired c (received_columns c received) (sent_columns c u.frame) item.answers it.words ok codes nearest;
+      answers =
+          repaired c (received_columns c received) (sent_columns c u.frame) item.answers it.words ok codes nearest;
       frame = λ near.
-          let all = words-are c (received_columns c received) (sent_columns c u.frame) item.answers it.words ok codes near.columns nearest in
-          it.frame ∙ (λ i. cond (all.0 i) (frame_of c (same i) (all.1 i)) []) ∙ frame-restored c u.frame received ok is near.uncoded;
+          let all = words-are c (received_columns c received)
+          (sent_columns c u.frame) item.answers it.words ok codes near.columns nearest in
+          it.frame ∙ (λ i. cond (all.0 i) (frame_of c (same i) (all.1 i)) [])
+          ∙ frame-restored c u.frame received ok is near.uncoded;
     }
 
 -- ---- units
 
-as_sent : (c : Configuration) (at : ℕ) (before : Option Before) (units : List SentUnit) (prefix last : List Bool) (items : List ItemValue) → IsAccepted c → length prefix ≡ at
+as_sent : (c : Configuration) (at : ℕ) (before : Option Before) (units : List SentUnit) (prefix last : List Bool)
+    (items : List ItemValue) → IsAccepted c → length prefix ≡ at
     → AreEntries (rules_of c) at before (entries_of units) last → AllByRecursion (λ u. IsFrame c u.frame) units
-    → AreItemsOf c (prefix ++ joined (entries_of units) last) (places_of (rules_of c) at before (entries_of units)) items
+    → AreItemsOf c (prefix ++ joined (entries_of units) last)
+    (places_of (rules_of c) at before (entries_of units)) items
     → AreAsSent c (places_of (rules_of c) at before (entries_of units)) units items
 as_sent c at before [] prefix last [] ok long are frames items = tt
 as_sent c at before [] prefix last (item ∷ more) ok long are frames items = absurd items
@@ -125,19 +153,24 @@ as_sent c at before (u ∷ units) prefix last (item ∷ more) ok long are frames
     let one = are.0 in
     let next = next-prefix c at before e prefix rest long one.marker one.block in
     let after = f.place + 32 + 8 * codeblock_length c in (
-      as_sent-one c f u (codeblock_at c (prefix ++ (e.gap ++ (e.marker ++ (e.block ++ rest)))) f) item ok frames.0 one.block
+      as_sent-one c f u (codeblock_at c (prefix ++ (e.gap ++ (e.marker ++ (e.block ++ rest)))) f) item ok frames.0
+          one.block
           (codeblock-is c at before e prefix rest long one.marker one.block) items.0,
-      as_sent c after (Some (before_next before f)) units (prefix ++ (e.gap ++ (e.marker ++ e.block))) last more ok next.1 are.1 frames.1
-          (subst (λ (b : List Bool). AreItemsOf c b (places_of (rules_of c) after (Some (before_next before f)) (entries_of units)) more) next.0 items.1),
+      as_sent c after (Some (before_next before f)) units (prefix ++ (e.gap ++ (e.marker ++ e.block))) last more ok
+          next.1 are.1 frames.1
+          (subst (λ (b : List Bool). AreItemsOf c b (places_of (rules_of c) after (Some (before_next before f))
+          (entries_of units)) more) next.0 items.1),
     )
 
 -- the items of what was sent, however it was disturbed
-pub items-as_sent : (c : Configuration) (bits : List Bool) (units : List SentUnit) (last : List Bool) (items : List ItemValue) → IsAccepted c
+pub items-as_sent : (c : Configuration) (bits : List Bool) (units : List SentUnit) (last : List Bool)
+    (items : List ItemValue) → IsAccepted c
     → IsSent c bits units last → AreItems c bits items → AreAsSent c (unit_places c units) units items
 items-as_sent c bits units last items ok sent are =
     as_sent c 0 None units [] last items ok refl sent.marked.are_entries sent.frames
     (subst (λ (b : List Bool). AreItemsOf c b (unit_places c units) items) sent.marked.parts
-    (subst (λ (fs : List Found). AreItemsOf c bits fs items) (places-marked (rules_of c) bits (entries_of units) last sent.marked) are))
+    (subst (λ (fs : List Found). AreItemsOf c bits fs items)
+    (places-marked (rules_of c) bits (entries_of units) last sent.marked) are))
 
 -- where every codeblock is near, the frames are those that were sent
 pub frames-sent : (c : Configuration) (fs : List Found) (units : List SentUnit) (items : List ItemValue)

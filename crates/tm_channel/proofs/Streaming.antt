@@ -15,24 +15,30 @@ use Rattle.tm_channel.specs.Receiving.{StoredCodeblock, stored_of, stored_at, be
 use Rattle.tm_channel.proofs.Batches.{batches-le, batches-more, full, length-due, not_full}
 
 -- ---- codeblocks stay as the bits go on
-block-same : (c : Configuration) (bits more : List Bool) (f : Found) → f.place + 32 + (rules_of c).block_bits ≤ length bits → stored_at c (bits ++ more) f ≡ stored_at c bits f
+block-same : (c : Configuration) (bits more : List Bool) (f : Found)
+    → f.place + 32 + (rules_of c).block_bits ≤ length bits → stored_at c (bits ++ more) f ≡ stored_at c bits f
 block-same c bits more f ends =
-    let far : take (rules_of c).block_bits (drop (f.place + 32) (bits ++ more)) ≡ take (rules_of c).block_bits (drop (f.place + 32) bits) =
+    let far : take (rules_of c).block_bits (drop (f.place + 32) (bits ++ more))
+    ≡ take (rules_of c).block_bits (drop (f.place + 32) bits) =
     ap (take (rules_of c).block_bits) (drop-append-le (f.place + 32) bits more (omega arith))
-    ∙ take-append-le (rules_of c).block_bits (drop (f.place + 32) bits) more (omega (arith, length-drop (f.place + 32) bits)) in
+    ∙ take-append-le (rules_of c).block_bits (drop (f.place + 32) bits) more
+    (omega (arith, length-drop (f.place + 32) bits)) in
     λ i. stored_of c f (far i)
 
-pub stored-same : (c : Configuration) (bits more : List Bool) (fs : List Found) → EndBefore (rules_of c) (length bits) fs → map (stored_at c (bits ++ more)) fs ≡ map (stored_at c bits) fs
+pub stored-same : (c : Configuration) (bits more : List Bool) (fs : List Found)
+    → EndBefore (rules_of c) (length bits) fs → map (stored_at c (bits ++ more)) fs ≡ map (stored_at c bits) fs
 stored-same c bits more [] ends = refl
 stored-same c bits more (f ∷ fs) ends = λ i. block-same c bits more f ends.0 i ∷ stored-same c bits more fs ends.1 i
 
-drop-all : {A : Type 0} (P : A → Type 0) (count : ℕ) (xs : List A) → AllByRecursion P xs → AllByRecursion P (drop count xs)
+drop-all : {A : Type 0} (P : A → Type 0) (count : ℕ) (xs : List A) → AllByRecursion P xs
+    → AllByRecursion P (drop count xs)
 drop-all P zero xs all = all
 drop-all P (suc count) [] all = tt
 drop-all P (suc count) (x ∷ xs) all = drop-all P count xs all.1
 
 -- a codeblock that ends with the bits
-pub stored-last : (c : Configuration) (bits prefix part : List Bool) (f : Found) → bits ≡ prefix ++ part → length part ≡ (rules_of c).block_bits → f.place + 32 + (rules_of c).block_bits ≡ length bits
+pub stored-last : (c : Configuration) (bits prefix part : List Bool) (f : Found) → bits ≡ prefix ++ part
+    → length part ≡ (rules_of c).block_bits → f.place + 32 + (rules_of c).block_bits ≡ length bits
     → stored_at c bits f ≡ stored_of c f part
 stored-last c bits prefix part f parts size ends =
     let long : length prefix ≡ f.place + 32 = omega (arith, ap length parts, length-append prefix part) in
@@ -43,7 +49,8 @@ stored-last c bits prefix part f parts size ends =
     λ i. stored_of c f (is i)
 
 -- ---- items of stored codeblocks are items of the bits
-pub items-of : (c : Configuration) (bits : List Bool) (fs : List Found) (items : List ItemValue) → AreItemsFor c (map (stored_at c bits) fs) items → AreItemsOf c bits fs items
+pub items-of : (c : Configuration) (bits : List Bool) (fs : List Found) (items : List ItemValue)
+    → AreItemsFor c (map (stored_at c bits) fs) items → AreItemsOf c bits fs items
 items-of c bits [] [] are = tt
 items-of c bits [] (item ∷ items) are = absurd are
 items-of c bits (f ∷ fs) [] are = absurd are
@@ -56,21 +63,24 @@ take-map' f (suc count) (x ∷ xs) = ap (λ l. f x ∷ l) (take-map' f count xs)
 
 -- the codeblocks that wait stay as the bits go on
 stored-longer : (c : Configuration) (bits more : List Bool) (handed : ℕ)
-    → map (stored_at c (bits ++ more)) (drop handed (places (rules_of c) bits)) ≡ map (stored_at c bits) (drop handed (places (rules_of c) bits))
+    → map (stored_at c (bits ++ more)) (drop handed (places (rules_of c) bits))
+    ≡ map (stored_at c bits) (drop handed (places (rules_of c) bits))
 stored-longer c bits more handed =
     stored-same c bits more (drop handed (places (rules_of c) bits))
     (drop-all (λ (f : Found). f.place + 32 + (rules_of c).block_bits ≤ length bits) handed (places (rules_of c) bits)
     (places-end (rules_of c) bits))
 
 -- the places of bits are the first ones of more bits
-first-places : (c : Configuration) (bits more : List Bool) → take (length (places (rules_of c) bits)) (places (rules_of c) (bits ++ more)) ≡ places (rules_of c) bits
+first-places : (c : Configuration) (bits more : List Bool) → take (length (places (rules_of c) bits))
+    (places (rules_of c) (bits ++ more)) ≡ places (rules_of c) bits
 first-places c bits more =
     let fs : List Found = places (rules_of c) bits in
     let go = places-append (rules_of c) bits more in
     ap (take (length fs)) go.is ∙ take-append-le (length fs) fs go.rest (omega arith) ∙ take-length fs
 
 -- ---- one place is reported
-first-reported : (c : Configuration) (bits : List Bool) (reported rest : List Found) (f : Found) → places (rules_of c) bits ≡ reported ++ f ∷ rest
+first-reported : (c : Configuration) (bits : List Bool) (reported rest : List Found) (f : Found)
+    → places (rules_of c) bits ≡ reported ++ f ∷ rest
     → take (length (reported ++ f ∷ [])) (places (rules_of c) bits) ≡ reported ++ f ∷ []
 first-reported c bits reported rest f tells =
     let prefix : List Found = reported ++ f ∷ [] in
@@ -84,7 +94,8 @@ pub reported-stored : (c : Configuration) (stands stands' : List Bool → List F
     → stored_at c bits f ≡ stored_of c f part → stored' ≡ stored ++ stored_of c f part ∷ [] → now ≡ []
     → stands' bits (reported ++ f ∷ []) → Holding c stands' now stored' handed bits (reported ++ f ∷ [])
 reported-stored c stands stands' old part now stored stored' handed bits reported rest f h tells one is none next =
-    let after : drop handed (reported ++ f ∷ []) ≡ drop handed reported ++ f ∷ [] = drop-append-le handed reported (f ∷ []) h.within in
+    let after : drop handed (reported ++ f ∷ []) ≡ drop handed reported ++ f ∷ [] =
+    drop-append-le handed reported (f ∷ []) h.within in
     let size = length-append reported (f ∷ []) in
     let below = h.within in
     record {
@@ -107,24 +118,29 @@ first-of c bits (suc count) [] (item ∷ items) are = absurd are
 first-of c bits (suc count) (f ∷ fs) (item ∷ items) are = (are.0, first-of c bits count fs items are.1)
 
 -- ---- items of a prefix of the places
-pub first-longer : (c : Configuration) (bits : List Bool) (fs gs : List Found) (items : List ItemValue) → AreFirstItemsOf c bits fs items → AreFirstItemsOf c bits (fs ++ gs) items
+pub first-longer : (c : Configuration) (bits : List Bool) (fs gs : List Found) (items : List ItemValue)
+    → AreFirstItemsOf c bits fs items → AreFirstItemsOf c bits (fs ++ gs) items
 first-longer c bits fs gs [] are = tt
 first-longer c bits [] gs (item ∷ items) are = absurd are
 first-longer c bits (f ∷ fs) gs (item ∷ items) are = (are.0, first-longer c bits fs gs items are.1)
 
-pub items-append : (c : Configuration) (bits : List Bool) (fs gs : List Found) (items others : List ItemValue) → AreItemsOf c bits fs items → AreItemsOf c bits gs others
+pub items-append : (c : Configuration) (bits : List Bool) (fs gs : List Found) (items others : List ItemValue)
+    → AreItemsOf c bits fs items → AreItemsOf c bits gs others
     → AreItemsOf c bits (fs ++ gs) (items ++ others)
 items-append c bits [] gs [] others are also = also
 items-append c bits [] gs (item ∷ items) others are also = absurd are
 items-append c bits (f ∷ fs) gs [] others are also = absurd are
-items-append c bits (f ∷ fs) gs (item ∷ items) others are also = (are.0, items-append c bits fs gs items others are.1 also)
+items-append c bits (f ∷ fs) gs (item ∷ items) others are also =
+    (are.0, items-append c bits fs gs items others are.1 also)
 
-pub first-append : (c : Configuration) (bits : List Bool) (fs gs : List Found) (items others : List ItemValue) → AreItemsOf c bits fs items → AreFirstItemsOf c bits gs others
+pub first-append : (c : Configuration) (bits : List Bool) (fs gs : List Found) (items others : List ItemValue)
+    → AreItemsOf c bits fs items → AreFirstItemsOf c bits gs others
     → AreFirstItemsOf c bits (fs ++ gs) (items ++ others)
 first-append c bits [] gs [] others are also = also
 first-append c bits [] gs (item ∷ items) others are also = absurd are
 first-append c bits (f ∷ fs) gs [] others are also = absurd are
-first-append c bits (f ∷ fs) gs (item ∷ items) others are also = (are.0, first-append c bits fs gs items others are.1 also)
+first-append c bits (f ∷ fs) gs (item ∷ items) others are also =
+    (are.0, first-append c bits fs gs items others are.1 also)
 
 -- ---- a batch that is full, or not
 
@@ -170,7 +186,8 @@ turn-stands c stands part stored stored' reported now bits items h (inr (many, n
     }
 
 -- the places reported that are due, before and after those that wait
-due-before : (c : Configuration) (reported : List Found) (f : Found) → take (due_count_of c reported) (reported ++ f ∷ []) ≡ due_of c reported
+due-before : (c : Configuration) (reported : List Found) (f : Found)
+    → take (due_count_of c reported) (reported ++ f ∷ []) ≡ due_of c reported
 due-before c reported f =
     take-append-le (due_count_of c reported) reported (f ∷ []) (batches-le c.batch (length reported))
 
@@ -179,10 +196,13 @@ due-split : (c : Configuration) (reported : List Found) (f : Found) (count : ℕ
     ≡ drop count (due_of c reported) ++ drop (due_count_of c reported) (reported ++ f ∷ [])
 due-split c reported f count least =
     let now : List Found = reported ++ f ∷ [] in
-    let long : length (due_of c reported) ≡ due_count_of c reported = length-take-le (due_count_of c reported) reported (batches-le c.batch (length reported)) in
+    let long : length (due_of c reported) ≡ due_count_of c reported =
+    length-take-le (due_count_of c reported) reported (batches-le c.batch (length reported)) in
     let split : now ≡ due_of c reported ++ drop (due_count_of c reported) now =
-    sym (take-append-drop (due_count_of c reported) now) ∙ ap (λ l. l ++ drop (due_count_of c reported) now) (due-before c reported f) in
-    ap (drop count) split ∙ drop-append-le count (due_of c reported) (drop (due_count_of c reported) now) (omega (arith, long, least))
+    sym (take-append-drop (due_count_of c reported) now) ∙ ap (λ l. l ++ drop (due_count_of c reported) now)
+    (due-before c reported f) in
+    ap (drop count) split ∙ drop-append-le count (due_of c reported) (drop (due_count_of c reported) now)
+    (omega (arith, long, least))
 
 -- the items handed over are those of the places reported that are due, but for so many of the first
 pub turn-items : (c : Configuration) (stands : List Bool → List Found
@@ -205,9 +225,11 @@ turn-items c stands part stored stored' reported f bits count items others h (in
     let wait = waiting-count c stands part stored (due_count_of c reported) bits now h in
     let whole = full c.batch (length reported) (length now) h.within (sym wait ∙ many) in
     let all : due_of c now ≡ now = ap (λ n. take n now) whole ∙ take-length now in
-    subst (λ (fs : List Found). AreItemsOf c bits fs (items ++ others)) (sym (ap (drop count) all ∙ due-split c reported f count least))
+    subst (λ (fs : List Found). AreItemsOf c bits fs (items ++ others))
+    (sym (ap (drop count) all ∙ due-split c reported f count least))
     (items-append c bits (drop count (due_of c reported)) (drop (due_count_of c reported) now) items others were
-    (items-of c bits (drop (due_count_of c reported) now) others (subst (λ (ks : List StoredCodeblock). AreItemsFor c ks others) h.waiting are)))
+    (items-of c bits (drop (due_count_of c reported) now) others
+    (subst (λ (ks : List StoredCodeblock). AreItemsFor c ks others) h.waiting are)))
 
 take-take : (a c : ℕ) (xs : List Found) → a ≤ c → take a (take c xs) ≡ take a xs
 take-take zero c xs le = refl
@@ -216,15 +238,19 @@ take-take (suc a) (suc c) [] le = refl
 take-take (suc a) (suc c) (x ∷ xs) le = ap (λ l. x ∷ l) (take-take a c xs (omega arith))
 
 -- places reported that are whole batches are first ones of all that are due
-due-first : (c : Configuration) (bits : List Bool) (reported : List Found) → take (length reported) (places (rules_of c) bits) ≡ reported → due_count_of c reported ≡ length reported
+due-first : (c : Configuration) (bits : List Bool) (reported : List Found)
+    → take (length reported) (places (rules_of c) bits) ≡ reported → due_count_of c reported ≡ length reported
     → due c bits ≡ reported ++ drop (length reported) (due c bits)
 due-first c bits reported first whole =
     let all : List Found = places (rules_of c) bits in
     let rest : List Found = drop (length reported) all in
     let parts : all ≡ reported ++ rest = sym (take-append-drop (length reported) all) ∙ ap (λ l. l ++ rest) first in
     let size : length all ≡ length reported + length rest = ap length parts ∙ length-append reported rest in
-    let more : due_count_of c reported ≤ due_count c bits = subst (λ n. due_count_of c reported ≤ in_batches c.batch n) (sym size) (batches-more c.batch (length reported) (length rest)) in
-    let prefix : take (length reported) (due c bits) ≡ reported = take-take (length reported) (due_count c bits) all (omega (arith, whole, more)) ∙ first in
+    let more : due_count_of c reported ≤ due_count c bits =
+    subst (λ n. due_count_of c reported ≤ in_batches c.batch n) (sym size)
+    (batches-more c.batch (length reported) (length rest)) in
+    let prefix : take (length reported) (due c bits) ≡ reported =
+    take-take (length reported) (due_count c bits) all (omega (arith, whole, more)) ∙ first in
     sym (take-append-drop (length reported) (due c bits)) ∙ ap (λ l. l ++ drop (length reported) (due c bits)) prefix
 
 -- the taker failed at an item of a full batch
@@ -254,53 +280,70 @@ turn-broke c stands part stored reported f bits count number items others h many
     (first-append c bits (drop count (due_of c reported)) waiting items others were last))
 
 -- ---- items stay as the bits go on
-item-more : (c : Configuration) (bits more : List Bool) (f : Found) (item : ItemValue) → f.place + 32 + (rules_of c).block_bits ≤ length bits
+item-more : (c : Configuration) (bits more : List Bool) (f : Found) (item : ItemValue)
+    → f.place + 32 + (rules_of c).block_bits ≤ length bits
     → IsItem c f (codeblock_at c bits f) item → IsItem c f (codeblock_at c (bits ++ more) f) item
 item-more c bits more f item ends is =
     subst (λ (k : StoredCodeblock). IsItem c f k.codeblock item) (sym (block-same c bits more f ends)) is
 
-pub items-more : (c : Configuration) (bits more : List Bool) (fs : List Found) (items : List ItemValue) → EndBefore (rules_of c) (length bits) fs → AreItemsOf c bits fs items → AreItemsOf c (bits ++ more) fs items
+pub items-more : (c : Configuration) (bits more : List Bool) (fs : List Found) (items : List ItemValue)
+    → EndBefore (rules_of c) (length bits) fs → AreItemsOf c bits fs items → AreItemsOf c (bits ++ more) fs items
 items-more c bits more [] [] ends are = tt
 items-more c bits more [] (item ∷ items) ends are = absurd are
 items-more c bits more (f ∷ fs) [] ends are = absurd are
-items-more c bits more (f ∷ fs) (item ∷ items) ends are = (item-more c bits more f item ends.0 are.0, items-more c bits more fs items ends.1 are.1)
+items-more c bits more (f ∷ fs) (item ∷ items) ends are =
+    (item-more c bits more f item ends.0 are.0, items-more c bits more fs items ends.1 are.1)
 
-pub first-more : (c : Configuration) (bits more : List Bool) (fs : List Found) (items : List ItemValue) → EndBefore (rules_of c) (length bits) fs → AreFirstItemsOf c bits fs items → AreFirstItemsOf c (bits ++ more) fs items
+pub first-more : (c : Configuration) (bits more : List Bool) (fs : List Found) (items : List ItemValue)
+    → EndBefore (rules_of c) (length bits) fs → AreFirstItemsOf c bits fs items
+    → AreFirstItemsOf c (bits ++ more) fs items
 first-more c bits more fs [] ends are = tt
 first-more c bits more [] (item ∷ items) ends are = absurd are
-first-more c bits more (f ∷ fs) (item ∷ items) ends are = (item-more c bits more f item ends.0 are.0, first-more c bits more fs items ends.1 are.1)
+first-more c bits more (f ∷ fs) (item ∷ items) ends are =
+    (item-more c bits more f item ends.0 are.0, first-more c bits more fs items ends.1 are.1)
 
 -- ---- what is due goes on
-take-all : {A : Type 0} (P : A → Type 0) (count : ℕ) (xs : List A) → AllByRecursion P xs → AllByRecursion P (take count xs)
+take-all : {A : Type 0} (P : A → Type 0) (count : ℕ) (xs : List A) → AllByRecursion P xs
+    → AllByRecursion P (take count xs)
 take-all P zero xs all = tt
 take-all P (suc count) [] all = tt
 take-all P (suc count) (x ∷ xs) all = (all.0, take-all P count xs all.1)
 
-pub due-end : (c : Configuration) (bits : List Bool) (count : ℕ) → EndBefore (rules_of c) (length bits) (drop count (due c bits))
+pub due-end : (c : Configuration) (bits : List Bool) (count : ℕ)
+    → EndBefore (rules_of c) (length bits) (drop count (due c bits))
 due-end c bits count =
     let P : Found → Type 0 = λ f. f.place + 32 + (rules_of c).block_bits ≤ length bits in
-    drop-all P count (due c bits) (take-all P (due_count c bits) (places (rules_of c) bits) (places-end (rules_of c) bits))
+    drop-all P count (due c bits) (take-all P (due_count c bits) (places (rules_of c) bits)
+    (places-end (rules_of c) bits))
 
-pub due-more : (c : Configuration) (bits more : List Bool) → due c (bits ++ more) ≡ due c bits ++ beyond (due c bits) (due c (bits ++ more))
+pub due-more : (c : Configuration) (bits more : List Bool) → due c (bits ++ more) ≡ due c bits
+    ++ beyond (due c bits) (due c (bits ++ more))
 due-more c bits more =
     let go = places-append (rules_of c) bits more in
     let fs = places (rules_of c) bits in
     let a : ℕ = due_count c bits in
     let b : ℕ = due_count c (bits ++ more) in
-    let le : a ≤ b = let grows : length (places (rules_of c) (bits ++ more)) ≡ length fs + length go.rest = ap length go.is ∙ length-append fs go.rest in
+    let le : a ≤ b = let grows : length (places (rules_of c) (bits ++ more)) ≡ length fs + length go.rest =
+    ap length go.is ∙ length-append fs go.rest in
     subst (λ (n : ℕ). a ≤ in_batches c.batch n) (sym grows) (batches-more c.batch (length fs) (length go.rest)) in
     let first : take a (due c (bits ++ more)) ≡ due c bits =
-    take-take a b (places (rules_of c) (bits ++ more)) le ∙ ap (take a) go.is ∙ take-append-le a fs go.rest (batches-le c.batch (length fs)) in
-    sym (take-append-drop a (due c (bits ++ more))) ∙ (λ i. first i ++ drop (sym (length-due c bits) i) (due c (bits ++ more)))
+    take-take a b (places (rules_of c) (bits ++ more)) le ∙ ap (take a) go.is
+    ∙ take-append-le a fs go.rest (batches-le c.batch (length fs)) in
+    sym (take-append-drop a (due c (bits ++ more))) ∙ (λ i. first i
+    ++ drop (sym (length-due c bits) i) (due c (bits ++ more)))
 
 -- beyond in two steps
-beyond-twice : (xs ys zs : List Found) → ys ≡ xs ++ beyond xs ys → zs ≡ ys ++ beyond ys zs → beyond xs zs ≡ beyond xs ys ++ beyond ys zs
+beyond-twice : (xs ys zs : List Found) → ys ≡ xs ++ beyond xs ys → zs ≡ ys ++ beyond ys zs
+    → beyond xs zs ≡ beyond xs ys ++ beyond ys zs
 beyond-twice xs ys zs first second =
-    ap (drop (length xs)) (second ∙ ap (λ l. l ++ beyond ys zs) first ∙ append_assoc xs (beyond xs ys) (beyond ys zs)) ∙ drop-append_seam xs (beyond xs ys ++ beyond ys zs)
+    ap (drop (length xs)) (second ∙ ap (λ l. l ++ beyond ys zs) first ∙ append_assoc xs (beyond xs ys) (beyond ys zs))
+    ∙ drop-append_seam xs (beyond xs ys ++ beyond ys zs)
 
 pub due-twice : (c : Configuration) (bits more rest : List Bool) → beyond (due c bits) (due c ((bits ++ more) ++ rest))
     ≡ beyond (due c bits) (due c (bits ++ more)) ++ beyond (due c (bits ++ more)) (due c ((bits ++ more) ++ rest))
-due-twice c bits more rest = beyond-twice (due c bits) (due c (bits ++ more)) (due c ((bits ++ more) ++ rest)) (due-more c bits more) (due-more c (bits ++ more) rest)
+due-twice c bits more rest =
+    beyond-twice (due c bits) (due c (bits ++ more)) (due c ((bits ++ more) ++ rest)) (due-more c bits more)
+    (due-more c (bits ++ more) rest)
 
 -- a piece, and then another
 pub items-then : (c : Configuration) (bits more rest : List Bool) (items others : List ItemValue)
@@ -310,18 +353,21 @@ pub items-then : (c : Configuration) (bits more rest : List Bool) (items others 
 items-then c bits more rest items others are also =
     let first : List Found = beyond (due c bits) (due c (bits ++ more)) in
     let second : List Found = beyond (due c (bits ++ more)) (due c ((bits ++ more) ++ rest)) in
-    subst (λ (fs : List Found). AreItemsOf c ((bits ++ more) ++ rest) fs (items ++ others)) (sym (due-twice c bits more rest))
+    subst (λ (fs : List Found). AreItemsOf c ((bits ++ more) ++ rest) fs (items ++ others))
+    (sym (due-twice c bits more rest))
     (items-append c ((bits ++ more) ++ rest) first second items others
     (items-more c (bits ++ more) rest first items (due-end c (bits ++ more) (length (due c bits))) are) also)
 
 pub first-then : (c : Configuration) (bits more rest : List Bool) (items others : List ItemValue)
     → AreItemsOf c (bits ++ more) (beyond (due c bits) (due c (bits ++ more))) items
     → AreFirstItemsOf c ((bits ++ more) ++ rest) (beyond (due c (bits ++ more)) (due c ((bits ++ more) ++ rest))) others
-    → AreFirstItemsOf c ((bits ++ more) ++ rest) (beyond (due c bits) (due c ((bits ++ more) ++ rest))) (items ++ others)
+    → AreFirstItemsOf c ((bits ++ more) ++ rest) (beyond (due c bits) (due c ((bits ++ more) ++ rest)))
+    (items ++ others)
 first-then c bits more rest items others are also =
     let first : List Found = beyond (due c bits) (due c (bits ++ more)) in
     let second : List Found = beyond (due c (bits ++ more)) (due c ((bits ++ more) ++ rest)) in
-    subst (λ (fs : List Found). AreFirstItemsOf c ((bits ++ more) ++ rest) fs (items ++ others)) (sym (due-twice c bits more rest))
+    subst (λ (fs : List Found). AreFirstItemsOf c ((bits ++ more) ++ rest) fs (items ++ others))
+    (sym (due-twice c bits more rest))
     (first-append c ((bits ++ more) ++ rest) first second items others
     (items-more c (bits ++ more) rest first items (due-end c (bits ++ more) (length (due c bits))) are) also)
 
@@ -337,7 +383,8 @@ first-of-all c bits more rest items are =
     (first-more c (bits ++ more) rest first items (due-end c (bits ++ more) (length (due c bits))) are))
 
 -- ---- the end
-pub items-last : (c : Configuration) (stands : List Bool → List Found → Type 0) (part : List Bool) (stored : List StoredCodeblock) (bits : List Bool) (items : List ItemValue)
+pub items-last : (c : Configuration) (stands : List Bool → List Found → Type 0) (part : List Bool)
+    (stored : List StoredCodeblock) (bits : List Bool) (items : List ItemValue)
     → Holding c stands part stored (due_count c bits) bits (places (rules_of c) bits) → AreItemsFor c stored items
     → AreItemsOf c bits (beyond (due c bits) (places (rules_of c) bits)) items
 items-last c stands part stored bits items h are =
@@ -345,7 +392,8 @@ items-last c stands part stored bits items h are =
     subst (λ (fs : List Found). AreItemsOf c bits fs items) (sym (after-due c bits (places (rules_of c) bits)))
     (items-of c bits waiting items (subst (λ (ks : List StoredCodeblock). AreItemsFor c ks items) h.waiting are))
 
-pub first-last : (c : Configuration) (stands : List Bool → List Found → Type 0) (part : List Bool) (stored : List StoredCodeblock) (bits : List Bool) (count : ℕ) (items : List ItemValue)
+pub first-last : (c : Configuration) (stands : List Bool → List Found → Type 0) (part : List Bool)
+    (stored : List StoredCodeblock) (bits : List Bool) (count : ℕ) (items : List ItemValue)
     → Holding c stands part stored (due_count c bits) bits (places (rules_of c) bits)
     → AreItemsFor c (take count stored) items
     → AreFirstItemsOf c bits (beyond (due c bits) (places (rules_of c) bits)) items
@@ -353,7 +401,8 @@ first-last c stands part stored bits count items h are =
     let waiting : List Found = drop (due_count c bits) (places (rules_of c) bits) in
     subst (λ (fs : List Found). AreFirstItemsOf c bits fs items) (sym (after-due c bits (places (rules_of c) bits)))
     (first-of c bits count waiting items (items-of c bits (take count waiting) items
-    (subst (λ (ks : List StoredCodeblock). AreItemsFor c ks items) (ap (take count) h.waiting ∙ take-map' (stored_at c bits) count waiting) are)))
+    (subst (λ (ks : List StoredCodeblock). AreItemsFor c ks items)
+    (ap (take count) h.waiting ∙ take-map' (stored_at c bits) count waiting) are)))
 
 pub stands-new : (c : Configuration) (stands : List Bool → List Found → Type 0) (part : List Bool)
     (stored : List StoredCodeblock)

@@ -48,34 +48,62 @@ interleaved_two = record coded { depth = 2; frame_length = 4 }
 
 -- a marker with two wrong bits right after a codeblock is bridged
 row_bridged : AreItems bare (bits_of (0x1A ∷ 0xCF ∷ 0xFC ∷ 0x1D ∷ 0x7B ∷ 0x1A ∷ 0xCF ∷ 0xFC ∷ 0x1E ∷ 0x01 ∷ []))
-    (record { found = record { place = 0; distance = 0; bridged = false; inverted = false }; answers = []; frame = 0x7B ∷ [] }
-    ∷ record { found = record { place = 40; distance = 2; bridged = true; inverted = false }; answers = []; frame = 0x01 ∷ [] } ∷ [])
+    (record {
+      found = record { place = 0; distance = 0; bridged = false; inverted = false };
+      answers = [];
+      frame = 0x7B ∷ [];
+    }
+    ∷ record {
+      found = record { place = 40; distance = 2; bridged = true; inverted = false };
+      answers = [];
+      frame = 0x01 ∷ [];
+    } ∷ [])
 unfolding low_bits wrong_bits match_of are_verified place_at places_from codeblock_in received_columns frame_of
-row_bridged = (record { place = refl; words = []; nearest = tt; frame = refl }, (record { place = refl; words = []; nearest = tt; frame = refl }, tt))
+row_bridged = (
+  record { place = refl; words = []; nearest = tt; frame = refl },
+  (record { place = refl; words = []; nearest = tt; frame = refl }, tt),
+)
 
 -- an inverted marker, where either polarity is taken: the codeblock is complemented
 row_inverted : AreItems (record bare { polarity = Find }) (bits_of (0xE5 ∷ 0x30 ∷ 0x03 ∷ 0xE2 ∷ 0x84 ∷ []))
-    (record { found = record { place = 0; distance = 0; bridged = false; inverted = true }; answers = []; frame = 0x7B ∷ [] } ∷ [])
+    (record {
+      found = record { place = 0; distance = 0; bridged = false; inverted = true };
+      answers = [];
+      frame = 0x7B ∷ [];
+    } ∷ [])
 unfolding low_bits wrong_bits match_of are_verified place_at places_from codeblock_in received_columns frame_of
 row_inverted = (record { place = refl; words = []; nearest = tt; frame = refl }, tt)
 
 -- the randomizer's first octet is FF
 row_randomized : AreItems (record bare { randomize = true }) (bits_of (0x1A ∷ 0xCF ∷ 0xFC ∷ 0x1D ∷ 0x84 ∷ []))
-    (record { found = record { place = 0; distance = 0; bridged = false; inverted = false }; answers = []; frame = 0x7B ∷ [] } ∷ [])
-unfolding low_bits wrong_bits match_of are_verified place_at places_from codeblock_in received_columns frame_of sequence_bit xor
+    (record {
+      found = record { place = 0; distance = 0; bridged = false; inverted = false };
+      answers = [];
+      frame = 0x7B ∷ [];
+    } ∷ [])
+unfolding low_bits wrong_bits match_of are_verified place_at places_from codeblock_in received_columns frame_of
+    sequence_bit xor
 row_randomized = (record { place = refl; words = []; nearest = tt; frame = refl }, tt)
 
 -- ---- with an outer code
 
 -- the word of zeros is a codeword
 zeros : IsCodewordOf 16 33 (replicate 33 0)
-zeros = record { size = refl; elements = AreElements-replicate 33; codeword = λ k within. value_at-zeros 33 (root 16 k) }
+zeros =
+    record { size = refl; elements = AreElements-replicate 33; codeword = λ k within. value_at-zeros 33 (root 16 k) }
 
 -- one wrong symbol is repaired, and the frame is that of the codeword
 row_fixed : AreItems coded (bits_of (0x1A ∷ 0xCF ∷ 0xFC ∷ 0x1D ∷ 0x07 ∷ replicate 32 0))
-    (record { found = record { place = 0; distance = 0; bridged = false; inverted = false }; answers = Fixed 1 ∷ []; frame = 0 ∷ [] } ∷ [])
+    (record {
+      found = record { place = 0; distance = 0; bridged = false; inverted = false };
+      answers = Fixed 1 ∷ [];
+      frame = 0 ∷ [];
+    } ∷ [])
 unfolding low_bits wrong_bits match_of are_verified place_at places_from codeblock_in received_columns frame_of
-row_fixed = (record { place = refl; words = replicate 33 0 ∷ []; nearest = ((zeros, refl, omega arith), tt); frame = refl }, tt)
+row_fixed = (
+  record { place = refl; words = replicate 33 0 ∷ []; nearest = ((zeros, refl, omega arith), tt); frame = refl },
+  tt,
+)
 
 -- a word that is no codeword
 off : List ℕ
@@ -90,14 +118,19 @@ unfolding off
 off-beyond c is = elim (cases_eq (distance c off) 0) [
   | inl none ↦
       let same : c ≡ off = same_of_distance c off is.size none in
-      let value : value_at off (root 16 0) ≡ 0 = ap (λ (w : List ℕ). value_at w (root 16 0)) (sym same) ∙ is.codeword 0 (omega arith) in
+      let value : value_at off (root 16 0) ≡ 0 = ap (λ (w : List ℕ). value_at w (root 16 0)) (sym same)
+      ∙ is.codeword 0 (omega arith) in
       absurd (omega (arith, value, off-value))
   | inr some ↦ omega (arith, some)
 ]
 
 -- with nothing repaired it is reported, and there is no frame
 row_beyond : AreItems (record coded { repair = 0 }) (bits_of (0x1A ∷ 0xCF ∷ 0xFC ∷ 0x1D ∷ replicate 32 0 ++ 7 ∷ []))
-    (record { found = record { place = 0; distance = 0; bridged = false; inverted = false }; answers = Beyond ∷ []; frame = [] } ∷ [])
+    (record {
+      found = record { place = 0; distance = 0; bridged = false; inverted = false };
+      answers = Beyond ∷ [];
+      frame = [];
+    } ∷ [])
 unfolding low_bits wrong_bits match_of are_verified place_at places_from codeblock_in received_columns frame_of off
 row_beyond = (record { place = refl; words = [] ∷ []; nearest = (off-beyond, tt); frame = refl }, tt)
 
@@ -120,18 +153,47 @@ row_dual = refl
 -- ---- a stream that was sent
 
 -- a unit, another whose marker has two wrong bits and whose codeblock one, and a gap of three bits
-row_sent : IsSent bare (bits_of (0x1A ∷ 0xCF ∷ 0xFC ∷ 0x1D ∷ 0x7B ∷ 0x1A ∷ 0xCF ∷ 0xFC ∷ 0x1E ∷ 0x03 ∷ []) ++ (false ∷ true ∷ false ∷ []))
-    (record { received = record { gap = []; marker = bits_of (0x1A ∷ 0xCF ∷ 0xFC ∷ 0x1D ∷ []); block = bits_of (0x7B ∷ []) }; frame = 0x7B ∷ [] }
-    ∷ record { received = record { gap = []; marker = bits_of (0x1A ∷ 0xCF ∷ 0xFC ∷ 0x1E ∷ []); block = bits_of (0x03 ∷ []) }; frame = 0x01 ∷ [] } ∷ [])
+row_sent : IsSent bare (bits_of (0x1A ∷ 0xCF ∷ 0xFC ∷ 0x1D ∷ 0x7B ∷ 0x1A ∷ 0xCF ∷ 0xFC ∷ 0x1E ∷ 0x03 ∷ [])
+    ++ (false ∷ true ∷ false ∷ []))
+    (record {
+      received = record {
+        gap = [];
+        marker = bits_of (0x1A ∷ 0xCF ∷ 0xFC ∷ 0x1D ∷ []);
+        block = bits_of (0x7B ∷ []);
+      };
+      frame = 0x7B ∷ [];
+    }
+    ∷ record {
+      received = record {
+        gap = [];
+        marker = bits_of (0x1A ∷ 0xCF ∷ 0xFC ∷ 0x1E ∷ []);
+        block = bits_of (0x03 ∷ []);
+      };
+      frame = 0x01 ∷ [];
+    } ∷ [])
     (false ∷ true ∷ false ∷ [])
 unfolding low_bits wrong_bits match_of are_verified
 row_sent = record {
   marked = record {
     parts = refl;
     are_entries = (
-      record { marker = refl; block = refl; gap = λ q within. absurd (omega arith); waits = tt; bridged = tt; verified = refl },
+      record {
+        marker = refl;
+        block = refl;
+        gap = λ q within. absurd (omega arith);
+        waits = tt;
+        bridged = tt;
+        verified = refl;
+      },
       (
-        record { marker = refl; block = refl; gap = λ q within. absurd (omega arith); waits = tt; bridged = (refl, omega arith); verified = refl },
+        record {
+          marker = refl;
+          block = refl;
+          gap = λ q within. absurd (omega arith);
+          waits = tt;
+          bridged = (refl, omega arith);
+          verified = refl;
+        },
         (λ q within room. absurd (omega arith), inl (omega arith)),
       ),
     );

@@ -62,7 +62,8 @@ pub of-encode : (job : Job) → command_of job ≡ Encode → job.kind ≡ kind.
 of-encode job is = encode-kind job.kind job is
 
 -- a command that reads nothing leaves nothing over
-partial-reads : (command : Command) (c : Configuration) (octets : List ℕ) → (meaning_of command c).is_partial octets → reads command ≡ true
+partial-reads : (command : Command) (c : Configuration) (octets : List ℕ) → (meaning_of command c).is_partial octets
+    → reads command ≡ true
 partial-reads Encode c octets partial = refl
 partial-reads Decode c octets partial = refl
 partial-reads Report c octets partial = refl
@@ -77,10 +78,12 @@ partial-reads Bits c octets partial = refl
 pub left-reads : (e : Ending) (command : Command) (c : Configuration) (octets : List ℕ) (taken : Taken)
     → Ends e (meaning_of command c) c.limit octets taken → e ≡ LeftOver → reads command ≡ true
 left-reads e command c octets taken ends is =
-    partial-reads command c octets (subst (λ (x : Ending). Ends x (meaning_of command c) c.limit octets taken) is ends).2
+    partial-reads command c octets (subst (λ (x : Ending). Ends x (meaning_of command c) c.limit octets taken) is
+    ends).2
 
 -- nor is anything due for what it did not read
-due-reads : (command : Command) (c : Configuration) (octets : List ℕ) (output : Output) → (meaning_of command c).is_due octets output → reads command ≡ true
+due-reads : (command : Command) (c : Configuration) (octets : List ℕ) (output : Output)
+    → (meaning_of command c).is_due octets output → reads command ≡ true
 due-reads Encode c octets output due = refl
 due-reads Decode c octets output due = refl
 due-reads Report c octets output due = refl
@@ -131,30 +134,39 @@ without-fault SourceFault source sink = absurd (source refl)
 without-fault SinkFault source sink = absurd (sink refl)
 
 -- a fault of a sink is one of two, of which one rose
-pub sink-rose : (e : Ending) (out out_now : SinkState) (out_last : Type 0) (notes notes_now : SinkState) (notes_last : Type 0)
+pub sink-rose : (e : Ending) (out out_now : SinkState) (out_last : Type 0) (notes notes_now : SinkState)
+    (notes_last : Type 0)
     → SinksCourse (is_sink_fault e) out out_now out_last notes notes_now notes_last → e ≡ SinkFault
     → SinkCourse true out out_now out_last ⊎ SinkCourse true notes notes_now notes_last
 sink-rose e out out_now out_last notes notes_now notes_last course is =
-    elim (subst (λ (x : Ending). SinksCourse (is_sink_fault x) out out_now out_last notes notes_now notes_last) is course)
-    as (λ _. SinkCourse true out out_now out_last ⊎ SinkCourse true notes notes_now notes_last) [ inl p ↦ inl p.0 | inr p ↦ inr p.0 ]
+    elim (subst (λ (x : Ending). SinksCourse (is_sink_fault x) out out_now out_last notes notes_now notes_last) is
+    course)
+    as (λ _. SinkCourse true out out_now out_last ⊎ SinkCourse true notes notes_now notes_last)
+    [ inl p ↦ inl p.0 | inr p ↦ inr p.0 ]
 
 -- where no fault rose, an input of whole frames within the limit gives status 0 or 1
 whole-input : (e : Ending) (meaning : Meaning) (limit : ℕ) (octets input rest : List ℕ) (taken : Taken)
-    → Ends e meaning limit octets taken → input ≡ octets ++ rest → (e ≡ LeftOver → rest ≡ []) → length input ≤ limit → (meaning.is_partial input → ⊥)
+    → Ends e meaning limit octets taken → input ≡ octets ++ rest → (e ≡ LeftOver → rest ≡ []) → length input ≤ limit
+    → (meaning.is_partial input → ⊥)
     → (e ≡ SourceFault → ⊥) → (e ≡ SinkFault → ⊥) → (status_of e ≡ 0) ⊎ (status_of e ≡ 1)
 whole-input Done meaning limit octets input rest taken ends is at_end within whole source sink = inl refl
 whole-input Bad meaning limit octets input rest taken ends is at_end within whole source sink = inr refl
 whole-input BadWindow meaning limit octets input rest taken ends is at_end within whole source sink = inr refl
 whole-input LeftOver meaning limit octets input rest taken ends is at_end within whole source sink =
-    absurd (whole (subst meaning.is_partial (sym (is ∙ ap (λ (l : List ℕ). octets ++ l) (at_end refl) ∙ append-nil octets)) ends.2))
-whole-input SourceFault meaning limit octets input rest taken ends is at_end within whole source sink = absurd (source refl)
+    absurd (whole (subst meaning.is_partial (sym (is ∙ ap (λ (l : List ℕ). octets ++ l) (at_end refl)
+    ∙ append-nil octets)) ends.2))
+whole-input SourceFault meaning limit octets input rest taken ends is at_end within whole source sink =
+    absurd (source refl)
 whole-input SinkFault meaning limit octets input rest taken ends is at_end within whole source sink = absurd (sink refl)
 whole-input PastLimit meaning limit octets input rest taken ends is at_end within whole source sink =
-    let long : length input ≡ length (octets ++ rest) = ap length is in absurd (omega (arith, long, within, ends.1, length-append octets rest))
+    let long : length input ≡ length (octets ++ rest) = ap length is in
+    absurd (omega (arith, long, within, ends.1, length-append octets rest))
 
 -- where the source says which its octets are
-pub whole-input_known : (e : Ending) (meaning : Meaning) (limit : ℕ) (octets input : List ℕ) (left : Option (List ℕ)) (taken : Taken)
-    → Ends e meaning limit octets taken → Some input ≡ prepend_known octets left → (e ≡ LeftOver → IsAtEnd left) → length input ≤ limit → (meaning.is_partial input → ⊥)
+pub whole-input_known : (e : Ending) (meaning : Meaning) (limit : ℕ) (octets input : List ℕ) (left : Option (List ℕ))
+    (taken : Taken)
+    → Ends e meaning limit octets taken → Some input ≡ prepend_known octets left → (e ≡ LeftOver → IsAtEnd left)
+    → length input ≤ limit → (meaning.is_partial input → ⊥)
     → (e ≡ SourceFault → ⊥) → (e ≡ SinkFault → ⊥) → (status_of e ≡ 0) ⊎ (status_of e ≡ 1)
 whole-input_known e meaning limit octets input None taken ends is at_end within whole source sink = cc is
 whole-input_known e meaning limit octets input (Some rest) taken ends is at_end within whole source sink =
@@ -164,40 +176,51 @@ whole-input_known e meaning limit octets input (Some rest) taken ends is at_end 
 -- ---- the command that was asked for
 
 -- what a command answers
-abbrev pub AnsweredTo : {E : Type 0} → Result Ending E → Command → Configuration → SourceCall → (out notes : SinkCall) → Type 0
-AnsweredTo result command c source out notes = IfOk result (λ ending. Answered (reads command) ending (meaning_of command c) c.limit source out notes)
+abbrev pub AnsweredTo : {E : Type 0} → Result Ending E → Command → Configuration → SourceCall → (out notes : SinkCall)
+    → Type 0
+AnsweredTo result command c source out notes =
+    IfOk result (λ ending. Answered (reads command) ending (meaning_of command c) c.limit source out notes)
 
-pub as-command : {E : Type 0} (result : Result Ending E) (asked command : Command) (c : Configuration) (source : SourceCall) (out notes : SinkCall) → asked ≡ command
+pub as-command : {E : Type 0} (result : Result Ending E) (asked command : Command) (c : Configuration)
+    (source : SourceCall) (out notes : SinkCall) → asked ≡ command
     → AnsweredTo result command c source out notes → AnsweredTo result asked c source out notes
-as-command result asked command c source out notes is h = subst (λ (k : Command). AnsweredTo result k c source out notes) (sym is) h
+as-command result asked command c source out notes is h =
+    subst (λ (k : Command). AnsweredTo result k c source out notes) (sym is) h
 
 -- the same of one that left the notes as they were
-pub without-notes : {E : Type 0} (result : Result Ending E) (asked command : Command) (c : Configuration) (source : SourceCall) (out : SinkCall) (notes : SinkState) (notes_last : Type 0)
-    → asked ≡ command → IfOk result (λ ending. AnsweredAlone (reads command) ending (meaning_of command c) c.limit source out)
+pub without-notes : {E : Type 0} (result : Result Ending E) (asked command : Command) (c : Configuration)
+    (source : SourceCall) (out : SinkCall) (notes : SinkState) (notes_last : Type 0)
+    → asked ≡ command → IfOk result (λ ending. AnsweredAlone (reads command) ending
+    (meaning_of command c) c.limit source out)
     → AnsweredTo result asked c source out (record { before = notes; now = notes; is_last = notes_last })
 without-notes result asked command c source out notes notes_last is h =
     as-command result asked command c source out _ is (IfOk-weaker result _ _
-    (λ ending alone. answered-beside (reads command) ending (meaning_of command c) c.limit source out notes notes_last alone) h)
+    (λ ending alone. answered-beside (reads command) ending
+    (meaning_of command c) c.limit source out notes notes_last alone) h)
 
 -- and of one that left the source as it was too
 gave-nothing : (given left : Option (List ℕ)) → Gave given given left left []
 gave-nothing given left = record { given = sym (append_known-nil given); consumed = sym (prepend_known-nil left) }
 
-pub without-input : {E : Type 0} (result : Result Ending E) (asked command : Command) (c : Configuration) (source : SourceState) (source_last : Type 0) (out : SinkCall) (notes : SinkState) (notes_last : Type 0)
+pub without-input : {E : Type 0} (result : Result Ending E) (asked command : Command) (c : Configuration)
+    (source : SourceState) (source_last : Type 0) (out : SinkCall) (notes : SinkState) (notes_last : Type 0)
     → asked ≡ command → reads command ≡ false
-    → IfOk result (λ ending. (noted : Option (List ℕ)) → Ends ending (meaning_of command c) c.limit [] (taken_by out.before.taken out.now.taken noted noted))
+    → IfOk result (λ ending. (noted : Option (List ℕ)) → Ends ending (meaning_of command c) c.limit []
+    (taken_by out.before.taken out.now.taken noted noted))
     → IfOk result (λ ending. SinkWent (is_sink_fault ending) out)
-    → AnsweredTo result asked c (record { before = source; now = source; is_last = source_last }) out (record { before = notes; now = notes; is_last = notes_last })
-without-input (Ok ending) asked command c source source_last out notes notes_last is unread h went = as-command {E = ⊥} (Ok ending) asked command c _ out _ is (
-  [],
-  record {
-    gave = gave-nothing source.given source.left;
-    at_most = omega arith;
-    ends = h notes.taken;
-    course = λ reads. let clash : false ≡ true = sym unread ∙ reads in cc;
-    sinks = alone (is_sink_fault ending) out notes notes_last went;
-  },
-)
+    → AnsweredTo result asked c (record { before = source; now = source; is_last = source_last }) out
+    (record { before = notes; now = notes; is_last = notes_last })
+without-input (Ok ending) asked command c source source_last out notes notes_last is unread h went =
+    as-command {E = ⊥} (Ok ending) asked command c _ out _ is (
+      [],
+      record {
+        gave = gave-nothing source.given source.left;
+        at_most = omega arith;
+        ends = h notes.taken;
+        course = λ reads. let clash : false ≡ true = sym unread ∙ reads in cc;
+        sinks = alone (is_sink_fault ending) out notes notes_last went;
+      },
+    )
 without-input (Err e) asked command c source source_last out notes notes_last is unread h went = tt
 
 -- ---- what a command that is not refused has

@@ -19,12 +19,15 @@ size_of None true bits = bits / 8
 size_of None false bits = bits
 size_of (Some rate) pack bits = steps_size rate 0 bits
 
-length-plain_symbols : (pack : Bool) (c : Configuration) (octets : List ℕ) → length (plain_symbols pack c (bits_of octets)) ≡ size_of None pack (8 * length octets)
+length-plain_symbols : (pack : Bool) (c : Configuration) (octets : List ℕ)
+    → length (plain_symbols pack c (bits_of octets)) ≡ size_of None pack (8 * length octets)
 unfolding size_of
 length-plain_symbols true c octets = length-octets_of (bits_of octets) ∙ ap (λ (n : ℕ). n / 8) (length-bits_of octets)
-length-plain_symbols false c octets = length-map (bit_numbers (bits_of octets)) _ ∙ length-map (bits_of octets) _ ∙ length-bits_of octets
+length-plain_symbols false c octets =
+    length-map (bit_numbers (bits_of octets)) _ ∙ length-map (bits_of octets) _ ∙ length-bits_of octets
 
-length-symbols_by : (rate : Option Rate) (c : Configuration) (octets : List ℕ) → length (symbols_by rate c (bits_of octets)) ≡ size_of rate c.pack (8 * length octets)
+length-symbols_by : (rate : Option Rate) (c : Configuration) (octets : List ℕ)
+    → length (symbols_by rate c (bits_of octets)) ≡ size_of rate c.pack (8 * length octets)
 unfolding size_of
 length-symbols_by None c octets = length-plain_symbols c.pack c octets
 length-symbols_by (Some rate) c octets =
@@ -32,13 +35,15 @@ length-symbols_by (Some rate) c octets =
     ∙ length-path rate (is_inverted rate c.invert) 0 0 (bit_numbers (bits_of octets))
     ∙ ap (steps_size rate 0) (length-map (bits_of octets) _ ∙ length-bits_of octets)
 
-size_of-more : (rate : Option Rate) (pack : Bool) (a b : ℕ) → size_of rate pack (8 * (a + b)) ≤ size_of rate pack (8 * a) + 16 * b
+size_of-more : (rate : Option Rate) (pack : Bool) (a b : ℕ)
+    → size_of rate pack (8 * (a + b)) ≤ size_of rate pack (8 * a) + 16 * b
 unfolding size_of
 size_of-more None true a b = omega arith
 size_of-more None false a b = omega arith
 size_of-more (Some rate) pack a b =
     let sum : 8 * (a + b) ≡ 8 * a + 8 * b = omega arith in
-    let parts : steps_size rate 0 (8 * (a + b)) ≡ steps_size rate 0 (8 * a) + steps_size rate (0 + 8 * a) (8 * b) = ap (steps_size rate 0) sum ∙ steps_size-add rate 0 (8 * a) (8 * b) in
+    let parts : steps_size rate 0 (8 * (a + b)) ≡ steps_size rate 0 (8 * a) + steps_size rate (0 + 8 * a) (8 * b) =
+    ap (steps_size rate 0) sum ∙ steps_size-add rate 0 (8 * a) (8 * b) in
     let few : steps_size rate (0 + 8 * a) (8 * b) ≤ 2 * (8 * b) = steps_size-most rate (0 + 8 * a) (8 * b) in
     omega (arith, parts, few)
 
@@ -53,7 +58,8 @@ pub length-symbols : (c : Configuration) (octets : List ℕ) → length (symbols
 length-symbols c octets = omega (arith, length-symbols_by c.inner c octets, size_of-few c.inner c.pack (length octets))
 
 -- and of those after others
-pub length-further : (c : Configuration) (given piece : List ℕ) → length (further (symbols_of_octets c) given piece) ≤ 16 * length piece
+pub length-further : (c : Configuration) (given piece : List ℕ)
+    → length (further (symbols_of_octets c) given piece) ≤ 16 * length piece
 length-further c given piece =
     let both : size_of c.inner c.pack (8 * length (given ++ piece))
     ≡ length (symbols_of_octets c given) + length (further (symbols_of_octets c) given piece) =
@@ -61,7 +67,8 @@ length-further c given piece =
     ∙ length-append (symbols_of_octets c given) (further (symbols_of_octets c) given piece) in
     let prefix : length (symbols_of_octets c given)
     ≡ size_of c.inner c.pack (8 * length given) = length-symbols_by c.inner c given in
-    let long : size_of c.inner c.pack (8 * length (given ++ piece)) ≡ size_of c.inner c.pack (8 * (length given + length piece)) =
+    let long : size_of c.inner c.pack (8 * length (given ++ piece))
+    ≡ size_of c.inner c.pack (8 * (length given + length piece)) =
     ap (λ (n : ℕ). size_of c.inner c.pack (8 * n)) (length-append given piece) in
     let most = size_of-more c.inner c.pack (length given) (length piece) in
     omega (arith, both, prefix, long, most)

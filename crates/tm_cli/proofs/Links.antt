@@ -41,7 +41,9 @@ use Rattle.tm_cli.specs.Link.{KeepsCleanLink, KeepsDisturbedLink, KeepsComplemen
 
 -- octets come to one list of bits, of blocks and of items
 abbrev OneBits : Type 0
-OneBits = (c : Configuration) (phase : ℕ) (octets : List ℕ) (bits others : List Bool) → Inner c phase octets bits → Inner c phase octets others → bits ≡ others
+OneBits =
+    (c : Configuration) (phase : ℕ) (octets : List ℕ) (bits others : List Bool) → Inner c phase octets bits
+    → Inner c phase octets others → bits ≡ others
 
 abbrev OneBlocks : Type 0
 OneBlocks = (c : Configuration) (phase : ℕ) (octets : List ℕ) (blocks others : List WindowBlock) (left rest : ℕ)
@@ -53,40 +55,59 @@ OneItems = (c : Configuration) (phase : ℕ) (octets : List ℕ) (items others :
 
 -- and what is handed over is one list
 abbrev OneHanded : Type 0
-OneHanded = (c : Configuration) (octets : List ℕ) (handed others : List (Handed ItemValue)) (totals sums : Totals) → IsAccepted c
+OneHanded =
+    (c : Configuration) (octets : List ℕ) (handed others : List (Handed ItemValue)) (totals sums : Totals)
+    → IsAccepted c
     → AreReceived c octets handed totals → AreReceived c octets others sums → handed ≡ others
 
 -- the phase of what is sent for octets, and of that complemented
 abbrev SentPhase : Type 0
-SentPhase = (c : Configuration) (octets : List ℕ) (chosen : Option Chosen) → c.skip ≡ 0 → IsChosen c (sent c octets) chosen → chosen ≡ sent_phase c
+SentPhase =
+    (c : Configuration) (octets : List ℕ) (chosen : Option Chosen) → c.skip ≡ 0 → IsChosen c (sent c octets) chosen
+    → chosen ≡ sent_phase c
 
 abbrev ComplementedPhase : Type 0
-ComplementedPhase = (c : Configuration) (octets : List ℕ) (chosen : Option Chosen) → c.skip ≡ 0 → IsChosen c (complemented_octets (sent c octets)) chosen → chosen ≡ sent_phase c
+ComplementedPhase =
+    (c : Configuration) (octets : List ℕ) (chosen : Option Chosen) → c.skip ≡ 0
+    → IsChosen c (complemented_octets (sent c octets)) chosen → chosen ≡ sent_phase c
 
 -- what the octets come to that are sent for others, and complemented
 abbrev CleanTotals : Type 0
-CleanTotals = (c : Configuration) (octets : List ℕ) (handed : List (Handed ItemValue)) (totals : Totals) → IsAccepted c → c.skip ≡ 0 → IsStartKnown c
+CleanTotals =
+    (c : Configuration) (octets : List ℕ) (handed : List (Handed ItemValue)) (totals : Totals) → IsAccepted c
+    → c.skip ≡ 0 → IsStartKnown c
     → AreReceived c (sent c octets) handed totals → totals ≡ clean_totals c (8 * length (cadus c octets))
 
 abbrev ComplementedTotals : Type 0
-ComplementedTotals = (c : Configuration) (octets : List ℕ) (handed : List (Handed ItemValue)) (totals : Totals) → IsAccepted c → c.inner ≡ Some R12
-    → c.start ≡ Any → c.skip ≡ 0 → AreReceived c (complemented_octets (sent c octets)) handed totals → totals ≡ clean_totals c (8 * length (cadus c octets))
+ComplementedTotals =
+    (c : Configuration) (octets : List ℕ) (handed : List (Handed ItemValue)) (totals : Totals) → IsAccepted c
+    → c.inner ≡ Some R12
+    → c.start ≡ Any → c.skip ≡ 0 → AreReceived c (complemented_octets (sent c octets)) handed totals
+    → totals ≡ clean_totals c (8 * length (cadus c octets))
 
 -- the items of what is sent for octets, and the frames of these items
 abbrev CleanItems : Type 0
-CleanItems = (c : Configuration) (octets : List ℕ) (items : List ItemValue) → IsAccepted c → c.skip ≡ 0 → IsStartKnown c → AreOctets octets
+CleanItems =
+    (c : Configuration) (octets : List ℕ) (items : List ItemValue) → IsAccepted c → c.skip ≡ 0 → IsStartKnown c
+    → AreOctets octets
     → Receive c 0 (sent c octets) items → items ≡ clean_items c 0 (found_frames c (whole_frames c.frame_length octets))
 
 abbrev CleanFrames : Type 0
-CleanFrames = (c : Configuration) (at : ℕ) (frames : List (List ℕ)) → frames_of (clean_items c at frames) ≡ concat frames
+CleanFrames =
+    (c : Configuration) (at : ℕ) (frames : List (List ℕ)) → frames_of (clean_items c at frames) ≡ concat frames
 
 -- the items of units, however disturbed, and their frames
 abbrev SentItems : Type 0
-SentItems = (c : Configuration) (phase : ℕ) (octets : List ℕ) (bits : List Bool) (units : List SentUnit) (last : List Bool) (items : List ItemValue)
-    → IsAccepted c → Inner c phase octets bits → IsSent c bits units last → Receive c phase octets items → AreAsSent c (unit_places c units) units items
+SentItems =
+    (c : Configuration) (phase : ℕ) (octets : List ℕ) (bits : List Bool) (units : List SentUnit) (last : List Bool)
+    (items : List ItemValue)
+    → IsAccepted c → Inner c phase octets bits → IsSent c bits units last → Receive c phase octets items
+    → AreAsSent c (unit_places c units) units items
 
 abbrev SentFrames : Type 0
-SentFrames = (c : Configuration) (phase : ℕ) (octets : List ℕ) (bits : List Bool) (units : List SentUnit) (last : List Bool) (items : List ItemValue)
+SentFrames =
+    (c : Configuration) (phase : ℕ) (octets : List ℕ) (bits : List Bool) (units : List SentUnit) (last : List Bool)
+    (items : List ItemValue)
     → IsAccepted c → Inner c phase octets bits → IsSent c bits units last → Receive c phase octets items
     → AreNear c (unit_places c units) units → frames_of items ≡ unit_frames units
 
@@ -99,7 +120,8 @@ ComplementedItems = (c : Configuration) (phase : ℕ) (octets : List ℕ) (items
 abbrev ComplementedSymbols : Type 0
 ComplementedSymbols = (c : Configuration) (octets : List ℕ) (items : List ItemValue) → IsAccepted c → c.inner ≡ Some R12
     → c.polarity ≡ Find → c.start ≡ Any → c.skip ≡ 0 → AreOctets octets
-    → Receive c 0 (complemented_octets (sent c octets)) items → items ≡ map complemented_item (clean_items c 0 (found_frames c (whole_frames c.frame_length octets)))
+    → Receive c 0 (complemented_octets (sent c octets)) items
+    → items ≡ map complemented_item (clean_items c 0 (found_frames c (whole_frames c.frame_length octets)))
 
 -- ---- no column is uncorrectable
 
@@ -125,23 +147,27 @@ clean-good c at (frame ∷ frames) =
     (clean-good c (at + 32 + 8 * codeblock_length c) frames)
 
 -- of columns that are disturbed within the bound
-near-fixed : (bound : ℕ) (columns others : List (List ℕ)) (answers : List Answer) → AreRepaired bound columns others answers → AreWithin bound columns others
+near-fixed : (bound : ℕ) (columns others : List (List ℕ)) (answers : List Answer)
+    → AreRepaired bound columns others answers → AreWithin bound columns others
     → are_fixed answers ≡ true
 near-fixed bound columns others [] repaired within = refl
 near-fixed bound [] [] (answer ∷ answers) repaired within = absurd repaired
 near-fixed bound [] (other ∷ others) (answer ∷ answers) repaired within = absurd repaired
 near-fixed bound (column ∷ columns) [] (answer ∷ answers) repaired within = absurd repaired
 near-fixed bound (column ∷ columns) (other ∷ others) (answer ∷ answers) repaired within =
-    subst (λ (a : Answer). are_fixed (a ∷ answers) ≡ true) (sym (repaired.0 within.0)) (near-fixed bound columns others answers repaired.1 within.1)
+    subst (λ (a : Answer). are_fixed (a ∷ answers) ≡ true) (sym (repaired.0 within.0))
+    (near-fixed bound columns others answers repaired.1 within.1)
 
-near-good : (c : Configuration) (fs : List Found) (units : List SentUnit) (items : List ItemValue) → AreAsSent c fs units items → AreNear c fs units → bad items ≡ 0
+near-good : (c : Configuration) (fs : List Found) (units : List SentUnit) (items : List ItemValue)
+    → AreAsSent c fs units items → AreNear c fs units → bad items ≡ 0
 near-good c fs units [] are near = refl
 near-good c [] [] (item ∷ items) are near = absurd are
 near-good c [] (u ∷ units) (item ∷ items) are near = absurd are
 near-good c (f ∷ fs) [] (item ∷ items) are near = absurd are
 near-good c (f ∷ fs) (u ∷ units) (item ∷ items) are near =
     one-good (are_fixed item.answers) (bad items)
-    (near-fixed c.repair (received_columns c (unit_codeblock c f u)) (sent_columns c u.frame) item.answers are.0.answers near.0.columns)
+    (near-fixed c.repair (received_columns c (unit_codeblock c f u))
+    (sent_columns c u.frame) item.answers are.0.answers near.0.columns)
     (near-good c fs units items are.1 near.1)
 
 -- ---- items in the other polarity
@@ -157,22 +183,29 @@ bad-complemented (item ∷ items) = ap (λ n. (if are_fixed item.answers then 0 
 -- ---- octets of the same length
 
 -- with no inner code they come to the same
-same-totals : (c : Configuration) (phase : ℕ) (octets others : List ℕ) (bits more : List Bool) → c.inner ≡ None → length octets ≡ length others
-    → (a : Inner c phase octets bits) (b : Inner c phase others more) → totals_of c bits a.blocks ≡ totals_of c more b.blocks
+same-totals : (c : Configuration) (phase : ℕ) (octets others : List ℕ) (bits more : List Bool) → c.inner ≡ None
+    → length octets ≡ length others
+    → (a : Inner c phase octets bits) (b : Inner c phase others more)
+    → totals_of c bits a.blocks ≡ totals_of c more b.blocks
 same-totals c phase octets others bits more plain long a b =
     let n : ℕ = length others in
     let m : ℕ = plain_count c n - c.skip in
-    let count : length bits ≡ length more = ap length a.are_bits ∙ sym (bits-plain c n m octets a.blocks plain long refl)
+    let count : length bits ≡ length more = ap length a.are_bits
+    ∙ sym (bits-plain c n m octets a.blocks plain long refl)
     ∙ bits-plain c n m others b.blocks plain refl refl ∙ sym (ap length b.are_bits) in
-    let none : a.blocks ≡ b.blocks = no-blocks c phase octets a.blocks a.left plain a.are_blocks ∙ sym (no-blocks c phase others b.blocks b.left plain b.are_blocks) in
+    let none : a.blocks ≡ b.blocks = no-blocks c phase octets a.blocks a.left plain a.are_blocks
+    ∙ sym (no-blocks c phase others b.blocks b.left plain b.are_blocks) in
     λ i. record { bits = count i; slips = reported_slips c (none i) }
   where
-    no-blocks : (c : Configuration) (phase : ℕ) (octets : List ℕ) (blocks : List WindowBlock) (left : ℕ) → c.inner ≡ None
+    no-blocks : (c : Configuration) (phase : ℕ) (octets : List ℕ) (blocks : List WindowBlock) (left : ℕ)
+        → c.inner ≡ None
         → AreInnerBlocks c phase octets blocks left → blocks ≡ []
-    no-blocks c phase octets blocks left plain are = (subst (λ (r : Option Rate). BlocksAt r c phase octets blocks left) plain are).0
+    no-blocks c phase octets blocks left plain are =
+        (subst (λ (r : Option Rate). BlocksAt r c phase octets blocks left) plain are).0
 
 -- with no inner code the phase hangs on no octet
-phase-plain : (rate : Option Rate) (c : Configuration) (soft others : List ℕ) (chosen : Chosen) → rate ≡ None → PhaseAt rate c soft chosen → PhaseAt rate c others chosen
+phase-plain : (rate : Option Rate) (c : Configuration) (soft others : List ℕ) (chosen : Chosen) → rate ≡ None
+    → PhaseAt rate c soft chosen → PhaseAt rate c others chosen
 phase-plain None c soft others chosen is p = p
 phase-plain (Some rate) c soft others chosen is p = absurd (cc)
 
@@ -189,9 +222,11 @@ items_of-turn : (chosen : Option Chosen) (items : List ItemValue) → items_of (
 items_of-turn None items = items_of-items items
 items_of-turn (Some chosen) items = items_of-items items
 
--- What `decode` wrote for octets with this phase: the frames and the report of the items that are received. Where none of these has a
+-- What `decode` wrote for octets with this phase: the frames and the report of the items that are
+-- received. Where none of these has a
 -- column uncorrectable, the status is 0.
-record Came (status : ℕ) (c : Configuration) (octets : List ℕ) (chosen : Option Chosen) (taken taken_now noted noted_now : Option (List ℕ)) : Type 0 where
+record Came (status : ℕ) (c : Configuration) (octets : List ℕ) (chosen : Option Chosen)
+    (taken taken_now noted noted_now : Option (List ℕ)) : Type 0 where
   bits : List Bool
   items : List ItemValue
   inner : Inner c (skip_of chosen) octets bits
@@ -205,29 +240,41 @@ record Came (status : ℕ) (c : Configuration) (octets : List ℕ) (chosen : Opt
   good : bad items ≡ 0 → status ≡ 0
 
 -- the status is 0 where nothing is uncorrectable
-good-status : (e : Ending) (status : ℕ) (c : Configuration) (octets : List ℕ) (taken taken_now noted noted_now : Option (List ℕ))
-    → status ≡ status_of e → Ends e (decode_meaning c) c.limit octets (taken_by taken taken_now noted noted_now) → (status ≡ 0) ⊎ (status ≡ 1) → (HasBad c octets → ⊥) → status ≡ 0
+good-status : (e : Ending) (status : ℕ) (c : Configuration) (octets : List ℕ)
+    (taken taken_now noted noted_now : Option (List ℕ))
+    → status ≡ status_of e → Ends e (decode_meaning c) c.limit octets (taken_by taken taken_now noted noted_now)
+    → (status ≡ 0) ⊎ (status ≡ 1) → (HasBad c octets → ⊥) → status ≡ 0
 good-status Done status c octets taken taken_now noted noted_now told ends read good = told
 good-status Bad status c octets taken taken_now noted noted_now told ends read good = absurd (good ends.2)
 good-status LeftOver status c octets taken taken_now noted noted_now told ends read good = absurd ends.2
 good-status BadWindow status c octets taken taken_now noted noted_now told ends read good = absurd ends.0
-good-status SourceFault status c octets taken taken_now noted noted_now told ends read good = absurd (omega (arith, told, read))
-good-status SinkFault status c octets taken taken_now noted noted_now told ends read good = absurd (omega (arith, told, read))
-good-status PastLimit status c octets taken taken_now noted noted_now told ends read good = absurd (omega (arith, told, read))
+good-status SourceFault status c octets taken taken_now noted noted_now told ends read good =
+    absurd (omega (arith, told, read))
+good-status SinkFault status c octets taken taken_now noted noted_now told ends read good =
+    absurd (omega (arith, told, read))
+good-status PastLimit status c octets taken taken_now noted noted_now told ends read good =
+    absurd (omega (arith, told, read))
 
 -- and the whole output is written
-whole-output : (e : Ending) (status : ℕ) (c : Configuration) (octets : List ℕ) (taken taken_now noted noted_now : Option (List ℕ))
-    → status ≡ status_of e → Ends e (decode_meaning c) c.limit octets (taken_by taken taken_now noted noted_now) → (status ≡ 0) ⊎ (status ≡ 1) → WroteOutput (decode_meaning c) octets (taken_by taken taken_now noted noted_now)
+whole-output : (e : Ending) (status : ℕ) (c : Configuration) (octets : List ℕ)
+    (taken taken_now noted noted_now : Option (List ℕ))
+    → status ≡ status_of e → Ends e (decode_meaning c) c.limit octets (taken_by taken taken_now noted noted_now)
+    → (status ≡ 0) ⊎ (status ≡ 1) → WroteOutput (decode_meaning c) octets (taken_by taken taken_now noted noted_now)
 whole-output Done status c octets taken taken_now noted noted_now told ends read = ends.0
 whole-output Bad status c octets taken taken_now noted noted_now told ends read = ends.0
 whole-output LeftOver status c octets taken taken_now noted noted_now told ends read = ends.0
 whole-output BadWindow status c octets taken taken_now noted noted_now told ends read = absurd ends.0
-whole-output SourceFault status c octets taken taken_now noted noted_now told ends read = absurd (omega (arith, told, read))
-whole-output SinkFault status c octets taken taken_now noted noted_now told ends read = absurd (omega (arith, told, read))
-whole-output PastLimit status c octets taken taken_now noted noted_now told ends read = absurd (omega (arith, told, read))
+whole-output SourceFault status c octets taken taken_now noted noted_now told ends read =
+    absurd (omega (arith, told, read))
+whole-output SinkFault status c octets taken taken_now noted noted_now told ends read =
+    absurd (omega (arith, told, read))
+whole-output PastLimit status c octets taken taken_now noted noted_now told ends read =
+    absurd (omega (arith, told, read))
 
-came : OnePhase → OneHanded → (e : Ending) (status : ℕ) (c : Configuration) (octets : List ℕ) (chosen : Option Chosen) (taken taken_now noted noted_now : Option (List ℕ))
-    → IsAccepted c → status ≡ status_of e → Ends e (decode_meaning c) c.limit octets (taken_by taken taken_now noted noted_now) → (status ≡ 0) ⊎ (status ≡ 1) → IsChosen c octets chosen
+came : OnePhase → OneHanded → (e : Ending) (status : ℕ) (c : Configuration) (octets : List ℕ) (chosen : Option Chosen)
+    (taken taken_now noted noted_now : Option (List ℕ))
+    → IsAccepted c → status ≡ status_of e → Ends e (decode_meaning c) c.limit octets
+    (taken_by taken taken_now noted noted_now) → (status ≡ 0) ⊎ (status ≡ 1) → IsChosen c octets chosen
     → Came status c octets chosen taken taken_now noted noted_now
 came one_phase one e status c octets chosen taken taken_now noted noted_now ok told ends read choice =
     let wrote = whole-output e status c octets taken taken_now noted noted_now told ends read in
@@ -241,7 +288,8 @@ came one_phase one e status c octets chosen taken taken_now noted noted_now ok t
     let inner : Inner c (skip_of chosen) octets all.0 = record {
       blocks = was.blocks;
       left = was.left;
-      are_blocks = subst (λ (o : Option Chosen). AreInnerBlocks c (skip_of o) octets was.blocks was.left) same was.are_blocks;
+      are_blocks =
+          subst (λ (o : Option Chosen). AreInnerBlocks c (skip_of o) octets was.blocks was.left) same was.are_blocks;
       are_bits = was.are_bits;
     } in
     record {
@@ -254,15 +302,21 @@ came one_phase one e status c octets chosen taken taken_now noted noted_now ok t
       totals = d.totals;
       received = r;
       counted = all.2;
-      notes = subst (Wrote noted noted_now) (d.is_report ∙ ap (λ (l : List (Handed ItemValue)). report_text l d.totals) handed) wrote.2.notes;
+      notes =
+          subst (Wrote noted noted_now)
+          (d.is_report ∙ ap (λ (l : List (Handed ItemValue)). report_text l d.totals) handed) wrote.2.notes;
       good = λ none. good-status e status c octets taken taken_now noted noted_now told ends read
-          (λ h. h.2 (ap (λ (l : List (Handed ItemValue)). bad (items_of l)) (one c octets h.0 d.handed h.1.0 d.totals ok h.1.1 r) ∙ ap bad items ∙ none));
+          (λ h. h.2 (ap (λ (l : List (Handed ItemValue)). bad (items_of l))
+          (one c octets h.0 d.handed h.1.0 d.totals ok h.1.1 r) ∙ ap bad items ∙ none));
     }
 
 -- what came of octets of which the phase is known
-came-free : OnePhase → OneHanded → (e : Ending) (status : ℕ) (c : Configuration) (octets : List ℕ) (taken taken_now noted noted_now : Option (List ℕ))
-    → IsAccepted c → status ≡ status_of e → Ends e (decode_meaning c) c.limit octets (taken_by taken taken_now noted noted_now) → (status ≡ 0) ⊎ (status ≡ 1)
-    → ((chosen : Option Chosen) → IsChosen c octets chosen → chosen ≡ sent_phase c) → Came status c octets (sent_phase c) taken taken_now noted noted_now
+came-free : OnePhase → OneHanded → (e : Ending) (status : ℕ) (c : Configuration) (octets : List ℕ)
+    (taken taken_now noted noted_now : Option (List ℕ))
+    → IsAccepted c → status ≡ status_of e → Ends e (decode_meaning c) c.limit octets
+    (taken_by taken taken_now noted noted_now) → (status ≡ 0) ⊎ (status ≡ 1)
+    → ((chosen : Option Chosen) → IsChosen c octets chosen → chosen ≡ sent_phase c)
+    → Came status c octets (sent_phase c) taken taken_now noted noted_now
 came-free one_phase one e status c octets taken taken_now noted noted_now ok told ends read known =
     let r = (whole-output e status c octets taken taken_now noted noted_now told ends read).1.are_received in
     came one_phase one e status c octets (sent_phase c) taken taken_now noted noted_now ok told ends read
@@ -270,69 +324,99 @@ came-free one_phase one e status c octets taken taken_now noted noted_now ok tol
 
 -- ---- links
 
-pub keeps-clean : SentPhase → OnePhase → OneHanded → CleanTotals → CleanItems → CleanFrames → (e : Ending) (status : ℕ) (c : Configuration) (octets : List ℕ) (taken taken_now noted noted_now : Option (List ℕ))
-    → IsAccepted c → status ≡ status_of e → Ends e (decode_meaning c) c.limit octets (taken_by taken taken_now noted noted_now) → (status ≡ 0) ⊎ (status ≡ 1)
+pub keeps-clean : SentPhase → OnePhase → OneHanded → CleanTotals → CleanItems → CleanFrames
+    → (e : Ending) (status : ℕ) (c : Configuration) (octets : List ℕ)
+    (taken taken_now noted noted_now : Option (List ℕ))
+    → IsAccepted c → status ≡ status_of e → Ends e (decode_meaning c) c.limit octets
+    (taken_by taken taken_now noted noted_now) → (status ≡ 0) ⊎ (status ≡ 1)
     → KeepsCleanLink status c octets taken taken_now noted noted_now
-keeps-clean sent_phases one_phase one clean_totals_of clean frames e status c octets taken taken_now noted noted_now ok told ends read = λ input skip start small is.
+keeps-clean sent_phases one_phase one clean_totals_of clean frames e status c octets taken taken_now noted noted_now
+    ok told ends read = λ input skip start small is.
     let r = came-free one_phase one e status c octets taken taken_now noted noted_now ok told ends read
     (λ chosen choice. sent_phases c input chosen skip (subst (λ (l : List ℕ). IsChosen c l chosen) is choice)) in
     let sent_frames = found_frames c (whole_frames c.frame_length input) in
     let receive : Receive c 0 (sent c input) r.items =
-    subst (λ (n : ℕ). Receive c n (sent c input) r.items) (sent-skip c) (subst (λ (l : List ℕ). Receive c (skip_of (sent_phase c)) l r.items) is r.receive) in
+    subst (λ (n : ℕ). Receive c n (sent c input) r.items) (sent-skip c)
+    (subst (λ (l : List ℕ). Receive c (skip_of (sent_phase c)) l r.items) is r.receive) in
     let items : r.items ≡ clean_items c 0 sent_frames = clean c input r.items ok skip start small receive in
-    let count : r.totals ≡ clean_totals c (8 * length (cadus c input)) = clean_totals_of c input r.handed r.totals ok skip start
+    let count : r.totals ≡ clean_totals c (8 * length (cadus c input)) =
+    clean_totals_of c input r.handed r.totals ok skip start
     (subst (λ (l : List ℕ). AreReceived c l r.handed r.totals) is r.received) in (
       r.good (ap bad items ∙ clean-good c 0 sent_frames),
       subst (Wrote taken taken_now) (ap frames_of items ∙ frames c 0 sent_frames) r.out,
       subst (Wrote noted noted_now) (λ i. report_text (with_phase (sent_phase c) (items i)) (count i)) r.notes,
     )
 
-pub keeps-disturbed : OnePhase → OneHanded → OneBits → OneBlocks → SentItems → SentFrames → (e : Ending) (status : ℕ) (c : Configuration) (octets : List ℕ) (taken taken_now noted noted_now : Option (List ℕ))
-    → IsAccepted c → status ≡ status_of e → Ends e (decode_meaning c) c.limit octets (taken_by taken taken_now noted noted_now) → (status ≡ 0) ⊎ (status ≡ 1)
+pub keeps-disturbed : OnePhase → OneHanded → OneBits → OneBlocks → SentItems → SentFrames
+    → (e : Ending) (status : ℕ) (c : Configuration) (octets : List ℕ)
+    (taken taken_now noted noted_now : Option (List ℕ))
+    → IsAccepted c → status ≡ status_of e → Ends e (decode_meaning c) c.limit octets
+    (taken_by taken taken_now noted noted_now) → (status ≡ 0) ⊎ (status ≡ 1)
     → KeepsDisturbedLink status c octets taken taken_now noted noted_now
-keeps-disturbed one_phase one one_bits one_blocks sent_items sent_frames e status c octets taken taken_now noted noted_now ok told ends read = λ bits units last chosen choice inner is.
+keeps-disturbed one_phase one one_bits one_blocks sent_items sent_frames e status c octets taken taken_now noted
+    noted_now ok told ends read = λ bits units last chosen choice inner is.
     let r = came one_phase one e status c octets chosen taken taken_now noted noted_now ok told ends read choice in
     let as_sent = sent_items c (skip_of chosen) octets bits units last r.items ok inner is r.receive in
     let same : r.bits ≡ bits = one_bits c (skip_of chosen) octets r.bits bits r.inner inner in
     let all : r.inner.blocks ≡ inner.blocks =
-    one_blocks c (skip_of chosen) octets r.inner.blocks inner.blocks r.inner.left inner.left r.inner.are_blocks inner.are_blocks in (
+    one_blocks c (skip_of chosen) octets r.inner.blocks inner.blocks r.inner.left inner.left r.inner.are_blocks
+    inner.are_blocks in (
       r.items,
       as_sent,
       r.out,
-      subst (λ (t : Totals). Wrote noted noted_now (report_text (with_phase chosen r.items) t)) (r.counted ∙ (λ i. totals_of c (same i) (all i))) r.notes,
+      subst (λ (t : Totals). Wrote noted noted_now (report_text (with_phase chosen r.items) t))
+          (r.counted ∙ (λ i. totals_of c (same i) (all i))) r.notes,
       λ near. (
         r.good (near-good c (unit_places c units) units r.items as_sent near),
-        subst (Wrote taken taken_now) (sent_frames c (skip_of chosen) octets bits units last r.items ok inner is r.receive near) r.out,
+        subst (Wrote taken taken_now) (sent_frames c (skip_of chosen) octets bits units last r.items ok inner is
+            r.receive near) r.out,
       ),
     )
 
-pub keeps-complemented_input : OnePhase → OneHanded → OneItems → ComplementedItems → (e : Ending) (status : ℕ) (c : Configuration) (octets : List ℕ) (taken taken_now noted noted_now : Option (List ℕ))
-    → IsAccepted c → status ≡ status_of e → Ends e (decode_meaning c) c.limit octets (taken_by taken taken_now noted noted_now) → (status ≡ 0) ⊎ (status ≡ 1)
+pub keeps-complemented_input : OnePhase → OneHanded → OneItems → ComplementedItems
+    → (e : Ending) (status : ℕ) (c : Configuration) (octets : List ℕ)
+    (taken taken_now noted noted_now : Option (List ℕ))
+    → IsAccepted c → status ≡ status_of e → Ends e (decode_meaning c) c.limit octets
+    (taken_by taken taken_now noted noted_now) → (status ≡ 0) ⊎ (status ≡ 1)
     → KeepsComplementedInput c octets taken taken_now noted noted_now
-keeps-complemented_input one_phase one one_items complemented e status c octets taken taken_now noted noted_now ok told ends read = λ other bits items chosen plain find small is choice inner are.
-    let r = came one_phase one e status c octets chosen taken taken_now noted noted_now ok told ends read (choice-plain c other octets chosen plain choice) in
+keeps-complemented_input one_phase one one_items complemented e status c octets taken taken_now noted noted_now ok
+    told ends read = λ other bits items chosen plain find small is choice inner are.
+    let r = came one_phase one e status c octets chosen taken taken_now noted noted_now ok told ends read
+    (choice-plain c other octets chosen plain choice) in
     let receive : Receive c (skip_of chosen) octets (map complemented_item items) =
     subst (λ (l : List ℕ). Receive c (skip_of chosen) l (map complemented_item items)) (sym is)
-    (complemented c (skip_of chosen) other items ok plain find small (record { bits = bits; inner = inner; are_items = are })) in
-    let same : r.items ≡ map complemented_item items = one_items c (skip_of chosen) octets r.items (map complemented_item items) ok r.receive receive in
+    (complemented c (skip_of chosen) other items ok plain find small
+    (record { bits = bits; inner = inner; are_items = are })) in
+    let same : r.items ≡ map complemented_item items = one_items c (skip_of chosen) octets r.items
+    (map complemented_item items) ok r.receive receive in
     let count : r.totals ≡ totals_of c bits inner.blocks =
-    r.counted ∙ same-totals c (skip_of chosen) octets other r.bits bits plain (ap length is ∙ length-map other (λ octet. 255 - octet)) r.inner inner in (
+    r.counted ∙ same-totals c (skip_of chosen) octets other r.bits bits plain
+    (ap length is ∙ length-map other (λ octet. 255 - octet)) r.inner inner in (
       subst (Wrote taken taken_now) (ap frames_of same ∙ frames-complemented items) r.out,
-      subst (Wrote noted noted_now) (ap (λ (l : List ItemValue). report_text (with_phase chosen l) r.totals) same ∙ ap (report_text (with_phase chosen (map complemented_item items))) count) r.notes,
+      subst (Wrote noted noted_now) (ap (λ (l : List ItemValue). report_text (with_phase chosen l) r.totals) same
+          ∙ ap (report_text (with_phase chosen (map complemented_item items))) count) r.notes,
     )
 
-pub keeps-complemented_symbols : ComplementedPhase → OnePhase → OneHanded → ComplementedTotals → CleanFrames → ComplementedSymbols → (e : Ending) (status : ℕ) (c : Configuration) (octets : List ℕ) (taken taken_now noted noted_now : Option (List ℕ))
-    → IsAccepted c → status ≡ status_of e → Ends e (decode_meaning c) c.limit octets (taken_by taken taken_now noted noted_now) → (status ≡ 0) ⊎ (status ≡ 1)
+pub keeps-complemented_symbols : ComplementedPhase → OnePhase → OneHanded → ComplementedTotals → CleanFrames
+    → ComplementedSymbols → (e : Ending) (status : ℕ) (c : Configuration) (octets : List ℕ)
+    (taken taken_now noted noted_now : Option (List ℕ))
+    → IsAccepted c → status ≡ status_of e → Ends e (decode_meaning c) c.limit octets
+    (taken_by taken taken_now noted noted_now) → (status ≡ 0) ⊎ (status ≡ 1)
     → KeepsComplementedSymbols status c octets taken taken_now noted noted_now
-keeps-complemented_symbols complemented_phases one_phase one totals_of_both frames complemented e status c octets taken taken_now noted noted_now ok told ends read = λ input half find any skip small is.
+keeps-complemented_symbols complemented_phases one_phase one totals_of_both frames complemented e status c octets
+    taken taken_now noted noted_now ok told ends read = λ input half find any skip small is.
     let r = came-free one_phase one e status c octets taken taken_now noted noted_now ok told ends read
-    (λ chosen choice. complemented_phases c input chosen skip (subst (λ (l : List ℕ). IsChosen c l chosen) is choice)) in
+    (λ chosen choice. complemented_phases c input chosen skip (subst (λ (l : List ℕ). IsChosen c l chosen) is choice))
+    in
     let sent_frames = found_frames c (whole_frames c.frame_length input) in
     let clean = clean_items c 0 sent_frames in
     let receive : Receive c 0 (complemented_octets (sent c input)) r.items =
-    subst (λ (n : ℕ). Receive c n (complemented_octets (sent c input)) r.items) (sent-skip c) (subst (λ (l : List ℕ). Receive c (skip_of (sent_phase c)) l r.items) is r.receive) in
-    let items : r.items ≡ map complemented_item clean = complemented c input r.items ok half find any skip small receive in
-    let count : r.totals ≡ clean_totals c (8 * length (cadus c input)) = totals_of_both c input r.handed r.totals ok half any skip
+    subst (λ (n : ℕ). Receive c n (complemented_octets (sent c input)) r.items) (sent-skip c)
+    (subst (λ (l : List ℕ). Receive c (skip_of (sent_phase c)) l r.items) is r.receive) in
+    let items : r.items ≡ map complemented_item clean = complemented c input r.items ok half find any skip small
+    receive in
+    let count : r.totals ≡ clean_totals c (8 * length (cadus c input)) =
+    totals_of_both c input r.handed r.totals ok half any skip
     (subst (λ (l : List ℕ). AreReceived c l r.handed r.totals) is r.received) in (
       r.good (ap bad items ∙ bad-complemented clean ∙ clean-good c 0 sent_frames),
       subst (Wrote taken taken_now) (ap frames_of items ∙ frames-complemented clean ∙ frames c 0 sent_frames) r.out,

@@ -36,7 +36,8 @@ use Rattle.tm_cli.proofs.Reporting.{report-wrote}
 -- ---- one unit
 
 -- what a sink whose octets are known has taken of what is due for a unit is less than its room
-pub symbols-fit : (c : Configuration) (given unit octets : List ℕ) → length unit ≤ 2044 → WrotePrefix (Some []) (Some octets) (further (symbols_of_octets c) given unit)
+pub symbols-fit : (c : Configuration) (given unit octets : List ℕ) → length unit ≤ 2044
+    → WrotePrefix (Some []) (Some octets) (further (symbols_of_octets c) given unit)
     → length octets ≡ 32768 → ⊥
 symbols-fit c given unit octets small wrote full =
     let text = further (symbols_of_octets c) given unit in
@@ -45,7 +46,8 @@ symbols-fit c given unit octets small wrote full =
     absurd (omega (arith, small, full, long, length-take wrote.0 text, length-further c given unit))
 
 -- the octets that it has taken are what is due
-pub symbols-are : (c : Configuration) (given unit octets : List ℕ) → Wrote (Some []) (Some octets) (further (symbols_of_octets c) given unit)
+pub symbols-are : (c : Configuration) (given unit octets : List ℕ)
+    → Wrote (Some []) (Some octets) (further (symbols_of_octets c) given unit)
     → symbols_of_octets c given ++ octets ≡ symbols_of_octets c (given ++ unit)
 symbols-are c given unit octets wrote =
     let same : octets ≡ further (symbols_of_octets c) given unit = cc wrote in
@@ -56,68 +58,103 @@ no-room-left : (full : Bool) → Rose 0 (cond full 1 0) (full ≡ true) → full
 no-room-left true rose = refl
 no-room-left false rose = elim rose [ inl more ↦ absurd (omega (arith, more)) | inr is ↦ is ]
 
-pub unit-sent : (sender : InnerSending) (given unit : List ℕ) (result : Result (Unit {0}) SendError) (before now : HeldSymbols)
-    → before ≡ record { octets = []; is_full = false } → length unit ≤ 2044 → InnerSenderStandsFor sender given → sender.has_failed ≡ false
-    → (IsErrOf result Stopped → IsTrue sender.has_failed) → (IsErrOf result Sink → InnerSendsPrefix sender (Some before.octets) (Some now.octets) unit)
-    → (IsErrOf result Sink → Rose (cond before.is_full 1 0) (cond now.is_full 1 0) (now.is_full ≡ true)) → (now.is_full ≡ true → length now.octets ≡ 32768)
+pub unit-sent : (sender : InnerSending) (given unit : List ℕ) (result : Result (Unit {0}) SendError)
+    (before now : HeldSymbols)
+    → before ≡ record { octets = []; is_full = false } → length unit ≤ 2044 → InnerSenderStandsFor sender given
+    → sender.has_failed ≡ false
+    → (IsErrOf result Stopped → IsTrue sender.has_failed) →
+    (IsErrOf result Sink → InnerSendsPrefix sender (Some before.octets) (Some now.octets) unit)
+    → (IsErrOf result Sink → Rose (cond before.is_full 1 0) (cond now.is_full 1 0) (now.is_full ≡ true))
+    → (now.is_full ≡ true → length now.octets ≡ 32768)
     → IsOk result
 unit-sent sender given unit (Ok x) before now new small stands fresh stopped prefix rose full = refl
 unit-sent sender given unit (Err Sink) before now new small stands fresh stopped prefix rose full =
     let is_full : now.is_full ≡ true =
-    no-room-left now.is_full (subst (λ (b : HeldSymbols). Rose (cond b.is_full 1 0) (cond now.is_full 1 0) (now.is_full ≡ true)) new (rose refl)) in
-    let wrote = subst (λ (b : HeldSymbols). WrotePrefix (Some b.octets) (Some now.octets) (further (symbols_of_octets sender.config) given unit)) new ((prefix refl).prefix given stands) in
+    no-room-left now.is_full (subst (λ (b : HeldSymbols). Rose (cond b.is_full 1 0) (cond now.is_full 1 0)
+    (now.is_full ≡ true)) new (rose refl)) in
+    let wrote = subst (λ (b : HeldSymbols). WrotePrefix (Some b.octets) (Some now.octets)
+    (further (symbols_of_octets sender.config) given unit)) new ((prefix refl).prefix given stands) in
     absurd (symbols-fit sender.config given unit now.octets small wrote (full is_full))
-unit-sent sender given unit (Err Stopped) before now new small stands fresh stopped prefix rose full = cc (stopped refl, fresh)
+unit-sent sender given unit (Err Stopped) before now new small stands fresh stopped prefix rose full =
+    cc (stopped refl, fresh)
 
 -- and what is due for it is received
-pub unit-received : (c : Configuration) (sender sender_now : InnerSending) (receiver receiver_now : OctetReceiving) (start counts counts_now : Counts) (given unit octets : List ℕ)
-    (before now : HeldSymbols) (more : List (Handed ItemValue)) → before ≡ record { octets = []; is_full = false } → octets ≡ now.octets
+pub unit-received : (c : Configuration) (sender sender_now : InnerSending) (receiver receiver_now : OctetReceiving)
+    (start counts counts_now : Counts) (given unit octets : List ℕ)
+    (before now : HeldSymbols) (more : List (Handed ItemValue)) → before ≡ record { octets = []; is_full = false }
+    → octets ≡ now.octets
     → InnerSends sender sender_now (Some before.octets) (Some now.octets) unit → InnerSenderStandsFor sender given
     → receiver_now.config ≡ receiver.config → HandedOver CountedHanded counts more counts_now
-    → ((given : List ℕ) (done : List (Handed ItemValue)) → length given + length octets < 2 ^ 60 → ReceiverStandsFor receiver given done
-    → ReceiverStandsFor receiver_now (given ++ octets) (done ++ more) × AreReceivedDue receiver.config (given ++ octets) (done ++ more))
-    → HandedDue c receiver (λ handed. HandedOver CountedHanded start handed counts) (symbols_of_octets sender.config given)
-    → HandedDue c receiver_now (λ handed. HandedOver CountedHanded start handed counts_now) (symbols_of_octets sender.config (given ++ unit))
-unit-received c sender sender_now receiver receiver_now start counts counts_now given unit octets before now more new is sends stands same handed goes_on was =
-    let fed = due-more CountedHanded c receiver receiver_now start counts counts_now (symbols_of_octets sender.config given) octets more same handed goes_on was in
-    let wrote = subst (λ (b : HeldSymbols). Wrote (Some b.octets) (Some now.octets) (further (symbols_of_octets sender.config) given unit)) new (sends.fed.written given stands) in
-    let all = ap (λ (l : List ℕ). symbols_of_octets sender.config given ++ l) is ∙ symbols-are sender.config given unit now.octets wrote in
+    → ((given : List ℕ) (done : List (Handed ItemValue)) → length given + length octets < 2 ^ 60
+    → ReceiverStandsFor receiver given done
+    → ReceiverStandsFor receiver_now (given ++ octets) (done ++ more)
+    × AreReceivedDue receiver.config (given ++ octets) (done ++ more))
+    → HandedDue c receiver (λ handed. HandedOver CountedHanded start handed counts)
+    (symbols_of_octets sender.config given)
+    → HandedDue c receiver_now (λ handed. HandedOver CountedHanded start handed counts_now)
+    (symbols_of_octets sender.config (given ++ unit))
+unit-received c sender sender_now receiver receiver_now start counts counts_now given unit octets before now more new
+    is sends stands same handed goes_on was =
+    let fed = due-more CountedHanded c receiver receiver_now start counts counts_now
+    (symbols_of_octets sender.config given) octets more same handed goes_on was in
+    let wrote = subst (λ (b : HeldSymbols). Wrote (Some b.octets) (Some now.octets)
+    (further (symbols_of_octets sender.config) given unit)) new (sends.fed.written given stands) in
+    let all = ap (λ (l : List ℕ). symbols_of_octets sender.config given ++ l) is
+    ∙ symbols-are sender.config given unit now.octets wrote in
     subst (HandedDue c receiver_now (λ handed. HandedOver CountedHanded start handed counts_now)) all fed
 
 -- ---- all units
 
-pub handed-none : (c : Configuration) (hits : ℕ) (receiver : OctetReceiving) → IsAccepted c → receiver.config ≡ c → ReceiverStandsFor receiver [] []
-    → (g : _) → HandedDue c receiver (λ handed. HandedOver CountedHanded no_counts handed no_counts) (symbols_of_octets c (generated_units c 0 hits g))
+pub handed-none : (c : Configuration) (hits : ℕ) (receiver : OctetReceiving) → IsAccepted c → receiver.config ≡ c
+    → ReceiverStandsFor receiver [] []
+    → (g : _) → HandedDue c receiver (λ handed. HandedOver CountedHanded no_counts handed no_counts)
+    (symbols_of_octets c (generated_units c 0 hits g))
 handed-none c hits receiver accepted same stands g =
-    let none : [] ≡ symbols_of_octets c (generated_units c 0 hits g) = sym (ap (symbols_of_octets c) (units-none c hits g) ∙ symbols-none c) in
-    subst (HandedDue c receiver (λ handed. HandedOver CountedHanded no_counts handed no_counts)) none (due-none CountedHanded c receiver no_counts accepted same stands)
+    let none : [] ≡ symbols_of_octets c (generated_units c 0 hits g) =
+    sym (ap (symbols_of_octets c) (units-none c hits g) ∙ symbols-none c) in
+    subst (HandedDue c receiver (λ handed. HandedOver CountedHanded no_counts handed no_counts)) none
+    (due-none CountedHanded c receiver no_counts accepted same stands)
 
 -- one more, for a sender of the same configuration
-pub handed-more : (c : Configuration) (hits frame : ℕ) (g at : Lcg) (sender : InnerSending) (receiver receiver_now : OctetReceiving) (counts counts_now : Counts) (unit : List ℕ)
+pub handed-more : (c : Configuration) (hits frame : ℕ) (g at : Lcg) (sender : InnerSending)
+    (receiver receiver_now : OctetReceiving) (counts counts_now : Counts) (unit : List ℕ)
     → sender.config ≡ c → at ≡ drawn (frame * draw_count c hits) g → unit ≡ generated_unit c hits at
-    → HandedDue c receiver (λ handed. HandedOver CountedHanded no_counts handed counts) (symbols_of_octets c (generated_units c frame hits g))
-    → (HandedDue c receiver (λ handed. HandedOver CountedHanded no_counts handed counts) (symbols_of_octets sender.config (generated_units c frame hits g))
-    → HandedDue c receiver_now (λ handed. HandedOver CountedHanded no_counts handed counts_now) (symbols_of_octets sender.config (generated_units c frame hits g ++ unit)))
-    → HandedDue c receiver_now (λ handed. HandedOver CountedHanded no_counts handed counts_now) (symbols_of_octets c (generated_units c (frame + 1) hits g))
+    → HandedDue c receiver (λ handed. HandedOver CountedHanded no_counts handed counts)
+    (symbols_of_octets c (generated_units c frame hits g))
+    → (HandedDue c receiver (λ handed. HandedOver CountedHanded no_counts handed counts)
+    (symbols_of_octets sender.config (generated_units c frame hits g))
+    → HandedDue c receiver_now (λ handed. HandedOver CountedHanded no_counts handed counts_now)
+    (symbols_of_octets sender.config (generated_units c frame hits g ++ unit)))
+    → HandedDue c receiver_now (λ handed. HandedOver CountedHanded no_counts handed counts_now)
+    (symbols_of_octets c (generated_units c (frame + 1) hits g))
 handed-more c hits frame g at sender receiver receiver_now counts counts_now unit same stand is was goes_on =
-    let before = subst (λ (k : Configuration). HandedDue c receiver (λ handed. HandedOver CountedHanded no_counts handed counts) (symbols_of_octets k (generated_units c frame hits g))) (sym same) was in
-    let all : symbols_of_octets sender.config (generated_units c frame hits g ++ unit) ≡ symbols_of_octets c (generated_units c (frame + 1) hits g) =
+    let before = subst (λ (k : Configuration). HandedDue c receiver
+    (λ handed. HandedOver CountedHanded no_counts handed counts)
+    (symbols_of_octets k (generated_units c frame hits g))) (sym same) was in
+    let all : symbols_of_octets sender.config (generated_units c frame hits g ++ unit)
+    ≡ symbols_of_octets c (generated_units c (frame + 1) hits g) =
     ap (λ (k : Configuration). symbols_of_octets k (generated_units c frame hits g ++ unit)) same
     ∙ ap (λ (l : List ℕ). symbols_of_octets c (generated_units c frame hits g ++ l)) is
     ∙ ap (symbols_of_octets c) (units-more c frame hits g at stand) in
-    subst (HandedDue c receiver_now (λ handed. HandedOver CountedHanded no_counts handed counts_now)) all (goes_on before)
+    subst (HandedDue c receiver_now (λ handed. HandedOver CountedHanded no_counts handed counts_now)) all
+    (goes_on before)
 
 -- a unit is so long
-pub unit_few : (c : Configuration) (depth word : ℕ) → IsAccepted c → depth ≡ c.depth → word ≡ word_length c → depth * word ≤ 2040
+pub unit_few : (c : Configuration) (depth word : ℕ) → IsAccepted c → depth ≡ c.depth → word ≡ word_length c
+    → depth * word ≤ 2040
 unit_few c depth word accepted is_depth is_word =
-    let size : depth * word ≡ codeblock_length c = ap (λ n. n * word) is_depth ∙ ap (λ n. c.depth * n) is_word in omega (arith, size, codeblock_length-le c accepted)
+    let size : depth * word ≡ codeblock_length c = ap (λ n. n * word) is_depth ∙ ap (λ n. c.depth * n) is_word in
+    omega (arith, size, codeblock_length-le c accepted)
 
 -- units are so long
-pub units-long : (c : Configuration) (frame hits : ℕ) (g at : Lcg) (unit : List ℕ) → at ≡ drawn (frame * draw_count c hits) g → unit ≡ generated_unit c hits at → length unit ≤ 2044
-    → length (generated_units c frame hits g) ≤ 2044 * frame → length (generated_units c (frame + 1) hits g) ≤ 2044 * (frame + 1)
+pub units-long : (c : Configuration) (frame hits : ℕ) (g at : Lcg) (unit : List ℕ)
+    → at ≡ drawn (frame * draw_count c hits) g → unit ≡ generated_unit c hits at → length unit ≤ 2044
+    → length (generated_units c frame hits g) ≤ 2044 * frame
+    → length (generated_units c (frame + 1) hits g) ≤ 2044 * (frame + 1)
 units-long c frame hits g at unit stand is small few =
     let both : length (generated_units c frame hits g ++ unit) ≡ length (generated_units c (frame + 1) hits g) =
-    ap (λ (l : List ℕ). length (generated_units c frame hits g ++ l)) is ∙ ap length (units-more c frame hits g at stand) in
+    ap (λ (l : List ℕ). length (generated_units c frame hits g ++ l)) is
+    ∙ ap length (units-more c frame hits g at stand) in
     omega (arith, both, small, few, length-append (generated_units c frame hits g) unit)
 
 -- ---- counts
@@ -126,15 +163,19 @@ units-long c frame hits g at unit stand is small few =
 abbrev silent : Counts → SinkState
 silent _ = record { taken = None; faults = 0 }
 
-reported : (a : Counts) (h : Handed ItemValue) (b : Counts) → CountedHanded a h b → ReportedHanded (silent a) (silent b) a b h
+reported : (a : Counts) (h : Handed ItemValue) (b : Counts) → CountedHanded a h b
+    → ReportedHanded (silent a) (silent b) a b h
 reported a (Phase skip cost) b same = (same, record { written = refl; same = refl })
-reported a (Item item) b one = record { line = record { written = refl; same = refl }; counted = one.counted; few = one.few }
+reported a (Item item) b one =
+    record { line = record { written = refl; same = refl }; counted = one.counted; few = one.few }
 
-counted-all : (handed : List (Handed ItemValue)) (counts : Counts) → length (items_of handed) < 2 ^ 53 → HandedOver CountedHanded no_counts handed counts → counts ≡ counts_of (items_of handed)
+counted-all : (handed : List (Handed ItemValue)) (counts : Counts) → length (items_of handed) < 2 ^ 53
+    → HandedOver CountedHanded no_counts handed counts → counts ≡ counts_of (items_of handed)
 counted-all handed counts few over =
     let items = items_of handed in
     let all = report-wrote silent (λ (k : Counts). k) handed no_counts counts refl few
-    (handed-along CountedHanded (λ a h b. ReportedHanded (silent a) (silent b) a b h) reported handed no_counts counts over) in
+    (handed-along CountedHanded (λ a h b. ReportedHanded (silent a) (silent b) a b h) reported handed no_counts counts
+    over) in
     let goods : counts.good ≡ good items = all.good ∙ omega arith in
     let bads : counts.bad ≡ bad items = all.bad ∙ omega arith in
     let fixeds : counts.fixed ≡ fixed items = all.fixed ∙ omega arith in
@@ -143,18 +184,28 @@ counted-all handed counts few over =
     ∙ ap (λ (n : ℕ). record { good = good items; bad = bad items; fixed = n }) fixeds
 
 -- at the end all items of the octets are counted
-pub all-counted : (c : Configuration) (receiver : OctetReceiving) (counts now : Counts) (octets : List ℕ) (last : List (Handed ItemValue)) (totals : Totals) → length octets < 2 ^ 40
-    → HandedDue c receiver (λ handed. HandedOver CountedHanded no_counts handed counts) octets → HandedOver CountedHanded counts last now
-    → ((given : List ℕ) (done : List (Handed ItemValue)) → ReceiverStandsFor receiver given done → AreReceived receiver.config given (done ++ last) totals)
+pub all-counted : (c : Configuration) (receiver : OctetReceiving) (counts now : Counts) (octets : List ℕ)
+    (last : List (Handed ItemValue)) (totals : Totals) → length octets < 2 ^ 40
+    → HandedDue c receiver (λ handed. HandedOver CountedHanded no_counts handed counts) octets
+    → HandedOver CountedHanded counts last now
+    → ((given : List ℕ) (done : List (Handed ItemValue)) → ReceiverStandsFor receiver given done
+    → AreReceived receiver.config given (done ++ last) totals)
     → (handed : List (Handed ItemValue)) × AreReceived c octets handed totals × (now ≡ counts_of (items_of handed))
 all-counted c receiver counts now octets last totals few was more finish =
-    let all = all-handed CountedHanded c receiver no_counts counts now octets last totals (omega (arith, few)) was more finish in
+    let all = all-handed CountedHanded c receiver no_counts counts now octets last totals
+    (omega (arith, few)) was more finish in
     (all.0, all.1, counted-all all.0 now (omega (arith, few, few-received c totals octets all.0 all.1)) all.2)
 
 -- ---- the line
 
 pub counted-line : (c : Configuration) (seed frames hits : ℕ) (totals : Totals) (counts : Counts)
-    → ((handed : List (Handed ItemValue)) × AreReceived c (generated c seed frames hits) handed totals × (counts ≡ counts_of (items_of handed)))
+    → ((handed : List (Handed ItemValue)) × AreReceived c (generated c seed frames hits) handed totals
+    × (counts ≡ counts_of (items_of handed)))
     → IsSoakLine c seed frames hits (report_end_text counts.good counts.bad counts.fixed totals.bits)
 counted-line c seed frames hits totals counts counted =
-    record { handed = counted.0; totals = totals; are_received = counted.1; is_line = ap (λ (k : Counts). report_end_text k.good k.bad k.fixed totals.bits) counted.2 }
+    record {
+      handed = counted.0;
+      totals = totals;
+      are_received = counted.1;
+      is_line = ap (λ (k : Counts). report_end_text k.good k.bad k.fixed totals.bits) counted.2;
+    }

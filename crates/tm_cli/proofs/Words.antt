@@ -10,12 +10,15 @@ use Rattle.tm_cli.specs.declared.refusal.Refusal.{Refusal}
 use Rattle.tm_cli.specs.declared.refusal.Refusal.TheVariants as refusal
 use Rattle.tm_cli.specs.Refusal.{first_refusal, refusal_after, refusal_of_command, refusal_of_job}
 
-pub words-refused : (faults : Kinds) (job : Option Job) → (faults ≡ [] → ⊥) → first_refusal faults job ≡ Some refusal.Words
+pub words-refused : (faults : Kinds) (job : Option Job) → (faults ≡ [] → ⊥)
+    → first_refusal faults job ≡ Some refusal.Words
 words-refused [] job none = absurd (none refl)
 words-refused (fault ∷ faults) job none = refl
 
-pub command-refused : (faults : Kinds) (read : Option Job) (job : Job) (config : Configuration) (found : Option Refusal) (why : Refusal) → faults ≡ [] → read ≡ Some job
-    → refusal_of_raw job.raw ≡ None → config ≡ configuration_of job.raw → found ≡ refusal_of_command config (command_of job) → found ≡ Some why
+pub command-refused : (faults : Kinds) (read : Option Job) (job : Job) (config : Configuration)
+    (found : Option Refusal) (why : Refusal) → faults ≡ [] → read ≡ Some job
+    → refusal_of_raw job.raw ≡ None → config ≡ configuration_of job.raw
+    → found ≡ refusal_of_command config (command_of job) → found ≡ Some why
     → first_refusal faults read ≡ Some why
 command-refused faults read job config found why taken is none same tested refused =
     ap (λ (f : Kinds). first_refusal f read) taken

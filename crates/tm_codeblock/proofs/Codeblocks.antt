@@ -20,13 +20,18 @@ use Rattle.tm_random.specs.Masked.{masked}
 use Rattle.tm_codeblock.specs.Cadu.{coded_octets, coded_column, codeblock_of, cadu}
 
 -- octets read in a basis and sent in it are the same octets
-pub sent-read : (basis : Basis) (octets : List ℕ) → AreOctets octets → map (sent_octet basis) (map (element_of basis) octets) ≡ octets
+pub sent-read : (basis : Basis) (octets : List ℕ) → AreOctets octets
+    → map (sent_octet basis) (map (element_of basis) octets) ≡ octets
 sent-read basis [] are = refl
-sent-read basis (x ∷ octets) are = (λ i. sent_octet-element_of basis x (are 0 0 (omega arith)) i ∷ sent-read basis octets (AreOctets-rest x octets are) i)
+sent-read basis (x ∷ octets) are =
+    (λ i. sent_octet-element_of basis x (are 0 0 (omega arith)) i
+    ∷ sent-read basis octets (AreOctets-rest x octets are) i)
 
 -- the octets of a codeword are those of its data and of its check symbols
-pub coded-is : (basis : Basis) (e : ℕ) (octets info symbols out : List ℕ) → AreOctets octets → info ≡ map (element_of basis) octets
-    → info ++ symbols ≡ encode_word e info → out ≡ map (sent_octet basis) symbols → octets ++ out ≡ coded_octets basis e octets
+pub coded-is : (basis : Basis) (e : ℕ) (octets info symbols out : List ℕ) → AreOctets octets
+    → info ≡ map (element_of basis) octets
+    → info ++ symbols ≡ encode_word e info → out ≡ map (sent_octet basis) symbols
+    → octets ++ out ≡ coded_octets basis e octets
 unfolding coded_octets
 coded-is basis e octets info symbols out are read codeword sent =
     (λ i. sym (sent-read basis octets are) i ++ sent i)
@@ -37,13 +42,15 @@ coded-is basis e octets info symbols out are read codeword sent =
 -- the frame and the check symbols of its columns are its codeblock
 pub codeblock-is : (c : Configuration) (frame checks : List ℕ) → c.code ≢ Uncoded → 0 < c.depth
     → length frame ≡ c.depth * data_length c → length checks ≡ c.depth * (2 * correctable c.code)
-    → ((i : ℕ) → i < c.depth → column c.depth i frame ++ column c.depth i checks ≡ coded_column c frame i) → frame ++ checks ≡ codeblock_of c frame
+    → ((i : ℕ) → i < c.depth → column c.depth i frame ++ column c.depth i checks ≡ coded_column c frame i)
+    → frame ++ checks ≡ codeblock_of c frame
 unfolding codeblock_of
 codeblock-is c frame checks coded some long room columns = rw (uncoded_false c.code coded) (
     same_columns c.depth (frame ++ checks) (interleaved c.depth (word_length c) coded_columns) some
     (length-append frame checks ∙ sizes ∙ sym (length-interleaved c.depth (word_length c) coded_columns))
     (λ i below. column-append c.depth (data_length c) i frame checks below long ∙ columns i below
-    ∙ sym (column-interleaved c.depth (word_length c) i coded_columns below (ap length (at i below) ∙ size i below) ∙ at i below)))
+    ∙ sym (column-interleaved c.depth (word_length c) i coded_columns below (ap length (at i below) ∙ size i below)
+    ∙ at i below)))
   where
     coded_columns : List (List ℕ)
     coded_columns = map (coded_column c frame) (range_with_len 0 c.depth)

@@ -21,14 +21,18 @@ pub low_bits-same : (count a c : ℕ) → a % 2 ^ count ≡ c % 2 ^ count → lo
 low_bits-same count a c e = sym (low_bits-rest count a) ∙ ap (low_bits count) e ∙ low_bits-rest count c
 
 -- the higher bits, and then the lower ones
-pub low_bits-split : (high low number : ℕ) → low_bits (high + low) number ≡ low_bits high (number / 2 ^ low) ++ low_bits low number
-low_bits-split zero low number = ap (λ n. low_bits n number) (omega arith) ∙ ap (λ l. l ++ low_bits low number) (sym (low_bits-zero (number / 2 ^ low)))
+pub low_bits-split : (high low number : ℕ) → low_bits (high + low) number ≡ low_bits high (number / 2 ^ low)
+    ++ low_bits low number
+low_bits-split zero low number =
+    ap (λ n. low_bits n number) (omega arith)
+    ∙ ap (λ l. l ++ low_bits low number) (sym (low_bits-zero (number / 2 ^ low)))
 low_bits-split (suc high) low number =
     let next : suc high + low ≡ suc (high + low) = omega arith in
     let powers : 2 ^ low * 2 ^ high ≡ 2 ^ (high + low) = sym (pow-add 2 low high) ∙ ap (λ n. 2 ^ n) (omega arith) in
     ap (λ n. low_bits n number) next ∙ low_bits-first (high + low) number
     ∙ (λ i. (number / sym powers i % 2 == 1) ∷ low_bits-split high low number i)
-    ∙ ap (λ n. (n % 2 == 1) ∷ (low_bits high (number / 2 ^ low) ++ low_bits low number)) (sym (div-div-eq-div-mul number (2 ^ low) (2 ^ high)))
+    ∙ ap (λ n. (n % 2 == 1) ∷ (low_bits high (number / 2 ^ low) ++ low_bits low number))
+    (sym (div-div-eq-div-mul number (2 ^ low) (2 ^ high)))
     ∙ ap (λ l. l ++ low_bits low number) (sym (low_bits-first high (number / 2 ^ low)))
 
 -- ---- one bit more
@@ -38,7 +42,8 @@ pushed p b =
     let d : ℕ = bit_number b in
     let even : p * 2 % 256 ≡ a * 2 ^ 1 + 0 = omega arith in
     let low : d ≡ 0 * 2 ^ 1 + d = omega arith in
-    let parts = (λ i. bit_or (even i) (low i)) ∙ or_block 1 a 0 0 d (lit< tt) (small b) ∙ (λ i. or_zero_r a i * 2 ^ 1 + or_zero_l d i) in
+    let parts = (λ i. bit_or (even i) (low i)) ∙ or_block 1 a 0 0 d (lit< tt) (small b)
+    ∙ (λ i. or_zero_r a i * 2 ^ 1 + or_zero_l d i) in
     let few : d < 2 = small b in
     parts ∙ omega arith
   where
@@ -46,23 +51,28 @@ pushed p b =
     small true = lit< tt
     small false = lit< tt
 
-pub bit-more : (extra p v byte : ℕ) (b : Bool) → extra < 8 → byte ≡ bool_byte b → v ≡ bit_or (p * 2 % 256) byte → low_bits (extra + 1) v ≡ low_bits extra p ++ b ∷ []
+pub bit-more : (extra p v byte : ℕ) (b : Bool) → extra < 8 → byte ≡ bool_byte b → v ≡ bit_or (p * 2 % 256) byte
+    → low_bits (extra + 1) v ≡ low_bits extra p ++ b ∷ []
 bit-more extra p v byte b few is value =
     let x : ℕ = p * 2 + bit_number b in
     let octet : v ≡ x % 256 = value ∙ ap (bit_or (p * 2 % 256)) (is ∙ bool_byte-bit_number b) ∙ pushed p b in
     let eight : 8 ≡ (7 - extra) + (extra + 1) = omega arith in
     let next : extra + 1 ≡ suc extra = omega arith in
-    low_bits-same (extra + 1) v x (ap (λ n. n % 2 ^ (extra + 1)) octet ∙ ap (λ n. x % 2 ^ n % 2 ^ (extra + 1)) eight ∙ mod-mod-pow x (7 - extra) (extra + 1))
+    low_bits-same (extra + 1) v x (ap (λ n. n % 2 ^ (extra + 1)) octet ∙ ap (λ n. x % 2 ^ n % 2 ^ (extra + 1)) eight
+    ∙ mod-mod-pow x (7 - extra) (extra + 1))
     ∙ ap (λ n. low_bits n x) next ∙ low_bits-push extra p b
 
 -- a bit after the whole octets
-pub push-part : (octets : List ℕ) (extra p v byte : ℕ) (b : Bool) → extra < 8 → byte ≡ bool_byte b → v ≡ bit_or (p * 2 % 256) byte
+pub push-part : (octets : List ℕ) (extra p v byte : ℕ) (b : Bool) → extra < 8 → byte ≡ bool_byte b
+    → v ≡ bit_or (p * 2 % 256) byte
     → bits_of octets ++ low_bits (extra + 1) v ≡ (bits_of octets ++ low_bits extra p) ++ b ∷ []
 push-part octets extra p v byte b few is value =
-    ap (λ l. bits_of octets ++ l) (bit-more extra p v byte b few is value) ∙ sym (append_assoc (bits_of octets) (low_bits extra p) (b ∷ []))
+    ap (λ l. bits_of octets ++ l) (bit-more extra p v byte b few is value)
+    ∙ sym (append_assoc (bits_of octets) (low_bits extra p) (b ∷ []))
 
 -- a bit that makes an octet whole
-pub push-whole : (octets now : List ℕ) (extra p v byte : ℕ) (b : Bool) → extra + 1 ≡ 8 → byte ≡ bool_byte b → v ≡ bit_or (p * 2 % 256) byte → now ≡ octets ++ v ∷ []
+pub push-whole : (octets now : List ℕ) (extra p v byte : ℕ) (b : Bool) → extra + 1 ≡ 8 → byte ≡ bool_byte b
+    → v ≡ bit_or (p * 2 % 256) byte → now ≡ octets ++ v ∷ []
     → bits_of now ++ low_bits 0 v ≡ (bits_of octets ++ low_bits extra p) ++ b ∷ []
 push-whole octets now extra p v byte b eight is value grows =
     ap (λ l. bits_of now ++ l) (low_bits-zero v) ∙ append-nil (bits_of now)
@@ -72,15 +82,18 @@ push-whole octets now extra p v byte b eight is value grows =
 
 -- ---- eight bits more
 -- the octet whose first bits are the lowest `extra` ones of `p`
-pub joined-is : (p x extra v : ℕ) → p < 256 → x < 256 → extra < 8 → v ≡ bit_and (bit_or (p * 256 % 2 ^ 32) x / 2 ^ extra) 255
+pub joined-is : (p x extra v : ℕ) → p < 256 → x < 256 → extra < 8
+    → v ≡ bit_and (bit_or (p * 256 % 2 ^ 32) x / 2 ^ extra) 255
     → low_bits 8 v ++ low_bits extra x ≡ low_bits extra p ++ low_bits 8 x
 joined-is p x extra v first second few is =
     let both : ℕ = bit_or (p * 256 % 2 ^ 32) x in
     let high : p * 256 % 2 ^ 32 ≡ p * 2 ^ 8 + 0 = omega arith in
     let low : x ≡ 0 * 2 ^ 8 + x = omega arith in
     let sum : both ≡ p * 256 + x =
-    (λ i. bit_or (high i) (low i)) ∙ or_block 8 p 0 0 x (lit< tt) second ∙ (λ i. or_zero_r p i * 2 ^ 8 + or_zero_l x i) ∙ omega arith in
-    let octet : low_bits 8 v ≡ low_bits 8 (both / 2 ^ extra) = ap (low_bits 8) (is ∙ and_mask (both / 2 ^ extra) 8) ∙ low_bits-rest 8 (both / 2 ^ extra) in
+    (λ i. bit_or (high i) (low i)) ∙ or_block 8 p 0 0 x (lit< tt) second
+    ∙ (λ i. or_zero_r p i * 2 ^ 8 + or_zero_l x i) ∙ omega arith in
+    let octet : low_bits 8 v ≡ low_bits 8 (both / 2 ^ extra) = ap (low_bits 8) (is ∙ and_mask (both / 2 ^ extra) 8)
+    ∙ low_bits-rest 8 (both / 2 ^ extra) in
     let eight : 8 ≡ (8 - extra) + extra = omega arith in
     let rest : x % 2 ^ extra ≡ both % 2 ^ extra =
     let same : x ≡ both % 2 ^ 8 = omega arith in
@@ -92,20 +105,26 @@ joined-is p x extra v first second few is =
     ∙ sym (low_bits-split 8 extra both) ∙ ap (λ n. low_bits n both) swap ∙ low_bits-split extra 8 both
     ∙ (λ i. low_bits extra (prefix i) ++ low_bits-same 8 both x back i)
 
-pub push-octet : (octets now : List ℕ) (extra p x v : ℕ) → low_bits 8 v ++ low_bits extra x ≡ low_bits extra p ++ low_bits 8 x → now ≡ octets ++ v ∷ []
+pub push-octet : (octets now : List ℕ) (extra p x v : ℕ) → low_bits 8 v ++ low_bits extra x ≡ low_bits extra p
+    ++ low_bits 8 x → now ≡ octets ++ v ∷ []
     → bits_of now ++ low_bits extra x ≡ (bits_of octets ++ low_bits extra p) ++ low_bits 8 x
 push-octet octets now extra p x v joined grows =
     ap (λ l. bits_of l ++ low_bits extra x) grows
-    ∙ ap (λ l. l ++ low_bits extra x) (bits_of-append octets (v ∷ []) ∙ ap (λ l. bits_of octets ++ l) (append-nil (low_bits 8 v)))
+    ∙ ap (λ l. l ++ low_bits extra x) (bits_of-append octets (v ∷ [])
+    ∙ ap (λ l. bits_of octets ++ l) (append-nil (low_bits 8 v)))
     ∙ append_assoc (bits_of octets) (low_bits 8 v) (low_bits extra x)
     ∙ ap (λ l. bits_of octets ++ l) joined
     ∙ sym (append_assoc (bits_of octets) (low_bits extra p) (low_bits 8 x))
 
 -- ---- how many bits
-pub length-view : (octets : List ℕ) (extra p : ℕ) → length (bits_of octets ++ low_bits extra p) ≡ 8 * length octets + extra
-length-view octets extra p = length-append (bits_of octets) (low_bits extra p) ∙ omega (arith, length-bits_of octets, length-low_bits extra p)
+pub length-view : (octets : List ℕ) (extra p : ℕ) → length (bits_of octets ++ low_bits extra p)
+    ≡ 8 * length octets + extra
+length-view octets extra p =
+    length-append (bits_of octets) (low_bits extra p) ∙ omega (arith, length-bits_of octets, length-low_bits extra p)
 
-pub gathered : (octets : List ℕ) (whole extra p : ℕ) (bits : List Bool) → bits_of (take whole octets) ++ low_bits extra p ≡ bits → length octets ≡ 2040 → whole ≤ 2040 → 8 * whole + extra ≡ length bits
+pub gathered : (octets : List ℕ) (whole extra p : ℕ) (bits : List Bool)
+    → bits_of (take whole octets) ++ low_bits extra p ≡ bits → length octets ≡ 2040 → whole ≤ 2040
+    → 8 * whole + extra ≡ length bits
 gathered octets whole extra p bits view long most =
     let same = ap length view in
     let size = length-view (take whole octets) extra p in
@@ -114,26 +133,33 @@ gathered octets whole extra p bits view long most =
 
 -- no bits follow the whole octets
 pub none-after : (bits view : List Bool) (extra p : ℕ) → extra ≡ 0 → bits ++ low_bits extra p ≡ view → bits ≡ view
-none-after bits view extra p none is = sym (append-nil bits) ∙ ap (λ l. bits ++ l) (sym (ap (λ n. low_bits n p) none ∙ low_bits-zero p)) ∙ is
+none-after bits view extra p none is =
+    sym (append-nil bits) ∙ ap (λ l. bits ++ l) (sym (ap (λ n. low_bits n p) none ∙ low_bits-zero p)) ∙ is
 
 -- octets after whole ones
-pub push-octets : (octets piece now : List ℕ) (extra p : ℕ) → extra ≡ 0 → now ≡ octets ++ piece → bits_of now ++ low_bits extra p ≡ (bits_of octets ++ low_bits extra p) ++ bits_of piece
+pub push-octets : (octets piece now : List ℕ) (extra p : ℕ) → extra ≡ 0 → now ≡ octets ++ piece
+    → bits_of now ++ low_bits extra p ≡ (bits_of octets ++ low_bits extra p) ++ bits_of piece
 push-octets octets piece now extra p none grows =
     let nothing : low_bits extra p ≡ [] = ap (λ n. low_bits n p) none ∙ low_bits-zero p in
     ap (λ l. bits_of now ++ l) nothing ∙ append-nil (bits_of now) ∙ ap bits_of grows ∙ bits_of-append octets piece
     ∙ ap (λ l. l ++ bits_of piece) (sym (append-nil (bits_of octets)) ∙ ap (λ l. bits_of octets ++ l) (sym nothing))
 
 -- one octet more after others
-pub octets-more : (bits : List Bool) (octets : List ℕ) (x : ℕ) → (bits ++ bits_of octets) ++ bits_of_octet x ≡ bits ++ bits_of (octets ++ x ∷ [])
+pub octets-more : (bits : List Bool) (octets : List ℕ) (x : ℕ)
+    → (bits ++ bits_of octets) ++ bits_of_octet x ≡ bits ++ bits_of (octets ++ x ∷ [])
 octets-more bits octets x =
     append_assoc bits (bits_of octets) (bits_of_octet x)
     ∙ ap (λ l. bits ++ (bits_of octets ++ l)) (sym (append-nil (bits_of_octet x)))
     ∙ ap (λ l. bits ++ l) (sym (bits_of-append octets (x ∷ [])))
 
 -- the bits of an octet, each by itself
-pub array-bits : (x : ℕ) → (bit_and (x / 128) 1 == 1) ∷ (bit_and (x / 64) 1 == 1) ∷ (bit_and (x / 32) 1 == 1) ∷ (bit_and (x / 16) 1 == 1)
-    ∷ (bit_and (x / 8) 1 == 1) ∷ (bit_and (x / 4) 1 == 1) ∷ (bit_and (x / 2) 1 == 1) ∷ (bit_and x 1 == 1) ∷ [] ≡ bits_of_octet x
+pub array-bits : (x : ℕ) → (bit_and (x / 128) 1 == 1) ∷ (bit_and (x / 64) 1 == 1) ∷ (bit_and (x / 32) 1 == 1)
+    ∷ (bit_and (x / 16) 1 == 1)
+    ∷ (bit_and (x / 8) 1 == 1) ∷ (bit_and (x / 4) 1 == 1) ∷ (bit_and (x / 2) 1 == 1) ∷ (bit_and x 1 == 1) ∷ []
+    ≡ bits_of_octet x
 unfolding low_bits
 array-bits x =
-    λ i. (and_mask (x / 128) 1 i == 1) ∷ (and_mask (x / 64) 1 i == 1) ∷ (and_mask (x / 32) 1 i == 1) ∷ (and_mask (x / 16) 1 i == 1)
-    ∷ (and_mask (x / 8) 1 i == 1) ∷ (and_mask (x / 4) 1 i == 1) ∷ (and_mask (x / 2) 1 i == 1) ∷ ((and_mask x 1 ∙ ap (λ n. n % 2) (sym (div-one x))) i == 1) ∷ []
+    λ i. (and_mask (x / 128) 1 i == 1) ∷ (and_mask (x / 64) 1 i == 1) ∷ (and_mask (x / 32) 1 i == 1)
+    ∷ (and_mask (x / 16) 1 i == 1)
+    ∷ (and_mask (x / 8) 1 i == 1) ∷ (and_mask (x / 4) 1 i == 1) ∷ (and_mask (x / 2) 1 i == 1)
+    ∷ ((and_mask x 1 ∙ ap (λ n. n % 2) (sym (div-one x))) i == 1) ∷ []

@@ -147,7 +147,8 @@ record FrameFits (depth most frame : ℕ) : Type 0 where
   pub some_data : 1 ≤ frame / depth
   pub data_fits : frame / depth ≤ most
 
-given_frame : (depth most frame : ℕ) → 1 ≤ depth → ((frame % depth == 0) && is_within 1 most (frame / depth)) ≡ true → FrameFits depth most frame
+given_frame : (depth most frame : ℕ) → 1 ≤ depth → ((frame % depth == 0) && is_within 1 most (frame / depth)) ≡ true
+    → FrameFits depth most frame
 given_frame depth most frame some fits =
     let none_left : frame % depth ≡ 0 = grind (arith, nat_tests) in
     record {
@@ -165,14 +166,17 @@ longest_frame depth most some some_most =
       data_fits = omega arith;
     }
 
-frame_fits : (depth most : ℕ) (length : Option ℕ) → 1 ≤ depth → 1 ≤ most → fits_if_given (λ length. (length % depth == 0) && is_within 1 most (length / depth)) length ≡ true → FrameFits depth most (unwrap_or length (depth * most))
+frame_fits : (depth most : ℕ) (length : Option ℕ) → 1 ≤ depth → 1 ≤ most
+    → fits_if_given (λ length. (length % depth == 0) && is_within 1 most (length / depth)) length ≡ true
+    → FrameFits depth most (unwrap_or length (depth * most))
 frame_fits depth most None some some_most fits = longest_frame depth most some some_most
 frame_fits depth most (Some length) some some_most fits = given_frame depth most length some fits
 
 at_most : (value most : ℕ) → nat_le value most ≡ true → value ≤ most
 at_most value most fits = grind (arith, nat_tests)
 
-repair_within : (code : ℕ) (repair : Option ℕ) → fits_if_given (λ repair. nat_le repair code) repair ≡ true → unwrap_or repair code ≤ code
+repair_within : (code : ℕ) (repair : Option ℕ) → fits_if_given (λ repair. nat_le repair code) repair ≡ true
+    → unwrap_or repair code ≤ code
 repair_within code None fits = omega arith
 repair_within code (Some repair) fits = at_most repair code fits
 

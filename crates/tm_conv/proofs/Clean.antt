@@ -32,12 +32,14 @@ pub bits-path : (rate : Rate) (invert : Bool) (t r : ℕ) (bits : List ℕ) → 
 bits-path rate invert t r [] = tt
 bits-path rate invert t r (b ∷ bits) =
     bits-append (step_symbols rate invert t r b) (path rate invert (t + 1) (next_register r b) bits)
-    (bits-step (keeps_c1 rate t) (keeps_c2 rate t) (c1 r b) (sent_c2 invert (c2 r b)) (omega arith) (small_c2 invert (c2 r b) (omega arith)))
+    (bits-step (keeps_c1 rate t) (keeps_c2 rate t) (c1 r b) (sent_c2 invert (c2 r b)) (omega arith)
+    (small_c2 invert (c2 r b) (omega arith)))
     (bits-path rate invert (t + 1) (next_register r b) bits)
 
 -- ---- the first symbols of two paths
 head-same : (k l : Bool) (c c' d d' : ℕ) (us vs : List ℕ) → 0 < cond k 1 0 + cond l 1 0
-    → (cond k (c ∷ []) [] ++ cond l (d ∷ []) []) ++ us ≡ (cond k (c' ∷ []) [] ++ cond l (d' ∷ []) []) ++ vs → (c ≡ c') ⊎ (d ≡ d')
+    → (cond k (c ∷ []) [] ++ cond l (d ∷ []) []) ++ us ≡ (cond k (c' ∷ []) [] ++ cond l (d' ∷ []) []) ++ vs → (c ≡ c')
+    ⊎ (d ≡ d')
 head-same true l c c' d d' us vs some e = inl (cc)
 head-same false true c c' d d' us vs some e = inr (cc)
 head-same false false c c' d d' us vs some e = absurd (omega arith)
@@ -46,12 +48,16 @@ head-same false false c c' d d' us vs some e = absurd (omega arith)
 bit-c1 : (x y a b c d : ℕ) → x < 2 → y < 2 → (x + a + b + c + d) % 2 ≡ (y + a + b + c + d) % 2 → x ≡ y
 bit-c1 x y a b c d p q e = omega arith
 
-bit-c2 : (invert : Bool) (x y a b c d : ℕ) → x < 2 → y < 2 → sent_c2 invert ((x + a + b + c + d) % 2) ≡ sent_c2 invert ((y + a + b + c + d) % 2) → x ≡ y
+bit-c2 : (invert : Bool) (x y a b c d : ℕ) → x < 2 → y < 2 → sent_c2 invert ((x + a + b + c + d) % 2)
+    ≡ sent_c2 invert ((y + a + b + c + d) % 2) → x ≡ y
 bit-c2 true x y a b c d p q e = omega arith
 bit-c2 false x y a b c d p q e = omega arith
 
-bit-same : (rate : Rate) (invert : Bool) (t r x y : ℕ) (us vs : List ℕ) → x < 2 → y < 2 → step_symbols rate invert t r x ++ us ≡ step_symbols rate invert t r y ++ vs → x ≡ y
-bit-same rate invert t r x y us vs p q e = go (head-same (keeps_c1 rate t) (keeps_c2 rate t) (c1 r x) (c1 r y) (sent_c2 invert (c2 r x)) (sent_c2 invert (c2 r y)) us vs (step_size_pos rate t) e)
+bit-same : (rate : Rate) (invert : Bool) (t r x y : ℕ) (us vs : List ℕ) → x < 2 → y < 2
+    → step_symbols rate invert t r x ++ us ≡ step_symbols rate invert t r y ++ vs → x ≡ y
+bit-same rate invert t r x y us vs p q e =
+    go (head-same (keeps_c1 rate t) (keeps_c2 rate t) (c1 r x) (c1 r y) (sent_c2 invert (c2 r x))
+    (sent_c2 invert (c2 r y)) us vs (step_size_pos rate t) e)
   where
     go : (c1 r x ≡ c1 r y) ⊎ (sent_c2 invert (c2 r x) ≡ sent_c2 invert (c2 r y)) → x ≡ y
     go (inl one) = bit-c1 x y (r / 32) (r / 16) (r / 8) r p q one
@@ -63,19 +69,25 @@ cancel (x ∷ xs) us vs e = cancel xs us vs (cc)
 
 nonempty : (rate : Rate) (invert : Bool) (t r b : ℕ) (bits : List ℕ) → path rate invert t r (b ∷ bits) ≡ [] → ⊥
 unfolding steps_size
-nonempty rate invert t r b bits e = let n = length-path rate invert t r (b ∷ bits) in let some = step_size_pos rate t in let none = ap length e in omega arith
+nonempty rate invert t r b bits e =
+    let n = length-path rate invert t r (b ∷ bits) in let some = step_size_pos rate t in let none = ap length e in
+    omega arith
 
 -- from one register, the symbols show the bits
-pub same-path : (rate : Rate) (invert : Bool) (t r : ℕ) (xs ys : List ℕ) → AreDigits xs → AreDigits ys → path rate invert t r xs ≡ path rate invert t r ys → xs ≡ ys
+pub same-path : (rate : Rate) (invert : Bool) (t r : ℕ) (xs ys : List ℕ) → AreDigits xs → AreDigits ys
+    → path rate invert t r xs ≡ path rate invert t r ys → xs ≡ ys
 same-path rate invert t r [] [] p q e = refl
 same-path rate invert t r [] (y ∷ ys) p q e = absurd (nonempty rate invert t r y ys (sym e))
 same-path rate invert t r (x ∷ xs) [] p q e = absurd (nonempty rate invert t r x xs e)
 same-path rate invert t r (x ∷ xs) (y ∷ ys) p q e =
-    let one : x ≡ y = bit-same rate invert t r x y (path rate invert (t + 1) (next_register r x) xs) (path rate invert (t + 1) (next_register r y) ys) p.0 q.0 e in
-    let e' : step_symbols rate invert t r x ++ path rate invert (t + 1) (next_register r x) xs ≡ step_symbols rate invert t r x ++ path rate invert (t + 1) (next_register r x) ys =
+    let one : x ≡ y = bit-same rate invert t r x y (path rate invert (t + 1) (next_register r x) xs)
+    (path rate invert (t + 1) (next_register r y) ys) p.0 q.0 e in
+    let e' : step_symbols rate invert t r x ++ path rate invert (t + 1) (next_register r x) xs
+    ≡ step_symbols rate invert t r x ++ path rate invert (t + 1) (next_register r x) ys =
     e ∙ (λ i. step_symbols rate invert t r (sym one i) ++ path rate invert (t + 1) (next_register r (sym one i)) ys) in
     let rest = same-path rate invert (t + 1) (next_register r x) xs ys p.1 q.1
-    (cancel (step_symbols rate invert t r x) (path rate invert (t + 1) (next_register r x) xs) (path rate invert (t + 1) (next_register r x) ys) e') in
+    (cancel (step_symbols rate invert t r x) (path rate invert (t + 1) (next_register r x) xs)
+    (path rate invert (t + 1) (next_register r x) ys) e') in
     λ i. one i ∷ rest i
 
 -- ---- what costs nothing
@@ -104,12 +116,15 @@ cost-none (x ∷ xs) (y ∷ ys) p q long e =
 
 -- ---- the prefix of a path
 pub path-append : (rate : Rate) (invert : Bool) (t r : ℕ) (xs ys : List ℕ)
-    → path rate invert t r (xs ++ ys) ≡ path rate invert t r xs ++ path rate invert (t + length xs) (register_after r xs) ys
+    → path rate invert t r (xs ++ ys) ≡ path rate invert t r xs
+    ++ path rate invert (t + length xs) (register_after r xs) ys
 path-append rate invert t r [] ys = ap (λ n. path rate invert n r ys) (omega arith)
 path-append rate invert t r (x ∷ xs) ys =
     ap (λ l. step_symbols rate invert t r x ++ l) (path-append rate invert (t + 1) (next_register r x) xs ys)
-    ∙ sym (append_assoc (step_symbols rate invert t r x) (path rate invert (t + 1) (next_register r x) xs) (path rate invert (t + 1 + length xs) (register_after (next_register r x) xs) ys))
-    ∙ ap (λ n. path rate invert t r (x ∷ xs) ++ path rate invert n (register_after (next_register r x) xs) ys) (omega arith)
+    ∙ sym (append_assoc (step_symbols rate invert t r x) (path rate invert (t + 1) (next_register r x) xs)
+    (path rate invert (t + 1 + length xs) (register_after (next_register r x) xs) ys))
+    ∙ ap (λ n. path rate invert t r (x ∷ xs) ++ path rate invert n (register_after (next_register r x) xs) ys)
+    (omega arith)
 
 pub sure-append : (xs ys : List ℕ) → sure (xs ++ ys) ≡ sure xs ++ sure ys
 sure-append [] ys = refl
@@ -119,5 +134,6 @@ sure-append (x ∷ xs) ys = ap (λ l. cond (x == 0) 0 255 ∷ l) (sure-append xs
 pub digits : (bits : List ℕ) → AreBits bits → AreDigits bits
 digits bits are = recursion_from_All (λ b. b < 2) bits are
 
-pub clean_symbols : (rate : Rate) (invert : Bool) (t r : ℕ) (xs ys : List ℕ) → AreBits xs → AreBits ys → path rate invert t r xs ≡ path rate invert t r ys → xs ≡ ys
+pub clean_symbols : (rate : Rate) (invert : Bool) (t r : ℕ) (xs ys : List ℕ) → AreBits xs → AreBits ys
+    → path rate invert t r xs ≡ path rate invert t r ys → xs ≡ ys
 clean_symbols rate invert t r xs ys p q e = same-path rate invert t r xs ys (digits xs p) (digits ys q) e

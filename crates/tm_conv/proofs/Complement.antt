@@ -26,26 +26,35 @@ sent_c2-complement : (invert : Bool) (d : ℕ) → sent_c2 invert (1 - d) ≡ 1 
 sent_c2-complement true d = refl
 sent_c2-complement false d = refl
 
-sent-complement : (k l : Bool) (c d : ℕ) → cond k ((1 - c) ∷ []) [] ++ cond l ((1 - d) ∷ []) [] ≡ complement (cond k (c ∷ []) [] ++ cond l (d ∷ []) [])
+sent-complement : (k l : Bool) (c d : ℕ) → cond k ((1 - c) ∷ []) [] ++ cond l ((1 - d) ∷ []) []
+    ≡ complement (cond k (c ∷ []) [] ++ cond l (d ∷ []) [])
 sent-complement true true c d = refl
 sent-complement true false c d = refl
 sent-complement false true c d = refl
 sent-complement false false c d = refl
 
-step_symbols-complement : (rate : Rate) (invert : Bool) (t r b : ℕ) → r < 64 → b < 2 → step_symbols rate invert t (63 - r) (1 - b) ≡ complement (step_symbols rate invert t r b)
+step_symbols-complement : (rate : Rate) (invert : Bool) (t r b : ℕ) → r < 64 → b < 2
+    → step_symbols rate invert t (63 - r) (1 - b) ≡ complement (step_symbols rate invert t r b)
 step_symbols-complement rate invert t r b small bit =
-    ap (λ v. cond (keeps_c1 rate t) (v ∷ []) [] ++ cond (keeps_c2 rate t) (sent_c2 invert (c2 (63 - r) (1 - b)) ∷ []) []) (c1-complement r b small bit)
-    ∙ ap (λ v. cond (keeps_c1 rate t) ((1 - c1 r b) ∷ []) [] ++ cond (keeps_c2 rate t) (v ∷ []) []) (ap (sent_c2 invert) (c2-complement r b small bit) ∙ sent_c2-complement invert (c2 r b))
+    ap (λ v. cond (keeps_c1 rate t) (v ∷ []) [] ++ cond (keeps_c2 rate t)
+    (sent_c2 invert (c2 (63 - r) (1 - b)) ∷ []) []) (c1-complement r b small bit)
+    ∙ ap (λ v. cond (keeps_c1 rate t) ((1 - c1 r b) ∷ []) [] ++ cond (keeps_c2 rate t) (v ∷ []) [])
+    (ap (sent_c2 invert) (c2-complement r b small bit) ∙ sent_c2-complement invert (c2 r b))
     ∙ sent-complement (keeps_c1 rate t) (keeps_c2 rate t) (c1 r b) (sent_c2 invert (c2 r b))
 
-pub path-complement : (rate : Rate) (invert : Bool) (t r : ℕ) (bits : List ℕ) → r < 64 → AreBits bits → path rate invert t (63 - r) (complement bits) ≡ complement (path rate invert t r bits)
+pub path-complement : (rate : Rate) (invert : Bool) (t r : ℕ) (bits : List ℕ) → r < 64 → AreBits bits
+    → path rate invert t (63 - r) (complement bits) ≡ complement (path rate invert t r bits)
 path-complement rate invert t r [] small are = refl
 path-complement rate invert t r (b ∷ bits) small are =
     let bit : b < 2 = All-head (λ b. b < 2) b bits are in
     let rest = All-tail (λ b. b < 2) b bits are in
     let next = next_register r b in
-    let more : path rate invert (t + 1) (63 - next) (complement bits) ≡ complement (path rate invert (t + 1) next bits) = path-complement rate invert (t + 1) next bits (omega arith) rest in
-    ap (λ v. v ++ path rate invert (t + 1) (next_register (63 - r) (1 - b)) (complement bits)) (step_symbols-complement rate invert t r b small bit)
-    ∙ ap (λ v. complement (step_symbols rate invert t r b) ++ path rate invert (t + 1) v (complement bits)) (next_register-complement r b small bit)
+    let more : path rate invert (t + 1) (63 - next) (complement bits)
+    ≡ complement (path rate invert (t + 1) next bits) =
+    path-complement rate invert (t + 1) next bits (omega arith) rest in
+    ap (λ v. v ++ path rate invert (t + 1) (next_register (63 - r) (1 - b)) (complement bits))
+    (step_symbols-complement rate invert t r b small bit)
+    ∙ ap (λ v. complement (step_symbols rate invert t r b) ++ path rate invert (t + 1) v (complement bits))
+    (next_register-complement r b small bit)
     ∙ ap (λ v. complement (step_symbols rate invert t r b) ++ v) more
     ∙ sym (map-append (λ bit. 1 - bit) (step_symbols rate invert t r b) (path rate invert (t + 1) next bits))

@@ -32,12 +32,15 @@ least_both : (n low : ℕ) (key : List ℕ → ℕ)
     → ((others : List ℕ) → AreBits others → length others ≡ n → low ≤ key (1 ∷ others))
     → (others : List ℕ) → AreBits others → length others ≡ suc n → low ≤ key others
 least_both n low key at_zero at_one [] each long = absurd (omega arith)
-least_both n low key at_zero at_one (zero ∷ others) each long = at_zero others (All-tail (λ b. b < 2) 0 others each) (omega arith)
-least_both n low key at_zero at_one (suc zero ∷ others) each long = at_one others (All-tail (λ b. b < 2) 1 others each) (omega arith)
+least_both n low key at_zero at_one (zero ∷ others) each long =
+    at_zero others (All-tail (λ b. b < 2) 0 others each) (omega arith)
+least_both n low key at_zero at_one (suc zero ∷ others) each long =
+    at_one others (All-tail (λ b. b < 2) 1 others each) (omega arith)
 least_both n low key at_zero at_one (suc (suc b) ∷ others) each long =
     let small : suc (suc b) < 2 = All-head (λ b. b < 2) (suc (suc b)) others each in absurd (omega arith)
 
-lesser : (n : ℕ) (key : List ℕ → ℕ) → LeastBits n (λ bits. key (0 ∷ bits)) → LeastBits n (λ bits. key (1 ∷ bits)) → LeastBits (suc n) key
+lesser : (n : ℕ) (key : List ℕ → ℕ) → LeastBits n (λ bits. key (0 ∷ bits)) → LeastBits n (λ bits. key (1 ∷ bits))
+    → LeastBits (suc n) key
 lesser n key a b = elim (cases_lt (key (1 ∷ b.bits)) (key (0 ∷ a.bits))) [
   | inl less ↦ record {
     bits = 1 ∷ b.bits;
@@ -54,7 +57,13 @@ lesser n key a b = elim (cases_lt (key (1 ∷ b.bits)) (key (0 ∷ a.bits))) [
 ]
 
 least_bits : (n : ℕ) (key : List ℕ → ℕ) → LeastBits n key
-least_bits zero key = record { bits = []; each = All-nil (λ b. b < 2); long = refl; least = λ others each long. least_none key others long }
+least_bits zero key =
+    record {
+      bits = [];
+      each = All-nil (λ b. b < 2);
+      long = refl;
+      least = λ others each long. least_none key others long;
+    }
 least_bits (suc n) key = lesser n key (least_bits n (λ bits. key (0 ∷ bits))) (least_bits n (λ bits. key (1 ∷ bits)))
 
 -- ---- the least of some registers
@@ -71,7 +80,8 @@ HasNone starts count = (other : ℕ) → IsTrue (starts other) → other < count
 
 -- what holds of the starts below a number, and of this number if it is one, holds of one start more
 one_more : (starts : ℕ → Bool) (count low : ℕ) (key : ℕ → ℕ)
-    → ((other : ℕ) → IsTrue (starts other) → other < count → low ≤ key other) → (IsTrue (starts count) → low ≤ key count)
+    → ((other : ℕ) → IsTrue (starts other) → other < count → low ≤ key other)
+    → (IsTrue (starts count) → low ≤ key count)
     → (other : ℕ) → IsTrue (starts other) → other < suc count → low ≤ key other
 one_more starts count low key below here other is less = elim (cases_order other count) as (λ _. low ≤ key other) [
   | inl same ↦ rw same (here (subst (λ (k : ℕ). IsTrue (starts k)) same is))
@@ -83,15 +93,23 @@ least_start : (starts : ℕ → Bool) (key : ℕ → ℕ) (count : ℕ) → Leas
 least_start starts key zero = inr (λ other is less. omega arith)
 least_start starts key (suc count) = go (least_start starts key count) (cases_Bool (starts count))
   where
-    go : LeastStart starts count key ⊎ HasNone starts count → (starts count ≡ true) ⊎ (starts count ≡ false) → LeastStart starts (suc count) key ⊎ HasNone starts (suc count)
+    go : LeastStart starts count key ⊎ HasNone starts count → (starts count ≡ true) ⊎ (starts count ≡ false)
+        → LeastStart starts (suc count) key ⊎ HasNone starts (suc count)
     go (inl h) (inl may) = elim (cases_lt (key count) (key h.register)) [
       | inl less ↦ inl (record {
         register = count;
         start = may;
         below = omega arith;
-        least = one_more starts count (key count) key (λ other is lt. omega (arith, h.least other is lt)) (λ is. omega arith);
+        least =
+            one_more starts count (key count) key (λ other is lt. omega (arith, h.least other is lt))
+            (λ is. omega arith);
       })
-      | inr le ↦ inl (record { register = h.register; start = h.start; below = omega (arith, h.below); least = one_more starts count (key h.register) key h.least (λ is. le) })
+      | inr le ↦ inl (record {
+        register = h.register;
+        start = h.start;
+        below = omega (arith, h.below);
+        least = one_more starts count (key h.register) key h.least (λ is. le);
+      })
     ]
     go (inl h) (inr may_not) = inl (record {
       register = h.register;
@@ -111,8 +129,10 @@ least_start starts key (suc count) = go (least_start starts key count) (cases_Bo
       | inr (inr gt) ↦ omega arith
     ])
 
-the_start : (starts : ℕ → Bool) (key : ℕ → ℕ) (count start : ℕ) → IsTrue (starts start) → start < count → LeastStart starts count key
-the_start starts key count start is less = elim (least_start starts key count) [ inl h ↦ h | inr none ↦ absurd (none start is less) ]
+the_start : (starts : ℕ → Bool) (key : ℕ → ℕ) (count start : ℕ) → IsTrue (starts start) → start < count
+    → LeastStart starts count key
+the_start starts key count start is less =
+    elim (least_start starts key count) [ inl h ↦ h | inr none ↦ absurd (none start is less) ]
 
 -- ---- the least cost, and of those the first word
 
@@ -120,20 +140,26 @@ the_start starts key count start is less = elim (least_start starts key count) [
 number_of : ℕ → ℕ → ℕ → ℕ
 number_of size cost word = cost * size + word
 
-lesser_number : (size a b v w : ℕ) → v < size → w < size → number_of size a v ≤ number_of size b w → (a ≤ b) × (b ≡ a → v ≤ w)
+lesser_number : (size a b v w : ℕ) → v < size → w < size → number_of size a v ≤ number_of size b w → (a ≤ b)
+    × (b ≡ a → v ≤ w)
 unfolding number_of
 lesser_number size a b v w small little le = elim (cases_lt b a) [
-  | inl less ↦ absurd (let more : suc b * size ≤ a * size = mul-le-mul_right size less in let one : suc b * size ≡ b * size + size = omega arith in omega arith)
+  | inl less ↦ absurd (let more : suc b * size ≤ a * size = mul-le-mul_right size less in
+      let one : suc b * size ≡ b * size + size = omega arith in omega arith)
   | inr no_more ↦ (no_more, λ same. let costs : b * size ≡ a * size = ap (λ k. k * size) same in omega arith)
 ]
 
 bits_backwards : (register : ℕ) (bits : List ℕ) → AreBits bits → AreBits (backwards register bits)
-bits_backwards register bits each = All-append (λ b. b < 2) (reverse bits) (register_bits register) (All-reverse bits each) (register_bits_small register)
+bits_backwards register bits each =
+    All-append (λ b. b < 2) (reverse bits) (register_bits register) (All-reverse bits each)
+    (register_bits_small register)
 
 length-backwards : (register : ℕ) (bits : List ℕ) → length (backwards register bits) ≡ length bits + 6
-length-backwards register bits = length-append (reverse bits) (register_bits register) ∙ omega (arith, length-reverse {A = ℕ} bits)
+length-backwards register bits =
+    length-append (reverse bits) (register_bits register) ∙ omega (arith, length-reverse {A = ℕ} bits)
 
-word_lt : (n register : ℕ) (bits : List ℕ) → AreBits bits → length bits ≡ n → value (backwards register bits) < 2 ^ (n + 6)
+word_lt : (n register : ℕ) (bits : List ℕ) → AreBits bits → length bits ≡ n
+    → value (backwards register bits) < 2 ^ (n + 6)
 word_lt n register bits each long =
     let size : length (backwards register bits) ≡ n + 6 = omega (arith, length-backwards register bits) in
     let small = value_lt (backwards register bits) (bits_backwards register bits each) in
@@ -148,14 +174,19 @@ IsBest-exists starts rate invert t steps start octets is less whole =
     let word_of : ℕ → List ℕ → ℕ = λ register bits. value (backwards register bits) in
     let key : ℕ → List ℕ → ℕ = λ register bits. number_of size (cost_of register bits) (word_of register bits) in
     let least : (register : ℕ) → LeastBits steps (key register) = λ register. least_bits steps (key register) in
-    let h : LeastStart starts 64 (λ register. key register (least register).bits) = the_start starts (λ register. key register (least register).bits) 64 start is less in
+    let h : LeastStart starts 64 (λ register. key register (least register).bits) =
+    the_start starts (λ register. key register (least register).bits) 64 start is less in
     let k : LeastBits steps (key h.register) = least h.register in
-    let many : (other : ℕ) (others : List ℕ) → IsCandidate starts rate invert t octets other others → length others ≡ steps = λ other others c.
-    same_from_steps_size rate t (length others) steps (sym (length-path rate invert t other others) ∙ c.covers ∙ whole) in
+    let many : (other : ℕ) (others : List ℕ) → IsCandidate starts rate invert t octets other others
+    → length others ≡ steps = λ other others c.
+    same_from_steps_size rate t (length others) steps (sym (length-path rate invert t other others) ∙ c.covers
+    ∙ whole) in
     let over : (other : ℕ) (others : List ℕ) → IsCandidate starts rate invert t octets other others
-    → (cost_of h.register k.bits ≤ cost_of other others) × (cost_of other others ≡ cost_of h.register k.bits → word_of h.register k.bits ≤ word_of other others) = λ other others c.
+    → (cost_of h.register k.bits ≤ cost_of other others) × (cost_of other others ≡ cost_of h.register k.bits
+    → word_of h.register k.bits ≤ word_of other others) = λ other others c.
     (let long = many other others c in
-    lesser_number size (cost_of h.register k.bits) (cost_of other others) (word_of h.register k.bits) (word_of other others)
+    lesser_number size (cost_of h.register k.bits) (cost_of other others) (word_of h.register k.bits)
+    (word_of other others)
     (word_lt steps h.register k.bits k.each k.long) (word_lt steps other others c.each long)
     (omega (arith, h.least other c.start c.register, (least other).least others c.each long))) in
     let candidate : IsCandidate starts rate invert t octets h.register k.bits = record {
@@ -170,7 +201,13 @@ IsBest-exists starts rate invert t steps start octets is less whole =
         candidate = candidate;
         least = λ other others c. (over other others c).0;
         first = λ other others c same.
-            IsLexLe-from_value (backwards h.register k.bits) (backwards other others) (bits_backwards h.register k.bits k.each) (bits_backwards other others c.each)
-            (length-backwards h.register k.bits ∙ omega (arith, many other others c, k.long, length-backwards other others)) ((over other others c).1 same);
+            IsLexLe-from_value (backwards h.register k.bits) (backwards other others)
+            (bits_backwards h.register k.bits k.each) (bits_backwards other others c.each)
+            (length-backwards h.register k.bits ∙ omega (
+              arith,
+              many other others c,
+              k.long,
+              length-backwards other others,
+            )) ((over other others c).1 same);
       },
     )

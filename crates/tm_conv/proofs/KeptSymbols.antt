@@ -26,44 +26,154 @@ below (x ∷ xs) e =
 
 -- the rows of a rate begin with this one
 abbrev pub AreRows : ℕ → Rate → Type 0
-AreRows first rate = (position : ℕ) → position < period rate → AreKept rate position (get_or KEPT (first + position) []) (get_or COUNTS (first + position) 0)
+AreRows first rate =
+    (position : ℕ) → position < period rate
+    → AreKept rate position (get_or KEPT (first + position) []) (get_or COUNTS (first + position) 0)
 
 pub at_half : AreRows 0 R12
 unfolding are_below
-at_half zero lt = record { long = refl; small = below (get_or KEPT 0 []) refl; at_most = omega arith; kept = λ f invert register a b c d e g h i. refl }
+at_half zero lt =
+    record {
+      long = refl;
+      small = below (get_or KEPT 0 []) refl;
+      at_most = omega arith;
+      kept = λ f invert register a b c d e g h i. refl;
+    }
 at_half (suc position) lt = absurd (omega arith)
 
 pub at_two_thirds : AreRows 1 R23
 unfolding are_below
-at_two_thirds zero lt = record { long = refl; small = below (get_or KEPT 1 []) refl; at_most = omega arith; kept = λ f invert register a b c d e g h i. refl }
-at_two_thirds (suc zero) lt = record { long = refl; small = below (get_or KEPT 2 []) refl; at_most = omega arith; kept = λ f invert register a b c d e g h i. refl }
+at_two_thirds zero lt =
+    record {
+      long = refl;
+      small = below (get_or KEPT 1 []) refl;
+      at_most = omega arith;
+      kept = λ f invert register a b c d e g h i. refl;
+    }
+at_two_thirds (suc zero) lt =
+    record {
+      long = refl;
+      small = below (get_or KEPT 2 []) refl;
+      at_most = omega arith;
+      kept = λ f invert register a b c d e g h i. refl;
+    }
 at_two_thirds (suc (suc position)) lt = absurd (omega arith)
 
 pub at_three_quarters : AreRows 3 R34
 unfolding are_below
-at_three_quarters zero lt = record { long = refl; small = below (get_or KEPT 3 []) refl; at_most = omega arith; kept = λ f invert register a b c d e g h i. refl }
-at_three_quarters (suc zero) lt = record { long = refl; small = below (get_or KEPT 4 []) refl; at_most = omega arith; kept = λ f invert register a b c d e g h i. refl }
-at_three_quarters (suc (suc zero)) lt = record { long = refl; small = below (get_or KEPT 5 []) refl; at_most = omega arith; kept = λ f invert register a b c d e g h i. refl }
+at_three_quarters zero lt =
+    record {
+      long = refl;
+      small = below (get_or KEPT 3 []) refl;
+      at_most = omega arith;
+      kept = λ f invert register a b c d e g h i. refl;
+    }
+at_three_quarters (suc zero) lt =
+    record {
+      long = refl;
+      small = below (get_or KEPT 4 []) refl;
+      at_most = omega arith;
+      kept = λ f invert register a b c d e g h i. refl;
+    }
+at_three_quarters (suc (suc zero)) lt =
+    record {
+      long = refl;
+      small = below (get_or KEPT 5 []) refl;
+      at_most = omega arith;
+      kept = λ f invert register a b c d e g h i. refl;
+    }
 at_three_quarters (suc (suc (suc position))) lt = absurd (omega arith)
 
 pub at_five_sixths : AreRows 6 R56
 unfolding are_below
-at_five_sixths zero lt = record { long = refl; small = below (get_or KEPT 6 []) refl; at_most = omega arith; kept = λ f invert register a b c d e g h i. refl }
-at_five_sixths (suc zero) lt = record { long = refl; small = below (get_or KEPT 7 []) refl; at_most = omega arith; kept = λ f invert register a b c d e g h i. refl }
-at_five_sixths (suc (suc zero)) lt = record { long = refl; small = below (get_or KEPT 8 []) refl; at_most = omega arith; kept = λ f invert register a b c d e g h i. refl }
-at_five_sixths (suc (suc (suc zero))) lt = record { long = refl; small = below (get_or KEPT 9 []) refl; at_most = omega arith; kept = λ f invert register a b c d e g h i. refl }
-at_five_sixths (suc (suc (suc (suc zero)))) lt = record { long = refl; small = below (get_or KEPT 10 []) refl; at_most = omega arith; kept = λ f invert register a b c d e g h i. refl }
+at_five_sixths zero lt =
+    record {
+      long = refl;
+      small = below (get_or KEPT 6 []) refl;
+      at_most = omega arith;
+      kept = λ f invert register a b c d e g h i. refl;
+    }
+at_five_sixths (suc zero) lt =
+    record {
+      long = refl;
+      small = below (get_or KEPT 7 []) refl;
+      at_most = omega arith;
+      kept = λ f invert register a b c d e g h i. refl;
+    }
+at_five_sixths (suc (suc zero)) lt =
+    record {
+      long = refl;
+      small = below (get_or KEPT 8 []) refl;
+      at_most = omega arith;
+      kept = λ f invert register a b c d e g h i. refl;
+    }
+at_five_sixths (suc (suc (suc zero))) lt =
+    record {
+      long = refl;
+      small = below (get_or KEPT 9 []) refl;
+      at_most = omega arith;
+      kept = λ f invert register a b c d e g h i. refl;
+    }
+at_five_sixths (suc (suc (suc (suc zero)))) lt =
+    record {
+      long = refl;
+      small = below (get_or KEPT 10 []) refl;
+      at_most = omega arith;
+      kept = λ f invert register a b c d e g h i. refl;
+    }
 at_five_sixths (suc (suc (suc (suc (suc position))))) lt = absurd (omega arith)
 
 pub at_seven_eighths : AreRows 11 R78
 unfolding are_below
-at_seven_eighths zero lt = record { long = refl; small = below (get_or KEPT 11 []) refl; at_most = omega arith; kept = λ f invert register a b c d e g h i. refl }
-at_seven_eighths (suc zero) lt = record { long = refl; small = below (get_or KEPT 12 []) refl; at_most = omega arith; kept = λ f invert register a b c d e g h i. refl }
-at_seven_eighths (suc (suc zero)) lt = record { long = refl; small = below (get_or KEPT 13 []) refl; at_most = omega arith; kept = λ f invert register a b c d e g h i. refl }
-at_seven_eighths (suc (suc (suc zero))) lt = record { long = refl; small = below (get_or KEPT 14 []) refl; at_most = omega arith; kept = λ f invert register a b c d e g h i. refl }
-at_seven_eighths (suc (suc (suc (suc zero)))) lt = record { long = refl; small = below (get_or KEPT 15 []) refl; at_most = omega arith; kept = λ f invert register a b c d e g h i. refl }
-at_seven_eighths (suc (suc (suc (suc (suc zero))))) lt = record { long = refl; small = below (get_or KEPT 16 []) refl; at_most = omega arith; kept = λ f invert register a b c d e g h i. refl }
-at_seven_eighths (suc (suc (suc (suc (suc (suc zero)))))) lt = record { long = refl; small = below (get_or KEPT 17 []) refl; at_most = omega arith; kept = λ f invert register a b c d e g h i. refl }
+at_seven_eighths zero lt =
+    record {
+      long = refl;
+      small = below (get_or KEPT 11 []) refl;
+      at_most = omega arith;
+      kept = λ f invert register a b c d e g h i. refl;
+    }
+at_seven_eighths (suc zero) lt =
+    record {
+      long = refl;
+      small = below (get_or KEPT 12 []) refl;
+      at_most = omega arith;
+      kept = λ f invert register a b c d e g h i. refl;
+    }
+at_seven_eighths (suc (suc zero)) lt =
+    record {
+      long = refl;
+      small = below (get_or KEPT 13 []) refl;
+      at_most = omega arith;
+      kept = λ f invert register a b c d e g h i. refl;
+    }
+at_seven_eighths (suc (suc (suc zero))) lt =
+    record {
+      long = refl;
+      small = below (get_or KEPT 14 []) refl;
+      at_most = omega arith;
+      kept = λ f invert register a b c d e g h i. refl;
+    }
+at_seven_eighths (suc (suc (suc (suc zero)))) lt =
+    record {
+      long = refl;
+      small = below (get_or KEPT 15 []) refl;
+      at_most = omega arith;
+      kept = λ f invert register a b c d e g h i. refl;
+    }
+at_seven_eighths (suc (suc (suc (suc (suc zero))))) lt =
+    record {
+      long = refl;
+      small = below (get_or KEPT 16 []) refl;
+      at_most = omega arith;
+      kept = λ f invert register a b c d e g h i. refl;
+    }
+at_seven_eighths (suc (suc (suc (suc (suc (suc zero)))))) lt =
+    record {
+      long = refl;
+      small = below (get_or KEPT 17 []) refl;
+      at_most = omega arith;
+      kept = λ f invert register a b c d e g h i. refl;
+    }
 at_seven_eighths (suc (suc (suc (suc (suc (suc (suc position))))))) lt = absurd (omega arith)
 
 -- the places after an octet, in the rows of a rate

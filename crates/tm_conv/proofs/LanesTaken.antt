@@ -13,10 +13,12 @@ each n (x ∷ xs) are = (are 0 0 (omega arith), each n xs (λ k d within. are (s
 pub places_fit : (places : List ℕ) → length places ≡ 16 → All (λ place. place < 16) places → SwzOk w8 16 16 0 places
 places_fit places long small = SwzOk-from_below w8 16 1 16 0 places refl (omega (arith, long)) (each 16 places small)
 
-pub lanes_taken : (lanes places : List ℕ) → length places ≡ 16 → All (λ place. place < 16) places → swz_l w8 16 lanes 0 places ≡ elements_at places lanes
+pub lanes_taken : (lanes places : List ℕ) → length places ≡ 16 → All (λ place. place < 16) places
+    → swz_l w8 16 lanes 0 places ≡ elements_at places lanes
 lanes_taken lanes places long small =
     let other : length (elements_at places lanes) ≡ 16 = length-map places (λ place. get_or lanes place 0) ∙ long in
-    ext_get_or 0 (swz_l w8 16 lanes 0 places) (elements_at places lanes) (length-swz_l w8 16 lanes 0 places ∙ long ∙ sym other) (λ i within.
+    ext_get_or 0 (swz_l w8 16 lanes 0 places) (elements_at places lanes)
+    (length-swz_l w8 16 lanes 0 places ∙ long ∙ sym other) (λ i within.
     let lt : i < length places = omega (arith, length-swz_l w8 16 lanes 0 places) in
     let at : 16 * ((0 + i) / 16) + get_or places i 0 ≡ get_or places i 0 = omega (arith, long, lt) in
     get_or-swz_l_below w8 16 lanes 0 places i lt (small i 0 lt)

@@ -26,13 +26,16 @@ pub EndsIn-steps : (rate : Rate) (invert : Bool) (t steps last initial : ℕ) (o
 EndsIn-steps rate invert t steps last initial octets bits size is =
     same_from_steps_size rate t (length bits) steps (sym (length-path rate invert t initial bits) ∙ is.covers ∙ size)
 
-length-more : (rate : Rate) (t steps : ℕ) (octets here : List ℕ) → length octets ≡ steps_size rate t steps → length here ≡ step_size rate (t + steps)
+length-more : (rate : Rate) (t steps : ℕ) (octets here : List ℕ) → length octets ≡ steps_size rate t steps
+    → length here ≡ step_size rate (t + steps)
     → length (octets ++ here) ≡ steps_size rate t (steps + 1)
-length-more rate t steps octets here size step = length-append octets here ∙ omega (arith, size, step, steps_size-more rate t steps)
+length-more rate t steps octets here size step =
+    length-append octets here ∙ omega (arith, size, step, steps_size-more rate t steps)
 
 -- a path goes on by a bit
 pub EndsIn-push : (rate : Rate) (invert : Bool) (t steps from bit initial : ℕ) (octets here bits : List ℕ)
-    → length octets ≡ steps_size rate t steps → length here ≡ step_size rate (t + steps) → bit < 2 → EndsIn rate invert t octets from initial bits
+    → length octets ≡ steps_size rate t steps → length here ≡ step_size rate (t + steps) → bit < 2
+    → EndsIn rate invert t octets from initial bits
     → EndsIn rate invert t (octets ++ here) (next_register from bit) initial (bits ++ bit ∷ [])
 EndsIn-push rate invert t steps from bit initial octets here bits size step is_bit is =
     let count : length bits ≡ steps = EndsIn-steps rate invert t steps from initial octets bits size is in
@@ -40,7 +43,9 @@ EndsIn-push rate invert t steps from bit initial octets here bits size step is_b
     record {
       register = is.register;
       each = All-push (λ b. b < 2) bits bit is.each is_bit;
-      covers = length-path rate invert t initial (bits ++ bit ∷ []) ∙ ap (steps_size rate t) more ∙ sym (length-more rate t steps octets here size step);
+      covers =
+          length-path rate invert t initial (bits ++ bit ∷ []) ∙ ap (steps_size rate t) more
+          ∙ sym (length-more rate t steps octets here size step);
       ends = register_after-push initial bits bit ∙ ap (λ r. next_register r bit) is.ends;
     }
 
@@ -48,18 +53,22 @@ EndsIn-push rate invert t steps from bit initial octets here bits size step is_b
 pub total-push : (starts : ℕ → Bool) (rate : Rate) (invert : Bool) (t steps bit initial : ℕ) (octets here bits : List ℕ)
     → length octets ≡ steps_size rate t steps → length bits ≡ steps
     → total starts rate invert t (octets ++ here) initial (bits ++ bit ∷ [])
-    ≡ total starts rate invert t octets initial bits + cost (step_symbols rate invert (t + steps) (register_after initial bits) bit) here
+    ≡ total starts rate invert t octets initial bits + cost
+    (step_symbols rate invert (t + steps) (register_after initial bits) bit) here
 total-push starts rate invert t steps bit initial octets here bits size count =
     let before = path rate invert t initial bits in
     let symbols = step_symbols rate invert (t + steps) (register_after initial bits) bit in
-    let whole : cost (path rate invert t initial (bits ++ bit ∷ [])) (octets ++ here) ≡ cost before octets + cost symbols here
+    let whole : cost (path rate invert t initial (bits ++ bit ∷ [])) (octets ++ here)
+    ≡ cost before octets + cost symbols here
     = ap (λ p. cost p (octets ++ here)) (path-push rate invert t (t + steps) initial bits bit (omega (arith, count)))
-    ∙ cost-append before octets symbols here (length-path rate invert t initial bits ∙ ap (steps_size rate t) count ∙ sym size) in
+    ∙ cost-append before octets symbols here (length-path rate invert t initial bits ∙ ap (steps_size rate t) count
+    ∙ sym size) in
     omega (arith, whole)
 
 -- ---- the least total to a register
 pub IsLeastTo-unique : (starts : ℕ → Bool) (rate : Rate) (invert : Bool) (t last entry other : ℕ) (octets : List ℕ)
-    → IsLeastTo starts rate invert t octets last entry → IsLeastTo starts rate invert t octets last other → entry ≡ other
+    → IsLeastTo starts rate invert t octets last entry → IsLeastTo starts rate invert t octets last other
+    → entry ≡ other
 IsLeastTo-unique starts rate invert t last entry other octets a b =
     omega (arith, a.least b.initial b.bits b.path, b.least a.initial a.bits a.path, a.reached, b.reached)
 
@@ -71,7 +80,8 @@ IsLeastTo-first starts rate invert t register small = record {
   path = record { register = small; each = All-nil (λ b. b < 2); covers = refl; ends = refl };
   reached = omega arith;
   least = λ other others is.
-      let none : others ≡ [] = nil_from_length others (EndsIn-steps rate invert t 0 register other [] others (sym (steps_size-zero rate t)) is) in
+      let none : others ≡ [] = nil_from_length others (EndsIn-steps rate invert t 0 register other [] others
+      (sym (steps_size-zero rate t)) is) in
       let same : other ≡ register = ap (register_after other) (sym none) ∙ is.ends in
       let costs : first_cost starts other ≡ first_cost starts register = ap (first_cost starts) same in
       omega (arith, costs);
@@ -80,28 +90,40 @@ IsLeastTo-first starts rate invert t register small = record {
 -- what is at most each total by an edge into a register is at most that of each path to it
 least_more : (starts : ℕ → Bool) (rate : Rate) (invert : Bool) (t steps last low : ℕ) (octets here : List ℕ)
     → length octets ≡ steps_size rate t steps → length here ≡ step_size rate (t + steps)
-    → ((from bit other : ℕ) (others : List ℕ) → from < 64 → bit < 2 → next_register from bit ≡ last → EndsIn rate invert t octets from other others
+    → ((from bit other : ℕ) (others : List ℕ) → from < 64 → bit < 2 → next_register from bit ≡ last
+    → EndsIn rate invert t octets from other others
     → low ≤ total starts rate invert t octets other others + cost (step_symbols rate invert (t + steps) from bit) here)
-    → (other : ℕ) (others : List ℕ) → EndsIn rate invert t (octets ++ here) last other others → low ≤ total starts rate invert t (octets ++ here) other others
+    → (other : ℕ) (others : List ℕ) → EndsIn rate invert t (octets ++ here) last other others
+    → low ≤ total starts rate invert t (octets ++ here) other others
 least_more starts rate invert t steps last low octets here size step edges other others is =
     let count : length others ≡ steps + 1
-    = EndsIn-steps rate invert t (steps + 1) last other (octets ++ here) others (length-more rate t steps octets here size step) is in
+    =
+    EndsIn-steps rate invert t (steps + 1) last other (octets ++ here) others
+    (length-more rate t steps octets here size step) is in
     let prefixes = take steps others in
     let bit = get_or others steps 0 in
     let from = register_after other prefixes in
-    let whole : others ≡ prefixes ++ bit ∷ [] = sym (take_all (steps + 1) others (omega (arith, count))) ∙ take_more others steps 0 (omega (arith, count)) in
+    let whole : others ≡ prefixes ++ bit ∷ [] = sym (take_all (steps + 1) others (omega (arith, count)))
+    ∙ take_more others steps 0 (omega (arith, count)) in
     let long : length prefixes ≡ steps = length-take-le steps others (omega (arith, count)) in
     let each : AreBits prefixes = All-take (λ b. b < 2) steps others is.each in
     let is_bit : bit < 2 = All-get_or (λ b. b < 2) others steps 0 (omega (arith, count)) is.each in
-    let goes : next_register from bit ≡ last = sym (register_after-push other prefixes bit) ∙ ap (register_after other) (sym whole) ∙ is.ends in
+    let goes : next_register from bit ≡ last = sym (register_after-push other prefixes bit)
+    ∙ ap (register_after other) (sym whole) ∙ is.ends in
     let before : EndsIn rate invert t octets from other prefixes = record {
       register = is.register;
       each = each;
       covers = length-path rate invert t other prefixes ∙ ap (steps_size rate t) long ∙ sym size;
       ends = refl;
     } in
-    let sum = ap (total starts rate invert t (octets ++ here) other) whole ∙ total-push starts rate invert t steps bit other octets here prefixes size long in
-    omega (arith, sum, edges from bit other prefixes (register_after-small other prefixes is.register each) is_bit goes before)
+    let sum = ap (total starts rate invert t (octets ++ here) other) whole
+    ∙ total-push starts rate invert t steps bit other octets here prefixes size long in
+    omega (
+      arith,
+      sum,
+      edges from bit other prefixes (register_after-small other prefixes is.register each) is_bit
+          goes before,
+    )
 
 -- a register is reached from two, 2 * (register % 32) and the one after it, by the bit register / 32
 two_edges : (from bit last : ℕ) → from < 64 → bit < 2 → next_register from bit ≡ last
@@ -114,7 +136,8 @@ LeastTo starts rate invert t octets last = (entry : ℕ) × IsLeastTo starts rat
 
 least_to-more : (starts : ℕ → Bool) (rate : Rate) (invert : Bool) (t steps : ℕ) (octets here : List ℕ)
     → length octets ≡ steps_size rate t steps → length here ≡ step_size rate (t + steps)
-    → ((last : ℕ) → last < 64 → LeastTo starts rate invert t octets last) → (last : ℕ) → last < 64 → LeastTo starts rate invert t (octets ++ here) last
+    → ((last : ℕ) → last < 64 → LeastTo starts rate invert t octets last) → (last : ℕ) → last < 64
+    → LeastTo starts rate invert t (octets ++ here) last
 least_to-more starts rate invert t steps octets here size step before last small =
     let low : ℕ = 2 * (last % 32) in
     let bit : ℕ = last / 32 in
@@ -123,7 +146,8 @@ least_to-more starts rate invert t steps octets here size step before last small
     let b = before (low + 1) (omega arith) in
     -- by the lesser of the two edges
     let by : (from entry : ℕ) → next_register from bit ≡ last → IsLeastTo starts rate invert t octets from entry
-    → entry + added from ≤ a.0 + added low → entry + added from ≤ b.0 + added (low + 1) → LeastTo starts rate invert t (octets ++ here) last
+    → entry + added from ≤ a.0 + added low → entry + added from ≤ b.0 + added (low + 1)
+    → LeastTo starts rate invert t (octets ++ here) last
     = λ from entry goes is at_low at_high. (
       entry + added from,
       record {
@@ -131,15 +155,30 @@ least_to-more starts rate invert t steps octets here size step before last small
         bits = is.bits ++ bit ∷ [];
         path = subst (λ (r : ℕ). EndsIn rate invert t (octets ++ here) r is.initial (is.bits ++ bit ∷ [])) goes
             (EndsIn-push rate invert t steps from bit is.initial octets here is.bits size step (omega arith) is.path);
-        reached = total-push starts rate invert t steps bit is.initial octets here is.bits size (EndsIn-steps rate invert t steps from is.initial octets is.bits size is.path)
+        reached =
+            total-push starts rate invert t steps bit is.initial octets here is.bits size
+            (EndsIn-steps rate invert t steps from is.initial octets is.bits size is.path)
             ∙ omega (arith, is.reached, ap added is.path.ends);
         least = least_more starts rate invert t steps last (entry + added from) octets here size step
             (λ from' bit' other others from_small is_bit from_goes ends.
             (let two = two_edges from' bit' last from_small is_bit from_goes in
-            let same : cost (step_symbols rate invert (t + steps) from' bit') here ≡ added from' = ap (λ c. cost (step_symbols rate invert (t + steps) from' c) here) two.1 in
+            let same : cost (step_symbols rate invert (t + steps) from' bit') here ≡ added from' =
+            ap (λ c. cost (step_symbols rate invert (t + steps) from' c) here) two.1 in
             elim two.0 [
-              | inl is_low ↦ omega (arith, same, ap added is_low, at_low, a.1.least other others (subst (λ (r : ℕ). EndsIn rate invert t octets r other others) is_low ends))
-              | inr is_high ↦ omega (arith, same, ap added is_high, at_high, b.1.least other others (subst (λ (r : ℕ). EndsIn rate invert t octets r other others) is_high ends))
+              | inl is_low ↦ omega (
+                arith,
+                same,
+                ap added is_low,
+                at_low,
+                a.1.least other others (subst (λ (r : ℕ). EndsIn rate invert t octets r other others) is_low ends),
+              )
+              | inr is_high ↦ omega (
+                arith,
+                same,
+                ap added is_high,
+                at_high,
+                b.1.least other others (subst (λ (r : ℕ). EndsIn rate invert t octets r other others) is_high ends),
+              )
             ]));
       },
     ) in
@@ -148,32 +187,43 @@ least_to-more starts rate invert t steps octets here size step before last small
       | inr no_less ↦ by low a.0 (omega arith) a.1 (omega arith) no_less
     ]
 
-least_to : (starts : ℕ → Bool) (rate : Rate) (invert : Bool) (t steps : ℕ) (octets : List ℕ) → length octets ≡ steps_size rate t steps
+least_to : (starts : ℕ → Bool) (rate : Rate) (invert : Bool) (t steps : ℕ) (octets : List ℕ)
+    → length octets ≡ steps_size rate t steps
     → (last : ℕ) → last < 64 → LeastTo starts rate invert t octets last
 least_to starts rate invert t zero octets size last small =
-    let none : [] ≡ octets = sym (nil_from_length octets (size ∙ steps_size-zero rate t)) in
-    (first_cost starts last, subst (λ (l : List ℕ). IsLeastTo starts rate invert t l last (first_cost starts last)) none (IsLeastTo-first starts rate invert t last small))
+    let none : [] ≡ octets = sym (nil_from_length octets (size ∙ steps_size-zero rate t)) in (
+      first_cost starts last,
+      subst (λ (l : List ℕ). IsLeastTo starts rate invert t l last (first_cost starts last))
+          none (IsLeastTo-first starts rate invert t last small),
+    )
 least_to starts rate invert t (suc steps) octets size last small =
     let count = steps_size rate t steps in
-    let more : length octets ≡ count + step_size rate (t + steps) = size ∙ ap (steps_size rate t) (let e : suc steps ≡ steps + 1 = omega arith in e) ∙ steps_size-more rate t steps in
+    let more : length octets ≡ count + step_size rate (t + steps) = size
+    ∙ ap (steps_size rate t) (let e : suc steps ≡ steps + 1 = omega arith in e) ∙ steps_size-more rate t steps in
     let prefix : length (take count octets) ≡ count = length-take-le count octets (omega (arith, more)) in
-    let here : length (drop count octets) ≡ step_size rate (t + steps) = length-drop count octets ∙ omega (arith, more) in
+    let here : length (drop count octets) ≡ step_size rate (t + steps) = length-drop count octets
+    ∙ omega (arith, more) in
     subst (λ (l : List ℕ). LeastTo starts rate invert t l last) (take-append-drop count octets)
-    (least_to-more starts rate invert t steps (take count octets) (drop count octets) prefix here (least_to starts rate invert t steps (take count octets) prefix) last small)
+    (least_to-more starts rate invert t steps (take count octets) (drop count octets) prefix here
+    (least_to starts rate invert t steps (take count octets) prefix) last small)
 
 -- ---- the column
-pub IsColumn-exists : (starts : ℕ → Bool) (rate : Rate) (invert : Bool) (t steps : ℕ) (octets : List ℕ) → length octets ≡ steps_size rate t steps
+pub IsColumn-exists : (starts : ℕ → Bool) (rate : Rate) (invert : Bool) (t steps : ℕ) (octets : List ℕ)
+    → length octets ≡ steps_size rate t steps
     → (column : List ℕ) × IsColumn starts rate invert t octets column
 IsColumn-exists starts rate invert t steps octets size =
-    let entries : (last : ℕ) → LeastTo starts rate invert t octets (last % 64) = λ last. least_to starts rate invert t steps octets size (last % 64) (omega arith) in
+    let entries : (last : ℕ) → LeastTo starts rate invert t octets (last % 64) =
+    λ last. least_to starts rate invert t steps octets size (last % 64) (omega arith) in
     let column = map (λ last. (entries last).0) (range_with_len 0 64) in (
       column,
       record {
         long = length-map-range_with_len (λ last. (entries last).0) 0 64;
         each = λ last small.
-            let at : slice_index column last ≡ (entries last).0 = get_or-map-range_with_len (λ last. (entries last).0) 0 64 last last 0 small (omega arith) in
+            let at : slice_index column last ≡ (entries last).0 =
+            get_or-map-range_with_len (λ last. (entries last).0) 0 64 last last 0 small (omega arith) in
             let same : last % 64 ≡ last = omega arith in
-            subst (λ (v : ℕ). IsLeastTo starts rate invert t octets last v) (sym at) (subst (λ (r : ℕ). IsLeastTo starts rate invert t octets r (entries last).0) same (entries last).1);
+            subst (λ (v : ℕ). IsLeastTo starts rate invert t octets last v) (sym at)
+            (subst (λ (r : ℕ). IsLeastTo starts rate invert t octets r (entries last).0) same (entries last).1);
       },
     )
 
@@ -182,30 +232,38 @@ pub IsColumn-unique : (starts : ℕ → Bool) (rate : Rate) (invert : Bool) (t :
 IsColumn-unique starts rate invert t octets column other a b =
     ext_get_or 0 column other (a.long ∙ sym b.long) (λ last below.
     let small : last < 64 = omega (arith, a.long) in
-    IsLeastTo-unique starts rate invert t last (slice_index column last) (slice_index other last) octets (a.each last small) (b.each last small))
+    IsLeastTo-unique starts rate invert t last (slice_index column last) (slice_index other last) octets
+    (a.each last small) (b.each last small))
 
 pub IsColumn-first : (starts : ℕ → Bool) (rate : Rate) (invert : Bool) (t register : ℕ) (column : List ℕ)
     → IsColumn starts rate invert t [] column → register < 64 → slice_index column register ≡ first_cost starts register
 IsColumn-first starts rate invert t register column is small =
-    IsLeastTo-unique starts rate invert t register (slice_index column register) (first_cost starts register) [] (is.each register small) (IsLeastTo-first starts rate invert t register small)
+    IsLeastTo-unique starts rate invert t register (slice_index column register) (first_cost starts register) []
+    (is.each register small) (IsLeastTo-first starts rate invert t register small)
 
-pub IsColumn-edge : (starts : ℕ → Bool) (rate : Rate) (invert : Bool) (t steps from bit : ℕ) (octets here before after : List ℕ)
+pub IsColumn-edge : (starts : ℕ → Bool) (rate : Rate) (invert : Bool) (t steps from bit : ℕ)
+    (octets here before after : List ℕ)
     → IsColumn starts rate invert t octets before → IsColumn starts rate invert t (octets ++ here) after
     → length octets ≡ steps_size rate t steps → length here ≡ step_size rate (t + steps) → from < 64 → bit < 2
-    → slice_index after (next_register from bit) ≤ slice_index before from + cost (step_symbols rate invert (t + steps) from bit) here
+    → slice_index after (next_register from bit) ≤ slice_index before from + cost
+    (step_symbols rate invert (t + steps) from bit) here
 IsColumn-edge starts rate invert t steps from bit octets here before after b a size step small is_bit =
     let least_path = b.each from small in
     let there = a.each (next_register from bit) (omega arith) in
-    let more = total-push starts rate invert t steps bit least_path.initial octets here least_path.bits size (EndsIn-steps rate invert t steps from least_path.initial octets least_path.bits size least_path.path) in
+    let more = total-push starts rate invert t steps bit least_path.initial octets here least_path.bits size
+    (EndsIn-steps rate invert t steps from least_path.initial octets least_path.bits size least_path.path) in
     omega (
       arith,
       more,
       least_path.reached,
       ap (λ r. cost (step_symbols rate invert (t + steps) r bit) here) least_path.path.ends,
-      there.least least_path.initial (least_path.bits ++ bit ∷ []) (EndsIn-push rate invert t steps from bit least_path.initial octets here least_path.bits size step is_bit least_path.path),
+      there.least least_path.initial (least_path.bits ++ bit ∷ [])
+          (EndsIn-push rate invert t steps from bit least_path.initial octets here least_path.bits size step is_bit
+          least_path.path),
     )
 
-pub IsColumn-least : (starts : ℕ → Bool) (rate : Rate) (invert : Bool) (t initial register : ℕ) (octets column bits : List ℕ)
+pub IsColumn-least : (starts : ℕ → Bool) (rate : Rate) (invert : Bool) (t initial register : ℕ)
+    (octets column bits : List ℕ)
     → IsColumn starts rate invert t octets column → IsBest starts rate invert t octets initial bits
     → cost (path rate invert t initial bits) octets ≤ 2 ^ 30 → register < 64
     → cost (path rate invert t initial bits) octets ≤ slice_index column register
@@ -215,9 +273,15 @@ IsColumn-least starts rate invert t initial register octets column bits is best 
       | inl starts_there ↦ omega (
         arith,
         least_path.reached,
-        best.least least_path.initial least_path.bits (record { start = starts_there; register = least_path.path.register; each = least_path.path.each; covers = least_path.path.covers }),
+        best.least least_path.initial least_path.bits (record {
+          start = starts_there;
+          register = least_path.path.register;
+          each = least_path.path.each;
+          covers = least_path.path.covers;
+        }),
       )
-      | inr starts_not ↦ (let first : first_cost starts least_path.initial ≡ 2 ^ 30 = ap (λ b. cond b 0 (2 ^ 30)) starts_not in omega (arith, least_path.reached, first, low))
+      | inr starts_not ↦ (let first : first_cost starts least_path.initial
+          ≡ 2 ^ 30 = ap (λ b. cond b 0 (2 ^ 30)) starts_not in omega (arith, least_path.reached, first, low))
     ]
 
 distance_le : (b : Bool) (octet : ℕ) → octet < 256 → cond b octet (255 - octet) ≤ 255
@@ -228,7 +292,11 @@ pub cost_le : (symbols octets : List ℕ) → All (λ octet. octet < 256) octets
 cost_le [] octets each = omega arith
 cost_le (symbol ∷ symbols) [] each = omega arith
 cost_le (symbol ∷ symbols) (octet ∷ octets) each =
-    omega (arith, distance_le (eqb symbol 0) octet (All-head (λ o. o < 256) octet octets each), cost_le symbols octets (All-tail (λ o. o < 256) octet octets each))
+    omega (
+      arith,
+      distance_le (eqb symbol 0) octet (All-head (λ o. o < 256) octet octets each),
+      cost_le symbols octets (All-tail (λ o. o < 256) octet octets each),
+    )
 
 first_cost_le : (starts : ℕ → Bool) (register : ℕ) → first_cost starts register ≤ 2 ^ 30
 first_cost_le starts register = go (starts register)
@@ -242,4 +310,9 @@ pub IsColumn-most : (starts : ℕ → Bool) (rate : Rate) (invert : Bool) (t reg
     → slice_index column register ≤ 2 ^ 30 + 255 * length octets
 IsColumn-most starts rate invert t register octets column each is small =
     let least_path = is.each register small in
-    omega (arith, least_path.reached, first_cost_le starts least_path.initial, cost_le (path rate invert t least_path.initial least_path.bits) octets each)
+    omega (
+      arith,
+      least_path.reached,
+      first_cost_le starts least_path.initial,
+      cost_le (path rate invert t least_path.initial least_path.bits) octets each,
+    )

@@ -42,7 +42,8 @@ at_below (suc n) p e k lt =
 -- the entries for a register and an octet give the octet's symbols and the register after it
 abbrev fits : ℕ → ℕ → Bool
 fits register octet =
-    same (zip2 bit_xor (get_or FROM_REGISTER register []) (get_or FROM_OCTET octet [])) (levels 0 (path R12 false 0 register (bit_numbers (bits_of_octet octet))))
+    same (zip2 bit_xor (get_or FROM_REGISTER register []) (get_or FROM_OCTET octet []))
+    (levels 0 (path R12 false 0 register (bit_numbers (bits_of_octet octet))))
     && eqb (get_or REGISTER_AFTER octet 0) (register_after register (bit_numbers (bits_of_octet octet)))
 
 abbrev part : ℕ → ℕ → Bool
@@ -112,14 +113,75 @@ pass_15 : all_below 1024 (part 15360) ≡ true
 unfolding all_below same low_bits
 pass_15 = refl
 
-at_part : (from t : ℕ) → all_below 1024 (part from) ≡ true → from ≤ t → t < from + 1024 → fits (t / 256) (t % 256) ≡ true
+at_part : (from t : ℕ) → all_below 1024 (part from) ≡ true → from ≤ t → t < from + 1024
+    → fits (t / 256) (t % 256) ≡ true
 at_part from t h le lt =
     let e : from + (t - from) ≡ t = omega arith in
     subst (λ (v : ℕ). fits (v / 256) (v % 256) ≡ true) e (at_below 1024 (part from) h (t - from) (omega arith))
 
 all_at : (t : ℕ) → t < 16384 → fits (t / 256) (t % 256) ≡ true
 all_at t lt =
-    (elim (cases_lt t 1024) [ inl l0 ↦ at_part 0 t pass_0 (omega arith) (omega arith) | inr g0 ↦ (elim (cases_lt t 2048) [ inl l1 ↦ at_part 1024 t pass_1 (omega arith) (omega arith) | inr g1 ↦ (elim (cases_lt t 3072) [ inl l2 ↦ at_part 2048 t pass_2 (omega arith) (omega arith) | inr g2 ↦ (elim (cases_lt t 4096) [ inl l3 ↦ at_part 3072 t pass_3 (omega arith) (omega arith) | inr g3 ↦ (elim (cases_lt t 5120) [ inl l4 ↦ at_part 4096 t pass_4 (omega arith) (omega arith) | inr g4 ↦ (elim (cases_lt t 6144) [ inl l5 ↦ at_part 5120 t pass_5 (omega arith) (omega arith) | inr g5 ↦ (elim (cases_lt t 7168) [ inl l6 ↦ at_part 6144 t pass_6 (omega arith) (omega arith) | inr g6 ↦ (elim (cases_lt t 8192) [ inl l7 ↦ at_part 7168 t pass_7 (omega arith) (omega arith) | inr g7 ↦ (elim (cases_lt t 9216) [ inl l8 ↦ at_part 8192 t pass_8 (omega arith) (omega arith) | inr g8 ↦ (elim (cases_lt t 10240) [ inl l9 ↦ at_part 9216 t pass_9 (omega arith) (omega arith) | inr g9 ↦ (elim (cases_lt t 11264) [ inl l10 ↦ at_part 10240 t pass_10 (omega arith) (omega arith) | inr g10 ↦ (elim (cases_lt t 12288) [ inl l11 ↦ at_part 11264 t pass_11 (omega arith) (omega arith) | inr g11 ↦ (elim (cases_lt t 13312) [ inl l12 ↦ at_part 12288 t pass_12 (omega arith) (omega arith) | inr g12 ↦ (elim (cases_lt t 14336) [ inl l13 ↦ at_part 13312 t pass_13 (omega arith) (omega arith) | inr g13 ↦ (elim (cases_lt t 15360) [ inl l14 ↦ at_part 14336 t pass_14 (omega arith) (omega arith) | inr g14 ↦ at_part 15360 t pass_15 (omega arith) (omega arith) ]) ]) ]) ]) ]) ]) ]) ]) ]) ]) ]) ]) ]) ]) ])
+    (elim (cases_lt t 1024) [
+      | inl l0 ↦ at_part 0 t pass_0 (omega arith) (omega arith)
+      | inr g0 ↦
+          (elim (cases_lt t 2048) [
+            | inl l1 ↦ at_part 1024 t pass_1 (omega arith) (omega arith)
+            | inr g1 ↦
+                (elim (cases_lt t 3072) [
+                  | inl l2 ↦ at_part 2048 t pass_2 (omega arith) (omega arith)
+                  | inr g2 ↦
+                      (elim (cases_lt t 4096) [
+                        | inl l3 ↦ at_part 3072 t pass_3 (omega arith) (omega arith)
+                        | inr g3 ↦
+                            (elim (cases_lt t 5120) [
+                              | inl l4 ↦ at_part 4096 t pass_4 (omega arith) (omega arith)
+                              | inr g4 ↦
+                                  (elim (cases_lt t 6144) [
+                                    | inl l5 ↦ at_part 5120 t pass_5 (omega arith) (omega arith)
+                                    | inr g5 ↦
+                                        (elim (cases_lt t 7168) [
+                                          | inl l6 ↦ at_part 6144 t pass_6 (omega arith) (omega arith)
+                                          | inr g6 ↦
+                                              (elim (cases_lt t 8192) [
+                                                | inl l7 ↦ at_part 7168 t pass_7 (omega arith) (omega arith)
+                                                | inr g7 ↦
+                                                    (elim (cases_lt t 9216) [
+                                                      | inl l8 ↦ at_part 8192 t pass_8 (omega arith) (omega arith)
+                                                      | inr g8 ↦
+                                                          (elim (cases_lt t 10240) [
+                                                            | inl l9 ↦ at_part 9216 t pass_9 (omega arith) (omega arith)
+                                                            | inr g9 ↦
+                                                                (elim (cases_lt t 11264) [
+                                                                  | inl l10 ↦ at_part 10240 t pass_10 (omega arith) (omega arith)
+                                                                  | inr g10 ↦
+                                                                      (elim (cases_lt t 12288) [
+                                                                        | inl l11 ↦ at_part 11264 t pass_11 (omega arith) (omega arith)
+                                                                        | inr g11 ↦
+                                                                            (elim (cases_lt t 13312) [
+                                                                              | inl l12 ↦ at_part 12288 t pass_12 (omega arith) (omega arith)
+                                                                              | inr g12 ↦
+                                                                                  (elim (cases_lt t 14336) [
+                                                                                    | inl l13 ↦ at_part 13312 t pass_13 (omega arith) (omega arith)
+                                                                                    | inr g13 ↦
+                                                                                        (elim (cases_lt t 15360) [
+                                                                                          | inl l14 ↦ at_part 14336 t pass_14 (omega arith) (omega arith)
+                                                                                          | inr g14 ↦
+                                                                                              at_part 15360 t pass_15 (omega arith) (omega arith)
+                                                                                        ])
+                                                                                  ])
+                                                                            ])
+                                                                      ])
+                                                                ])
+                                                          ])
+                                                    ])
+                                              ])
+                                        ])
+                                  ])
+                            ])
+                      ])
+                ])
+          ])
+    ])
 
 fit : (register octet : ℕ) → register < 64 → octet < 256 → fits register octet ≡ true
 fit register octet small within =
@@ -129,7 +191,8 @@ fit register octet small within =
     subst (λ (y : ℕ). fits register y ≡ true) b (subst (λ (x : ℕ). fits x (t % 256) ≡ true) a (all_at t (omega arith)))
 
 pub symbols_from_tables : (register octet : ℕ) → register < 64 → octet < 256
-    → zip2 bit_xor (get_or FROM_REGISTER register []) (get_or FROM_OCTET octet []) ≡ levels 0 (path R12 false 0 register (bit_numbers (bits_of_octet octet)))
+    → zip2 bit_xor (get_or FROM_REGISTER register []) (get_or FROM_OCTET octet [])
+    ≡ levels 0 (path R12 false 0 register (bit_numbers (bits_of_octet octet)))
 symbols_from_tables register octet small within = same_is _ _ (and_parts _ _ (fit register octet small within)).0
 
 low_registers : all_below 256 (λ octet. ltb (get_or REGISTER_AFTER octet 0) 64) ≡ true
@@ -137,9 +200,11 @@ unfolding all_below
 low_registers = refl
 
 pub register_within : (octet : ℕ) → octet < 256 → get_or REGISTER_AFTER octet 0 < 64
-register_within octet within = ltb-true _ _ (at_below 256 (λ octet. ltb (get_or REGISTER_AFTER octet 0) 64) low_registers octet within)
+register_within octet within =
+    ltb-true _ _ (at_below 256 (λ octet. ltb (get_or REGISTER_AFTER octet 0) 64) low_registers octet within)
 
-pub register_from_table : (register octet : ℕ) → register < 64 → octet < 256 → get_or REGISTER_AFTER octet 0 ≡ register_after register (bit_numbers (bits_of_octet octet))
+pub register_from_table : (register octet : ℕ) → register < 64 → octet < 256
+    → get_or REGISTER_AFTER octet 0 ≡ register_after register (bit_numbers (bits_of_octet octet))
 register_from_table register octet small within = eqb-true _ _ (and_parts _ _ (fit register octet small within)).1
 
 -- ---- inversion, and the octet of a symbol 0
@@ -153,7 +218,10 @@ flip : (low symbol : ℕ) → low < 256 → bit_xor (level 0 symbol) low ≡ lev
 flip low symbol within = go (symbol == 0)
   where
     both : (bit_xor 0 low ≡ low) × (bit_xor 255 low ≡ 255 - low)
-    both = let parts = and_parts _ _ (at_below 256 (λ low. eqb (bit_xor 0 low) low && eqb (bit_xor 255 low) (255 - low)) flips_low low within) in (eqb-true _ _ parts.0, eqb-true _ _ parts.1)
+    both =
+        let parts = and_parts _ _
+        (at_below 256 (λ low. eqb (bit_xor 0 low) low && eqb (bit_xor 255 low) (255 - low)) flips_low low within) in
+        (eqb-true _ _ parts.0, eqb-true _ _ parts.1)
 
     go : (is_zero : Bool) → bit_xor (if is_zero then 0 else 255) low ≡ (if is_zero then low else 255 - low)
     go true = both.0
@@ -173,16 +241,19 @@ second invert low = if invert then 255 - low else low
 
 unfoldable pub flips : Bool → ℕ → List ℕ
 flips invert low =
-    low ∷ second invert low ∷ low ∷ second invert low ∷ low ∷ second invert low ∷ low ∷ second invert low ∷ low ∷ second invert low ∷ low ∷ second invert low ∷ low ∷ second invert low ∷ low ∷ second invert low ∷ []
+    low ∷ second invert low ∷ low ∷ second invert low ∷ low ∷ second invert low ∷ low ∷ second invert low ∷ low
+    ∷ second invert low ∷ low ∷ second invert low ∷ low ∷ second invert low ∷ low ∷ second invert low ∷ []
 
 -- a second symbol, which inversion complements
-flip-second : (invert : Bool) (low register bit : ℕ) → low < 256 → bit_xor (level 0 (c2 register bit)) (second invert low) ≡ level low (sent_c2 invert (c2 register bit))
+flip-second : (invert : Bool) (low register bit : ℕ) → low < 256
+    → bit_xor (level 0 (c2 register bit)) (second invert low) ≡ level low (sent_c2 invert (c2 register bit))
 unfolding second
 flip-second false low register bit within = flip low (c2 register bit) within
 flip-second true low register bit within = turn low (c2 register bit) within (c2-bit register bit)
 
 flipped : (invert : Bool) (low register a b c d e g h i : ℕ) → low < 256
-    → zip2 bit_xor (levels 0 (path R12 false 0 register (a ∷ b ∷ c ∷ d ∷ e ∷ g ∷ h ∷ i ∷ []))) (flips invert low) ≡ levels low (path R12 invert 0 register (a ∷ b ∷ c ∷ d ∷ e ∷ g ∷ h ∷ i ∷ []))
+    → zip2 bit_xor (levels 0 (path R12 false 0 register (a ∷ b ∷ c ∷ d ∷ e ∷ g ∷ h ∷ i ∷ []))) (flips invert low)
+    ≡ levels low (path R12 invert 0 register (a ∷ b ∷ c ∷ d ∷ e ∷ g ∷ h ∷ i ∷ []))
 unfolding flips
 flipped invert low register a b c d e g h i within =
     let r0 = register in
@@ -193,7 +264,12 @@ flipped invert low register a b c d e g h i within =
     let r5 = next_register r4 e in
     let r6 = next_register r5 g in
     let r7 = next_register r6 h in
-    λ j. flip low (c1 r0 a) within j ∷ flip-second invert low r0 a within j ∷ flip low (c1 r1 b) within j ∷ flip-second invert low r1 b within j ∷ flip low (c1 r2 c) within j ∷ flip-second invert low r2 c within j ∷ flip low (c1 r3 d) within j ∷ flip-second invert low r3 d within j ∷ flip low (c1 r4 e) within j ∷ flip-second invert low r4 e within j ∷ flip low (c1 r5 g) within j ∷ flip-second invert low r5 g within j ∷ flip low (c1 r6 h) within j ∷ flip-second invert low r6 h within j ∷ flip low (c1 r7 i) within j ∷ flip-second invert low r7 i within j ∷ []
+    λ j. flip low (c1 r0 a) within j ∷ flip-second invert low r0 a within j ∷ flip low (c1 r1 b) within j
+    ∷ flip-second invert low r1 b within j ∷ flip low (c1 r2 c) within j ∷ flip-second invert low r2 c within j
+    ∷ flip low (c1 r3 d) within j ∷ flip-second invert low r3 d within j ∷ flip low (c1 r4 e) within j
+    ∷ flip-second invert low r4 e within j ∷ flip low (c1 r5 g) within j ∷ flip-second invert low r5 g within j
+    ∷ flip low (c1 r6 h) within j ∷ flip-second invert low r6 h within j ∷ flip low (c1 r7 i) within j
+    ∷ flip-second invert low r7 i within j ∷ []
 
 pub symbols_from_octets : (invert : Bool) (low register octet : ℕ) → low < 256 → register < 64 → octet < 256
     → zip2 bit_xor (zip2 bit_xor (get_or FROM_REGISTER register []) (get_or FROM_OCTET octet [])) (flips invert low)

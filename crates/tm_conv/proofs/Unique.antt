@@ -32,21 +32,40 @@ same_register r q rl ql e =
     let g : r % 2 ≡ q % 2 = cc in
     omega arith
 
-pub IsBest-unique : (starts : ℕ → Bool) (rate : Rate) (invert : Bool) (t : ℕ) (octets : List ℕ) (r q : ℕ) (bits others : List ℕ)
-    → IsBest starts rate invert t octets r bits → IsBest starts rate invert t octets q others → (r ≡ q) × (bits ≡ others)
+pub IsBest-unique : (starts : ℕ → Bool) (rate : Rate) (invert : Bool) (t : ℕ) (octets : List ℕ) (r q : ℕ)
+    (bits others : List ℕ)
+    → IsBest starts rate invert t octets r bits → IsBest starts rate invert t octets q others → (r ≡ q)
+    × (bits ≡ others)
 IsBest-unique starts rate invert t octets r q bits others a b =
     let ab = a.least q others b.candidate in
     let ba = b.least r bits a.candidate in
-    let same : cost (path rate invert t q others) octets ≡ cost (path rate invert t r bits) octets = omega (arith, ab, ba) in
+    let same : cost (path rate invert t q others) octets ≡ cost (path rate invert t r bits) octets =
+    omega (arith, ab, ba) in
     let first = a.first q others b.candidate same in
     let second = b.first r bits a.candidate (sym same) in
     let long : length bits ≡ length others = same_from_steps_size rate t (length bits) (length others)
-    (sym (length-path rate invert t r bits) ∙ a.candidate.covers ∙ sym b.candidate.covers ∙ length-path rate invert t q others) in
+    (sym (length-path rate invert t r bits) ∙ a.candidate.covers ∙ sym b.candidate.covers
+    ∙ length-path rate invert t q others) in
     let words : backwards r bits ≡ backwards q others = same_words (backwards r bits) (backwards q others)
-    (length-append (reverse bits) (register_bits r) ∙ omega (arith, length-append (reverse others) (register_bits q), length-reverse {A = ℕ} bits, length-reverse {A = ℕ} others, long)) first second in
+    (length-append (reverse bits) (register_bits r) ∙ omega (
+      arith,
+      length-append (reverse others) (register_bits q),
+      length-reverse {A = ℕ} bits,
+      length-reverse {A = ℕ} others,
+      long,
+    )) first second in
     let n = length (reverse bits) in
     let prefixes : reverse bits ≡ reverse others
-    = sym (take_at (reverse bits) (register_bits r) n refl) ∙ ap (λ v. take n v) words ∙ take_at (reverse others) (register_bits q) n (length-reverse others ∙ sym long ∙ sym (length-reverse bits)) in
+    =
+    sym (take_at (reverse bits) (register_bits r) n refl) ∙ ap (λ v. take n v) words
+    ∙ take_at (reverse others) (register_bits q) n
+    (length-reverse others ∙ sym long ∙ sym (length-reverse bits)) in
     let backs : register_bits r ≡ register_bits q
-    = sym (drop_at (reverse bits) (register_bits r) n refl) ∙ ap (λ v. drop n v) words ∙ drop_at (reverse others) (register_bits q) n (length-reverse others ∙ sym long ∙ sym (length-reverse bits)) in
-    (same_register r q a.candidate.register b.candidate.register backs, sym (reverse-reverse bits) ∙ ap reverse prefixes ∙ reverse-reverse others)
+    =
+    sym (drop_at (reverse bits) (register_bits r) n refl) ∙ ap (λ v. drop n v) words
+    ∙ drop_at (reverse others) (register_bits q) n
+    (length-reverse others ∙ sym long ∙ sym (length-reverse bits)) in (
+      same_register r q a.candidate.register b.candidate.register backs,
+      sym (reverse-reverse bits)
+          ∙ ap reverse prefixes ∙ reverse-reverse others,
+    )

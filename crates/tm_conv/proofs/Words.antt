@@ -22,7 +22,8 @@ value_lt (x ∷ xs) each =
     let le : x * 2 ^ length xs ≤ 1 * 2 ^ length xs = mul-le-mul_right (2 ^ length xs) (omega arith) in
     omega (arith, h, le, pow-suc 2 (length xs))
 
-pub IsLexLe-from_value : (xs ys : List ℕ) → All (λ b. b < 2) xs → All (λ b. b < 2) ys → length xs ≡ length ys → value xs ≤ value ys → IsLexLe xs ys
+pub IsLexLe-from_value : (xs ys : List ℕ) → All (λ b. b < 2) xs → All (λ b. b < 2) ys → length xs ≡ length ys
+    → value xs ≤ value ys → IsLexLe xs ys
 unfolding value
 IsLexLe-from_value [] ys a b l le = tt
 IsLexLe-from_value (x ∷ xs) [] a b l le = absurd (let h : suc (length xs) ≡ 0 = l in omega arith)
@@ -33,7 +34,8 @@ IsLexLe-from_value (x ∷ xs) (y ∷ ys) a b l le =
     let small = value_lt ys (All-tail (λ b. b < 2) y ys b) in
     let ties : x ≡ y → IsLexLe xs ys = λ e.
     (let f : x * size ≡ y * 2 ^ length ys = ap (λ v. v * size) e ∙ ap (λ v. y * v) (sym same) in
-    IsLexLe-from_value xs ys (All-tail (λ b. b < 2) x xs a) (All-tail (λ b. b < 2) y ys b) long (omega (arith, le, f))) in
+    IsLexLe-from_value xs ys (All-tail (λ b. b < 2) x xs a) (All-tail (λ b. b < 2) y ys b) long
+    (omega (arith, le, f))) in
     elim (cases_order x y) [
       | inl e ↦ inr (e, ties e)
       | inr (inl h) ↦ inl h
@@ -52,4 +54,5 @@ pub All-reverse : (xs : List ℕ) → All (λ b. b < 2) xs → All (λ b. b < 2)
 All-reverse [] each = each
 All-reverse (x ∷ xs) each =
     All-same (λ b. b < 2) (reverse (x ∷ xs)) (reverse xs ++ x ∷ []) (reverse-append (x ∷ []) xs)
-    (All-push (λ b. b < 2) (reverse xs) x (All-reverse xs (All-tail (λ b. b < 2) x xs each)) (All-head (λ b. b < 2) x xs each))
+    (All-push (λ b. b < 2) (reverse xs) x (All-reverse xs (All-tail (λ b. b < 2) x xs each))
+    (All-head (λ b. b < 2) x xs each))

@@ -9,10 +9,13 @@ use Rattle.tm_driver.specs.declared.ending.Ending.{Ending}
 use Rattle.tm_driver.proofs.TwoSinks.{alone, first-alone}
 
 -- a command that reads, from what its driver answers
-pub answered : (octets : List ℕ) (ending : Ending) (meaning : Meaning) (limit within : ℕ) (source : SourceCall) (out notes : SinkCall)
-    → within ≡ limit → Gave source.before.given source.now.given source.before.left source.now.left octets → length octets ≤ within + 1
+pub answered : (octets : List ℕ) (ending : Ending) (meaning : Meaning) (limit within : ℕ) (source : SourceCall)
+    (out notes : SinkCall)
+    → within ≡ limit → Gave source.before.given source.now.given source.before.left source.now.left octets
+    → length octets ≤ within + 1
     → Ends ending meaning limit octets (taken_by out.before.taken out.now.taken notes.before.taken notes.now.taken)
-    → SourceWent ending source → SinksWent (is_sink_fault ending) out notes → AnsweredWith octets true ending meaning limit source out notes
+    → SourceWent ending source → SinksWent (is_sink_fault ending) out notes
+    → AnsweredWith octets true ending meaning limit source out notes
 answered octets ending meaning limit within source out notes is gave at_most ends course sinks = record {
   gave = gave;
   at_most = subst (λ (n : ℕ). length octets ≤ n + 1) is at_most;
@@ -22,18 +25,24 @@ answered octets ending meaning limit within source out notes is gave at_most end
 }
 
 -- one that has no notes
-pub answered-alone : (octets : List ℕ) (ending : Ending) (meaning : Meaning) (limit within : ℕ) (source : SourceCall) (out : SinkCall)
-    → within ≡ limit → Gave source.before.given source.now.given source.before.left source.now.left octets → length octets ≤ within + 1
-    → ((noted : Option (List ℕ)) → Ends ending meaning limit octets (taken_by out.before.taken out.now.taken noted noted))
-    → SourceWent ending source → SinkWent (is_sink_fault ending) out → AnsweredAlone true ending meaning limit source out
+pub answered-alone : (octets : List ℕ) (ending : Ending) (meaning : Meaning) (limit within : ℕ) (source : SourceCall)
+    (out : SinkCall)
+    → within ≡ limit → Gave source.before.given source.now.given source.before.left source.now.left octets
+    → length octets ≤ within + 1
+    → ((noted : Option (List ℕ)) → Ends ending meaning limit octets
+    (taken_by out.before.taken out.now.taken noted noted))
+    → SourceWent ending source → SinkWent (is_sink_fault ending) out
+    → AnsweredAlone true ending meaning limit source out
 answered-alone octets ending meaning limit within source out is gave at_most ends course sink = (
   octets,
-  λ notes. answered octets ending meaning limit within source out (unused notes) is gave at_most (ends notes.taken) course
+  λ notes. answered octets ending meaning limit within source out (unused notes) is gave at_most
+      (ends notes.taken) course
       (alone (is_sink_fault ending) out notes ⊥ sink),
 )
 
 -- beside any notes
-pub answered-beside : (reads : Bool) (ending : Ending) (meaning : Meaning) (limit : ℕ) (source : SourceCall) (out : SinkCall)
+pub answered-beside : (reads : Bool) (ending : Ending) (meaning : Meaning) (limit : ℕ) (source : SourceCall)
+    (out : SinkCall)
     (notes : SinkState) (notes_last : Type 0) → AnsweredAlone reads ending meaning limit source out
     → Answered reads ending meaning limit source out (record { before = notes; now = notes; is_last = notes_last })
 answered-beside reads ending meaning limit source out notes notes_last by_itself =
@@ -44,6 +53,8 @@ answered-beside reads ending meaning limit source out notes notes_last by_itself
         at_most = was.at_most;
         ends = was.ends;
         course = was.course;
-        sinks = alone (is_sink_fault ending) out notes notes_last (first-alone (is_sink_fault ending) out notes was.sinks);
+        sinks =
+            alone (is_sink_fault ending) out notes notes_last
+            (first-alone (is_sink_fault ending) out notes was.sinks);
       },
     )

@@ -31,19 +31,24 @@ StopShows meaning octets taken stop.BadWindow =
     meaning.stops_at_bad × WroteOutput meaning octets taken × meaning.is_bad octets
     × (meaning.is_bad (but_last_turn octets) → ⊥)
 
--- From what octets within the limit show that were fed, with which it stopped, whose end was reported, or at whose end a sink failed.
-module _ {F : Type 0} (fed : F → F → List ℕ → Type 0) (stopped : F → F → List ℕ → Stop → Type 0) (finished : F → F → Outcome → Type 0)
+-- From what octets within the limit show that were fed, with which it stopped, whose end was
+-- reported, or at whose end a sink failed.
+module _ {F : Type 0} (fed : F → F → List ℕ → Type 0) (stopped : F → F → List ℕ → Stop → Type 0)
+    (finished : F → F → Outcome → Type 0)
     (failed : F → F → Type 0) (before now : F) (meaning : Meaning) (limit : ℕ) (taken : Taken)
     (early : (o : List ℕ) → length o ≤ limit → fed before now o → WroteEarly meaning o taken)
     (cut : (o : List ℕ) (stop : Stop) → length o ≤ limit → stopped before now o stop → StopShows meaning o taken stop)
-    (whole : (middle : F) (o : List ℕ) (outcome : Outcome) → length o ≤ limit → fed before middle o → finished middle now outcome
+    (whole : (middle : F) (o : List ℕ) (outcome : Outcome) → length o ≤ limit → fed before middle o
+    → finished middle now outcome
     → Shows meaning o taken outcome)
-    (broken : (middle : F) (o : List ℕ) → length o ≤ limit → fed before middle o → failed middle now → WroteInOrder meaning o taken) where
+    (broken : (middle : F) (o : List ℕ) → length o ≤ limit → fed before middle o → failed middle now
+    → WroteInOrder meaning o taken) where
   up-to : (octets : List ℕ) → length (take limit octets) ≤ limit
   up-to octets = omega (arith, length-take limit octets)
 
   ended-by : (ended unended : Type 0) (ending : Ending) (octets : List ℕ)
-      → DrivenTo fed stopped finished failed limit before now ended unended ending octets → Ends ending meaning limit octets taken
+      → DrivenTo fed stopped finished failed limit before now ended unended ending octets
+      → Ends ending meaning limit octets taken
   ended-by ended unended Done octets d =
       let w = whole d.middle octets outcome.Done d.within d.were_fed d.at_end in (w.0, d.within, w.1.0, w.1.1)
   ended-by ended unended Bad octets d =
@@ -59,16 +64,20 @@ module _ {F : Type 0} (fed : F → F → List ℕ → Type 0) (stopped : F → F
   ended-by ended unended PastLimit octets d = (early (take limit octets) (up-to octets) d.0, d.1)
 
   pub ends-driven : (told : ℕ) → told ≡ limit → (ended unended : Type 0) (ending : Ending) (octets : List ℕ)
-      → DrivenTo fed stopped finished failed told before now ended unended ending octets → Ends ending meaning limit octets taken
+      → DrivenTo fed stopped finished failed told before now ended unended ending octets
+      → Ends ending meaning limit octets taken
   ends-driven told is ended unended ending octets d = ended-by ended unended ending octets
       (subst (λ (n : ℕ). DrivenTo fed stopped finished failed n before now ended unended ending octets) is d)
 
 -- the same of a command whose input is whole and not bad whatever it is, and which stops at a fault of a sink alone
-module _ {F : Type 0} (fed fails : F → F → List ℕ → Type 0) (ends failed : F → F → Type 0) (before now : F) (meaning : Meaning) (limit : ℕ) (taken : Taken)
+module _ {F : Type 0} (fed fails : F → F → List ℕ → Type 0) (ends failed : F → F → Type 0) (before now : F)
+    (meaning : Meaning) (limit : ℕ) (taken : Taken)
     (early : (o : List ℕ) → length o ≤ limit → fed before now o → WroteEarly meaning o taken)
     (cut : (o : List ℕ) → length o ≤ limit → fails before now o → WroteInOrder meaning o taken)
-    (whole : (middle : F) (o : List ℕ) → length o ≤ limit → fed before middle o → ends middle now → Shows meaning o taken outcome.Done)
-    (broken : (middle : F) (o : List ℕ) → length o ≤ limit → fed before middle o → failed middle now → WroteInOrder meaning o taken) where
+    (whole : (middle : F) (o : List ℕ) → length o ≤ limit → fed before middle o → ends middle now
+    → Shows meaning o taken outcome.Done)
+    (broken : (middle : F) (o : List ℕ) → length o ≤ limit → fed before middle o → failed middle now
+    → WroteInOrder meaning o taken) where
   abbrev Stopped : F → F → List ℕ → Stop → Type 0
   Stopped a b o why = (why ≡ stop.SinkFault) × fails a b o
 
@@ -79,12 +88,15 @@ module _ {F : Type 0} (fed fails : F → F → List ℕ → Type 0) (ends failed
   stop-shows o stop.SinkFault within p = cut o within p.1
   stop-shows o stop.BadWindow within p = let no = p.0 in cc no
 
-  end-shows : (middle : F) (o : List ℕ) (by : Outcome) → length o ≤ limit → fed before middle o → Finished middle now by → Shows meaning o taken by
+  end-shows : (middle : F) (o : List ℕ) (by : Outcome) → length o ≤ limit → fed before middle o
+      → Finished middle now by → Shows meaning o taken by
   end-shows middle o outcome.Done within were_fed p = whole middle o within were_fed p.1
   end-shows middle o outcome.Bad within were_fed p = let no = p.0 in cc no
   end-shows middle o outcome.LeftOver within were_fed p = let no = p.0 in cc no
 
   pub done-driven : (told : ℕ) → told ≡ limit → (ended unended : Type 0) (ending : Ending) (octets : List ℕ)
-      → DrivenTo fed Stopped Finished failed told before now ended unended ending octets → Ends ending meaning limit octets taken
+      → DrivenTo fed Stopped Finished failed told before now ended unended ending octets
+      → Ends ending meaning limit octets taken
   done-driven told is ended unended ending octets d =
-      ends-driven fed Stopped Finished failed before now meaning limit taken early stop-shows end-shows broken told is ended unended ending octets d
+      ends-driven fed Stopped Finished failed before now meaning limit taken early stop-shows end-shows broken told is
+      ended unended ending octets d

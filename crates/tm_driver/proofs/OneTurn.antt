@@ -7,25 +7,31 @@ use Rattle.std.proofs.lemmas.List.{take_all, length-take-le, take-append-le}
 use Rattle.tm_base.proofs.Known.{append_known-more, prepend_known-more}
 use Rattle.tm_base.specs.Written.{Gave}
 
-pub gave-more : (a b c l m n : Option (List ℕ)) (xs ys : List ℕ) → Gave a b l m xs → c ≡ append_known b ys → m ≡ prepend_known ys n → Gave a c l n (xs ++ ys)
+pub gave-more : (a b c l m n : Option (List ℕ)) (xs ys : List ℕ) → Gave a b l m xs → c ≡ append_known b ys
+    → m ≡ prepend_known ys n → Gave a c l n (xs ++ ys)
 gave-more a b c l m n xs ys was given consumed = record {
   given = given ∙ ap (λ k. append_known k ys) was.given ∙ append_known-more a xs ys;
   consumed = was.consumed ∙ ap (prepend_known xs) consumed ∙ prepend_known-more n xs ys;
 }
 
 -- the octets that are kept of a turn are those up to the limit
-pub kept-is : (limit kept : ℕ) (xs ys : List ℕ) → length xs ≤ limit → ((kept ≡ length ys) × (length xs + length ys ≤ limit)) ⊎ (length xs + kept ≡ limit) → take limit (xs ++ ys) ≡ xs ++ take kept ys
+pub kept-is : (limit kept : ℕ) (xs ys : List ℕ) → length xs ≤ limit
+    → ((kept ≡ length ys) × (length xs + length ys ≤ limit)) ⊎ (length xs + kept ≡ limit)
+    → take limit (xs ++ ys) ≡ xs ++ take kept ys
 kept-is limit kept xs ys le cases =
     let whole : length xs + (limit - length xs) ≡ limit = omega arith in
     ap (λ n. take n (xs ++ ys)) (sym whole) ∙ take-append-add xs ys (limit - length xs) ∙ ap (λ l. xs ++ l) (same cases)
   where
-    same : ((kept ≡ length ys) × (length xs + length ys ≤ limit)) ⊎ (length xs + kept ≡ limit) → take (limit - length xs) ys ≡ take kept ys
+    same : ((kept ≡ length ys) × (length xs + length ys ≤ limit)) ⊎ (length xs + kept ≡ limit)
+        → take (limit - length xs) ys ≡ take kept ys
     same (inl c) = take_all (limit - length xs) ys (omega arith) ∙ sym (take_all kept ys (omega arith))
     same (inr e) = ap (λ n. take n ys) (omega arith)
 
 -- the octets up to the limit go on by those that are kept of a turn
-pub turn-is : (limit room count kept : ℕ) (octets buf rest : List ℕ) → length octets + room ≡ limit + 1 → 0 < count → count ≤ room → count ≤ length buf →
-    ((kept ≡ count) × (0 < room - count)) ⊎ ((kept ≡ count - 1) × (room - count ≡ 0)) → take limit (octets ++ take count buf) ≡ take limit octets ++ take kept (buf ++ rest)
+pub turn-is : (limit room count kept : ℕ) (octets buf rest : List ℕ) → length octets + room ≡ limit + 1 → 0 < count
+    → count ≤ room → count ≤ length buf →
+    ((kept ≡ count) × (0 < room - count)) ⊎ ((kept ≡ count - 1) × (room - count ≡ 0))
+    → take limit (octets ++ take count buf) ≡ take limit octets ++ take kept (buf ++ rest)
 turn-is limit room count kept octets buf rest total some within prefix cases =
     kept-is limit kept octets (take count buf) (omega arith) (which cases)
     ∙ ap (λ l. octets ++ l) same ∙ ap (λ l. l ++ take kept (buf ++ rest)) (sym (take_all limit octets (omega arith)))
@@ -36,16 +42,23 @@ turn-is limit room count kept octets buf rest total some within prefix cases =
     below : kept ≤ count
     below = elim cases [ inl c ↦ omega arith | inr c ↦ omega arith ]
 
-    which : ((kept ≡ count) × (0 < room - count)) ⊎ ((kept ≡ count - 1) × (room - count ≡ 0)) → ((kept ≡ length (take count buf)) × (length octets + length (take count buf) ≤ limit)) ⊎ (length octets + kept ≡ limit)
+    which : ((kept ≡ count) × (0 < room - count)) ⊎ ((kept ≡ count - 1) × (room - count ≡ 0))
+        → ((kept ≡ length (take count buf)) × (length octets + length (take count buf) ≤ limit))
+        ⊎ (length octets + kept ≡ limit)
     which (inl c) = inl (omega (arith, long), omega (arith, long))
     which (inr c) = inr (omega (arith, long))
 
     same : take kept (take count buf) ≡ take kept (buf ++ rest)
-    same = sym (take-append-le kept (take count buf) (drop count buf ++ rest) (omega (arith, long, below))) ∙ ap (take kept) (sym (append_assoc (take count buf) (drop count buf) rest) ∙ ap (λ l. l ++ rest) (take-append-drop count buf))
+    same =
+        sym (take-append-le kept (take count buf) (drop count buf ++ rest) (omega (arith, long, below)))
+        ∙ ap (take kept) (sym (append_assoc (take count buf) (drop count buf) rest)
+        ∙ ap (λ l. l ++ rest) (take-append-drop count buf))
 
 -- a read that gives octets does not report the end
-pub going-on : (old new : Bool) (count room : ℕ) → 0 < count → new ≡ (old || ((count == 0) && nat_lt 0 room)) → new ≡ old
-going-on old new count room some is = is ∙ ap (λ (b : Bool). old || (b && nat_lt 0 room)) (not-zero count some) ∙ or-false old
+pub going-on : (old new : Bool) (count room : ℕ) → 0 < count → new ≡ (old || ((count == 0) && nat_lt 0 room))
+    → new ≡ old
+going-on old new count room some is =
+    is ∙ ap (λ (b : Bool). old || (b && nat_lt 0 room)) (not-zero count some) ∙ or-false old
   where
     not-zero : (n : ℕ) → 0 < n → (n == 0) ≡ false
     not-zero n lt = grind (arith, nat_tests)

@@ -2,7 +2,8 @@
 use Rattle.std.proofs.Common.{Result, Ok, Err, IfOk, OnErr}
 
 -- by two facts of what it is
-pub IfOk-both : {T E : Type 0} (result : Result T E) (P Q R : T → Type 0) → ((t : T) → P t → Q t → R t) → IfOk result P → IfOk result Q → IfOk result R
+pub IfOk-both : {T E : Type 0} (result : Result T E) (P Q R : T → Type 0) → ((t : T) → P t → Q t → R t)
+    → IfOk result P → IfOk result Q → IfOk result R
 IfOk-both (Ok t) P Q R each p q = each t p q
 IfOk-both (Err e) P Q R each p q = tt
 

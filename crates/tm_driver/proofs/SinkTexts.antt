@@ -12,7 +12,8 @@ use Rattle.tm_driver.specs.Texts.{TookText, BrokeText}
 -- ---- what was written
 
 -- in other words
-pub wrote-as : (taken taken_now : Option (List ℕ)) (octets other : List ℕ) → octets ≡ other → Wrote taken taken_now octets → Wrote taken taken_now other
+pub wrote-as : (taken taken_now : Option (List ℕ)) (octets other : List ℕ) → octets ≡ other
+    → Wrote taken taken_now octets → Wrote taken taken_now other
 wrote-as taken taken_now octets other is wrote = subst (Wrote taken taken_now) is wrote
 
 -- nothing
@@ -27,13 +28,16 @@ pub wrote-no_prefix : (known : Option (List ℕ)) (text : List ℕ) → WrotePre
 wrote-no_prefix known text = (0, wrote-nothing known)
 
 -- one text, and then another or a prefix of it
-pub wrote-then : (start now after : Option (List ℕ)) (a b : List ℕ) → Wrote start now a → Wrote now after b → Wrote start after (a ++ b)
+pub wrote-then : (start now after : Option (List ℕ)) (a b : List ℕ) → Wrote start now a → Wrote now after b
+    → Wrote start after (a ++ b)
 wrote-then start now after a b one two = two ∙ ap (λ k. append_known k b) one ∙ append_known-more start a b
 
-pub wrote-then_prefix : (start now after : Option (List ℕ)) (a b : List ℕ) → Wrote start now a → WrotePrefix now after b → WrotePrefix start after (a ++ b)
+pub wrote-then_prefix : (start now after : Option (List ℕ)) (a b : List ℕ) → Wrote start now a
+    → WrotePrefix now after b → WrotePrefix start after (a ++ b)
 wrote-then_prefix start now after a b one two = (
   length a + two.0,
-  two.1 ∙ ap (λ k. append_known k (take two.0 b)) one ∙ append_known-more start a (take two.0 b) ∙ ap (append_known start) (sym (take-append-add a b two.0)),
+  two.1 ∙ ap (λ k. append_known k (take two.0 b)) one ∙ append_known-more start a (take two.0 b)
+      ∙ ap (append_known start) (sym (take-append-add a b two.0)),
 )
 
 -- a prefix of a text is a prefix of the text and more
@@ -42,11 +46,14 @@ part-of zero text more = (0, refl)
 part-of (suc n) [] more = (0, refl)
 part-of (suc n) (t ∷ ts) more = let r = part-of n ts more in (suc r.0, ap (λ l. t ∷ l) r.1)
 
-pub prefix-of : (before now : Option (List ℕ)) (text more : List ℕ) → WrotePrefix before now text → WrotePrefix before now (text ++ more)
-prefix-of before now text more wrote = let r = part-of wrote.0 text more in (r.0, wrote.1 ∙ ap (append_known before) r.1)
+pub prefix-of : (before now : Option (List ℕ)) (text more : List ℕ) → WrotePrefix before now text
+    → WrotePrefix before now (text ++ more)
+prefix-of before now text more wrote =
+    let r = part-of wrote.0 text more in (r.0, wrote.1 ∙ ap (append_known before) r.1)
 
 -- a text and a part of the next are a prefix of both and more
-pub part-prefix : (before now : Option (List ℕ)) (first text more : List ℕ) → (count : ℕ) × Wrote before now (first ++ take count text)
+pub part-prefix : (before now : Option (List ℕ)) (first text more : List ℕ) → (count : ℕ)
+    × Wrote before now (first ++ take count text)
     → WrotePrefix before now (first ++ (text ++ more))
 part-prefix before now first text more w =
     let r = part-of w.0 text more in (
@@ -60,24 +67,29 @@ pub took-none : (a : SinkState) → TookText a a []
 took-none a = record { written = wrote-nothing a.taken; same = refl }
 
 pub took-more : (a b c : SinkState) (x y : List ℕ) → TookText a b x → TookText b c y → TookText a c (x ++ y)
-took-more a b c x y p q = record { written = wrote-then a.taken b.taken c.taken x y p.written q.written; same = q.same ∙ p.same }
+took-more a b c x y p q =
+    record { written = wrote-then a.taken b.taken c.taken x y p.written q.written; same = q.same ∙ p.same }
 
-pub broke-later : (a b c : SinkState) (last : Type 0) (x first text : List ℕ) → TookText a b x → BrokeText b c last first text
+pub broke-later : (a b c : SinkState) (last : Type 0) (x first text : List ℕ) → TookText a b x
+    → BrokeText b c last first text
     → BrokeText a c last (x ++ first) text
 broke-later a b c last x first text p q =
     let w = q.written in
     let part = take w.0 text in record {
       written = (
         w.0,
-        wrote-then a.taken b.taken c.taken x (first ++ part) p.written w.1 ∙ ap (append_known a.taken) (sym (append_assoc x first part)),
+        wrote-then a.taken b.taken c.taken x (first ++ part) p.written w.1
+            ∙ ap (append_known a.taken) (sym (append_assoc x first part)),
       );
       later = subst (λ (n : ℕ). n ≤ c.faults) p.same q.later;
       rose = subst (λ (n : ℕ). Rose n c.faults last) p.same q.rose;
     }
 
 -- a sink took a text, and failed in the next
-pub broke-after : (a b c : SinkState) (last : Type 0) (x text : List ℕ) → TookText a b x → BrokeText b c last [] text → BrokeText a c last x text
-broke-after a b c last x text p q = subst (λ l. BrokeText a c last l text) (append-nil x) (broke-later a b c last x [] text p q)
+pub broke-after : (a b c : SinkState) (last : Type 0) (x text : List ℕ) → TookText a b x → BrokeText b c last [] text
+    → BrokeText a c last x text
+broke-after a b c last x text p q =
+    subst (λ l. BrokeText a c last l text) (append-nil x) (broke-later a b c last x [] text p q)
 
 -- where a sink failed, it has taken a prefix
 pub broke-prefix : (a c : SinkState) (last : Type 0) (first text more : List ℕ) → BrokeText a c last first text
@@ -85,5 +97,6 @@ pub broke-prefix : (a c : SinkState) (last : Type 0) (first text more : List ℕ
 broke-prefix a c last first text more p = part-prefix a.taken c.taken first text more p.written
 
 -- where a sink took a text, it has taken a prefix of the text and more
-pub took-prefix : (a c : SinkState) (text more : List ℕ) → TookText a c text → WrotePrefix a.taken c.taken (text ++ more)
+pub took-prefix : (a c : SinkState) (text more : List ℕ) → TookText a c text
+    → WrotePrefix a.taken c.taken (text ++ more)
 took-prefix a c text more p = prefix-of a.taken c.taken text more (wrote-prefix a.taken c.taken text p.written)

@@ -15,10 +15,12 @@ octet_at u h = same_below 256 (λ u. get_or OCTETS u 0) (bits_by_squares 8) octe
 
 pub dual_octet-lt : (u : ℕ) → u < 256 → dual_octet u < 256
 dual_octet-lt u h =
-    rw (← octet_at u h) (ltb-true (get_or OCTETS u 0) 256 (at_below 256 (λ u. ltb (get_or OCTETS u 0) 256) octets_small u h))
+    rw (← octet_at u h) (ltb-true (get_or OCTETS u 0) 256 (at_below 256
+    (λ u. ltb (get_or OCTETS u 0) 256) octets_small u h))
 
 element-lt : (z : ℕ) → z < 256 → get_or ELEMENTS z 0 < 256
-element-lt z h = ltb-true (get_or ELEMENTS z 0) 256 (at_below 256 (λ z. ltb (get_or ELEMENTS z 0) 256) elements_small z h)
+element-lt z h =
+    ltb-true (get_or ELEMENTS z 0) 256 (at_below 256 (λ z. ltb (get_or ELEMENTS z 0) 256) elements_small z h)
 
 -- the element of the octet of u is u
 element_of_octet : (u : ℕ) → u < 256 → get_or ELEMENTS (dual_octet u) 0 ≡ u

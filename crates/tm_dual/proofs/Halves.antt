@@ -15,19 +15,23 @@ use Rattle.tm_dual.proofs.Entries.{octet_at, element_at}
 
 -- ---- the tables
 
-octets_pass : all_below 256 (λ v. eqb (bit_xor (get_or LOW_OCTETS (v % 16) 0) (get_or HIGH_OCTETS (v / 16) 0)) (get_or OCTETS v 0)) ≡ true
+octets_pass : all_below 256 (λ v. eqb (bit_xor (get_or LOW_OCTETS (v % 16) 0) (get_or HIGH_OCTETS (v / 16) 0))
+    (get_or OCTETS v 0)) ≡ true
 octets_pass = refl
 
-elements_pass : all_below 256 (λ v. eqb (bit_xor (get_or LOW_ELEMENTS (v % 16) 0) (get_or HIGH_ELEMENTS (v / 16) 0)) (get_or ELEMENTS v 0)) ≡ true
+elements_pass : all_below 256 (λ v. eqb (bit_xor (get_or LOW_ELEMENTS (v % 16) 0) (get_or HIGH_ELEMENTS (v / 16) 0))
+    (get_or ELEMENTS v 0)) ≡ true
 elements_pass = refl
 
 pub octet_halves : AreHalves dual_octet LOW_OCTETS HIGH_OCTETS
 octet_halves v lt =
-    same_below 256 (λ v. bit_xor (get_or LOW_OCTETS (v % 16) 0) (get_or HIGH_OCTETS (v / 16) 0)) (λ v. get_or OCTETS v 0) octets_pass v lt ∙ octet_at v lt
+    same_below 256 (λ v. bit_xor (get_or LOW_OCTETS (v % 16) 0) (get_or HIGH_OCTETS (v / 16) 0))
+    (λ v. get_or OCTETS v 0) octets_pass v lt ∙ octet_at v lt
 
 pub element_halves : AreHalves dual_element LOW_ELEMENTS HIGH_ELEMENTS
 element_halves v lt =
-    same_below 256 (λ v. bit_xor (get_or LOW_ELEMENTS (v % 16) 0) (get_or HIGH_ELEMENTS (v / 16) 0)) (λ v. get_or ELEMENTS v 0) elements_pass v lt ∙ element_at v lt
+    same_below 256 (λ v. bit_xor (get_or LOW_ELEMENTS (v % 16) 0) (get_or HIGH_ELEMENTS (v / 16) 0))
+    (λ v. get_or ELEMENTS v 0) elements_pass v lt ∙ element_at v lt
 
 -- ---- the lanes
 
@@ -58,20 +62,34 @@ record ArePlaces (row js : List ℕ) (part : ℕ → ℕ) : Type 0 where
 lows : (row : List ℕ) → length row ≡ 16 → ArePlaces row (low_places row) (λ v. v % 16)
 lows row long =
     let is : (i : ℕ) → i < 16 → get_or (zip2 (λ a b. bit_and a b) row fifteens) i 0 ≡ get_or row i 0 % 16 =
-    λ i lt. get_or-zip2 (λ a b. bit_and a b) row fifteens i 0 0 0 (omega arith) lt ∙ ap (bit_and (get_or row i 0)) (same_below 16 (λ i. get_or fifteens i 0) (λ i. 15) fifteen_each i lt) ∙ and_mask (get_or row i 0) 4 in
-    record { long = length-zip2 (λ a b. bit_and a b) row fifteens (omega arith) ∙ long; each = is; small = λ i lt. omega (arith, is i lt) }
+    λ i lt. get_or-zip2 (λ a b. bit_and a b) row fifteens i 0 0 0 (omega arith) lt
+    ∙ ap (bit_and (get_or row i 0)) (same_below 16 (λ i. get_or fifteens i 0) (λ i. 15) fifteen_each i lt)
+    ∙ and_mask (get_or row i 0) 4 in
+    record {
+      long = length-zip2 (λ a b. bit_and a b) row fifteens (omega arith) ∙ long;
+      each = is;
+      small = λ i lt. omega (arith, is i lt);
+    }
 
-highs : (row : List ℕ) → length row ≡ 16 → ((i : ℕ) → i < 16 → get_or row i 0 < 256) → ArePlaces row (high_places row) (λ v. v / 16)
+highs : (row : List ℕ) → length row ≡ 16 → ((i : ℕ) → i < 16 → get_or row i 0 < 256)
+    → ArePlaces row (high_places row) (λ v. v / 16)
 highs row long fits =
     let is : (i : ℕ) → i < 16 → get_or (zip2 (λ a b. a / 2 ^ b) row fours) i 0 ≡ get_or row i 0 / 16 =
-    λ i lt. get_or-zip2 (λ a b. a / 2 ^ b) row fours i 0 0 0 (omega arith) lt ∙ ap (λ (b : ℕ). get_or row i 0 / 2 ^ b) (same_below 16 (λ i. get_or fours i 0) (λ i. 4) four_each i lt) in
-    record { long = length-zip2 (λ a b. a / 2 ^ b) row fours (omega arith) ∙ long; each = is; small = λ i lt. omega (arith, is i lt, fits i lt) }
+    λ i lt. get_or-zip2 (λ a b. a / 2 ^ b) row fours i 0 0 0 (omega arith) lt
+    ∙ ap (λ (b : ℕ). get_or row i 0 / 2 ^ b) (same_below 16 (λ i. get_or fours i 0) (λ i. 4) four_each i lt) in
+    record {
+      long = length-zip2 (λ a b. a / 2 ^ b) row fours (omega arith) ∙ long;
+      each = is;
+      small = λ i lt. omega (arith, is i lt, fits i lt);
+    }
 
 places_fit : (row js : List ℕ) (part : ℕ → ℕ) → ArePlaces row js part → SwzOk w8 16 16 0 js
 places_fit row js part h =
-    SwzOk-from_below w8 16 1 16 0 js refl (omega (arith, h.long)) (Each1-from_get_or (λ j. j < 16) js 0 (λ i lt. h.small i (omega (arith, h.long))))
+    SwzOk-from_below w8 16 1 16 0 js refl (omega (arith, h.long))
+    (Each1-from_get_or (λ j. j < 16) js 0 (λ i lt. h.small i (omega (arith, h.long))))
 
-taken : (xs row js : List ℕ) (part : ℕ → ℕ) (i : ℕ) → ArePlaces row js part → i < 16 → get_or (swz_l w8 16 xs 0 js) i 0 ≡ get_or xs (part (get_or row i 0)) 0
+taken : (xs row js : List ℕ) (part : ℕ → ℕ) (i : ℕ) → ArePlaces row js part → i < 16
+    → get_or (swz_l w8 16 xs 0 js) i 0 ≡ get_or xs (part (get_or row i 0)) 0
 taken xs row js part i h lt =
     let at : 16 * ((0 + i) / 16) + get_or js i 0 ≡ get_or js i 0 = omega arith in
     get_or-swz_l_below w8 16 xs 0 js i (omega (arith, h.long)) (h.small i lt)
@@ -83,10 +101,12 @@ octets_small row long fits i lt = (Each1-get_or (Fits w8) row i 0 (omega arith) 
 pub low_fit : (row : List ℕ) → length row ≡ 16 → SwzOk w8 16 16 0 (low_places row)
 low_fit row long = places_fit row (low_places row) (λ v. v % 16) (lows row long)
 
-pub high_fit : (row : List ℕ) → length row ≡ 16 → ((i : ℕ) → i < 16 → get_or row i 0 < 256) → SwzOk w8 16 16 0 (high_places row)
+pub high_fit : (row : List ℕ) → length row ≡ 16 → ((i : ℕ) → i < 16 → get_or row i 0 < 256)
+    → SwzOk w8 16 16 0 (high_places row)
 high_fit row long fits = places_fit row (high_places row) (λ v. v / 16) (highs row long fits)
 
-pub mapped_by_halves : (f : ℕ → ℕ) (low high row : List ℕ) → AreHalves f low high → length row ≡ 16 → ((i : ℕ) → i < 16 → get_or row i 0 < 256)
+pub mapped_by_halves : (f : ℕ → ℕ) (low high row : List ℕ) → AreHalves f low high → length row ≡ 16
+    → ((i : ℕ) → i < 16 → get_or row i 0 < 256)
     → zip2 bit_xor (swz_l w8 16 low 0 (low_places row)) (swz_l w8 16 high 0 (high_places row)) ≡ map f row
 mapped_by_halves f low high row are long fits =
     let js = low_places row in
@@ -95,8 +115,10 @@ mapped_by_halves f low high row are long fits =
     let hk = highs row long fits in
     let lj : length (swz_l w8 16 low 0 js) ≡ 16 = length-swz_l w8 16 low 0 js ∙ hj.long in
     let lk : length (swz_l w8 16 high 0 ks) ≡ 16 = length-swz_l w8 16 high 0 ks ∙ hk.long in
-    let all : length (zip2 bit_xor (swz_l w8 16 low 0 js) (swz_l w8 16 high 0 ks)) ≡ 16 = length-zip2 bit_xor (swz_l w8 16 low 0 js) (swz_l w8 16 high 0 ks) (omega arith) ∙ lj in
-    ext_get_or 0 (zip2 bit_xor (swz_l w8 16 low 0 js) (swz_l w8 16 high 0 ks)) (map f row) (omega (arith, length-map row f))
+    let all : length (zip2 bit_xor (swz_l w8 16 low 0 js) (swz_l w8 16 high 0 ks)) ≡ 16 =
+    length-zip2 bit_xor (swz_l w8 16 low 0 js) (swz_l w8 16 high 0 ks) (omega arith) ∙ lj in
+    ext_get_or 0 (zip2 bit_xor (swz_l w8 16 low 0 js) (swz_l w8 16 high 0 ks)) (map f row)
+    (omega (arith, length-map row f))
     (λ i lt0.
     let lt : i < 16 = omega arith in
     get_or-zip2 bit_xor (swz_l w8 16 low 0 js) (swz_l w8 16 high 0 ks) i 0 0 0 (omega arith) (omega arith)

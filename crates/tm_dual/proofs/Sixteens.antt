@@ -16,15 +16,18 @@ numbers-drop (suc n) [] = refl
 numbers-drop (suc n) (x ∷ xs) = numbers-drop n xs
 
 -- the symbols before a place, and n from it on
-pub mapped_more : (f : ℕ → ℕ) (xs prefix ys : List ℕ) (at n : ℕ) → prefix ≡ map f (take at xs) → ys ≡ map f (take n (drop at xs)) → prefix ++ ys ≡ map f (take (at + n) xs)
+pub mapped_more : (f : ℕ → ℕ) (xs prefix ys : List ℕ) (at n : ℕ) → prefix ≡ map f (take at xs)
+    → ys ≡ map f (take n (drop at xs)) → prefix ++ ys ≡ map f (take (at + n) xs)
 mapped_more f xs prefix ys at n a b =
     (λ t. a t ++ b t) ∙ sym (map-append f (take at xs) (take n (drop at xs))) ∙ ap (map f) (sym (take-add at n xs))
 
 -- fewer of them
-pub mapped_fewer : (f : ℕ → ℕ) (xs ys : List ℕ) (k n : ℕ) → k ≤ n → take n ys ≡ map f (take n xs) → take k ys ≡ map f (take k xs)
+pub mapped_fewer : (f : ℕ → ℕ) (xs ys : List ℕ) (k n : ℕ) → k ≤ n → take n ys ≡ map f (take n xs)
+    → take k ys ≡ map f (take k xs)
 mapped_fewer f xs ys k n le h =
     sym (take-take k n ys le) ∙ ap (take k) h ∙ take-map f k (take n xs) ∙ ap (map f) (take-take k n xs le)
 
 -- all of them
-pub mapped_all : (f : ℕ → ℕ) (xs ys : List ℕ) (n : ℕ) → length xs ≤ n → length ys ≤ n → take n ys ≡ map f (take n xs) → ys ≡ map f xs
+pub mapped_all : (f : ℕ → ℕ) (xs ys : List ℕ) (n : ℕ) → length xs ≤ n → length ys ≤ n → take n ys ≡ map f (take n xs)
+    → ys ≡ map f xs
 mapped_all f xs ys n lx ly h = sym (take_all n ys ly) ∙ h ∙ ap (map f) (take_all n xs lx)

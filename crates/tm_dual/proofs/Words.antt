@@ -6,7 +6,8 @@ use Rattle.tm_gf256.specs.declared.element.Gf.{Gf}
 use Rattle.tm_gf256.proofs.PolyLemmas.{numbers-take_more, numbers-take_more_set}
 
 -- one octet more of a word of elements
-pub octets_more : (f : ℕ → ℕ) (xs : List Gf) (ys : List ℕ) (i y : ℕ) → i < length xs → i < length ys → y ≡ f (entry xs i)
+pub octets_more : (f : ℕ → ℕ) (xs : List Gf) (ys : List ℕ) (i y : ℕ) → i < length xs → i < length ys
+    → y ≡ f (entry xs i)
     → take i ys ≡ map f (numbers (take i xs)) → take (i + 1) (set ys i y) ≡ map f (numbers (take (i + 1) xs))
 octets_more f xs ys i y lx ly is done =
     take_more_set ys i y ly ∙ ap (λ (l : List ℕ). l ++ y ∷ []) done
@@ -14,7 +15,8 @@ octets_more f xs ys i y lx ly is done =
     ∙ sym (ap (map f) (numbers-take_more xs i lx) ∙ map-append f (numbers (take i xs)) (entry xs i ∷ []))
 
 -- one element more of a word of octets
-pub elements_more : (f : ℕ → ℕ) (xs : List ℕ) (ys : List Gf) (i : ℕ) (y : Gf) → i < length xs → i < length ys → y.0 ≡ f (get_or xs i 0)
+pub elements_more : (f : ℕ → ℕ) (xs : List ℕ) (ys : List Gf) (i : ℕ) (y : Gf) → i < length xs → i < length ys
+    → y.0 ≡ f (get_or xs i 0)
     → numbers (take i ys) ≡ map f (take i xs) → numbers (take (i + 1) (set ys i y)) ≡ map f (take (i + 1) xs)
 elements_more f xs ys i y lx ly is done =
     numbers-take_more_set ys i y ly ∙ ap (λ (l : List ℕ). l ++ y.0 ∷ []) done

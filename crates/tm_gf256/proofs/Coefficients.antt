@@ -15,7 +15,8 @@ unfolding convolution
 convolution-past a b m zero = let e : length a + 0 ≡ length a = omega arith in ap (convolution a b m) e
 convolution-past a b m (suc n) =
     ap (convolution a b m) (add-suc (length a) n)
-    ∙ ap (λ (y : ℕ). bit_xor (convolution a b m (length a + n)) (times y (get_or b (m - (length a + n)) 0))) (get_or_past a (length a + n) 0 (omega arith))
+    ∙ ap (λ (y : ℕ). bit_xor (convolution a b m (length a + n)) (times y (get_or b (m - (length a + n)) 0)))
+    (get_or_past a (length a + n) 0 (omega arith))
     ∙ ap (bit_xor (convolution a b m (length a + n))) (zero-times (get_or b (m - (length a + n)) 0))
     ∙ xor_zero_r (convolution a b m (length a + n)) ∙ convolution-past a b m n
 
@@ -57,13 +58,17 @@ pub length-derivative : (cs : List ℕ) → length (derivative cs) ≡ length cs
 unfolding derivative
 length-derivative [] = refl
 length-derivative (c ∷ []) = refl
-length-derivative (c ∷ d ∷ ds) = ap suc (length-derivative (d ∷ ds)) ∙ (let e : suc (suc (length ds) - 1) ≡ suc (suc (length ds)) - 1 = omega arith in e)
+length-derivative (c ∷ d ∷ ds) =
+    ap suc (length-derivative (d ∷ ds))
+    ∙ (let e : suc (suc (length ds) - 1) ≡ suc (suc (length ds)) - 1 = omega arith in e)
 
-pub get_or-derivative : (cs : List ℕ) (i : ℕ) → i < length cs - 1 → get_or (derivative cs) i 0 ≡ copies (length cs - 1 - i) (get_or cs i 0)
+pub get_or-derivative : (cs : List ℕ) (i : ℕ) → i < length cs - 1
+    → get_or (derivative cs) i 0 ≡ copies (length cs - 1 - i) (get_or cs i 0)
 unfolding derivative
 get_or-derivative [] i h = absurd (omega arith)
 get_or-derivative (c ∷ []) i h = absurd (omega arith)
-get_or-derivative (c ∷ d ∷ ds) zero h = let e : suc (suc (length ds)) - 1 - 0 ≡ suc (length ds) = omega arith in sym (ap (λ (n : ℕ). copies n c) e)
+get_or-derivative (c ∷ d ∷ ds) zero h =
+    let e : suc (suc (length ds)) - 1 - 0 ≡ suc (length ds) = omega arith in sym (ap (λ (n : ℕ). copies n c) e)
 get_or-derivative (c ∷ d ∷ ds) (suc i) h =
     let e : suc (length ds) - 1 - i ≡ suc (suc (length ds)) - 1 - suc i = omega arith in
     get_or-derivative (d ∷ ds) i (omega arith) ∙ ap (λ (n : ℕ). copies n (get_or (d ∷ ds) i 0)) e

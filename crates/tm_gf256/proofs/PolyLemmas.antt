@@ -25,7 +25,8 @@ pub get_or-numbers_past : (xs : List Gf) (i : ℕ) → length xs ≤ i → get_o
 get_or-numbers_past xs i h = get_or_past (numbers xs) i 0 (rw (length-numbers xs) h)
 
 -- one element more, read or written at place i
-pub numbers-take_more : (xs : List Gf) (i : ℕ) → i < length xs → numbers (take (i + 1) xs) ≡ numbers (take i xs) ++ entry xs i ∷ []
+pub numbers-take_more : (xs : List Gf) (i : ℕ) → i < length xs
+    → numbers (take (i + 1) xs) ≡ numbers (take i xs) ++ entry xs i ∷ []
 numbers-take_more xs i h = ap numbers (take_more xs i (record { 0 = 0 }) h) ∙ numbers-append (take i xs) _
 
 pub numbers-take_more_set : (xs : List Gf) (i : ℕ) (y : Gf) → i < length xs

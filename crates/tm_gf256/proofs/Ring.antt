@@ -50,16 +50,19 @@ distrib_in : (a b c : ℕ) → a < 256 → b < 256 → c < 256 → times a (bit_
 distrib_in a b c h l m =
     let lt : bit_xor b c < 256 = xor_lt 8 b c l m in
     elim (cases_eq a 0) [
-      | inl e ↦ rw e (times-0 (bit_xor b c) lt ∙ sym (ap (λ (y : ℕ). bit_xor y (times 0 c)) (times-0 b l) ∙ times-0 c m))
+      | inl e ↦ rw e (times-0 (bit_xor b c) lt ∙ sym (ap (λ (y : ℕ). bit_xor y (times 0 c)) (times-0 b l)
+          ∙ times-0 c m))
       | inr na ↦
           times-log a (bit_xor b c) h lt na ∙ steps-xor (log_of a) b c l m
-          ∙ sym (ap (λ (y : ℕ). bit_xor y (times a c)) (times-log a b h l na) ∙ ap (bit_xor (steps (log_of a) b)) (times-log a c h m na))
+          ∙ sym (ap (λ (y : ℕ). bit_xor y (times a c)) (times-log a b h l na)
+          ∙ ap (bit_xor (steps (log_of a) b)) (times-log a c h m na))
     ]
 
 assoc_in : (a b c : ℕ) → a < 256 → b < 256 → c < 256 → times (times a b) c ≡ times a (times b c)
 assoc_in a b c h l m =
     elim (cases_eq a 0) [
-      | inl e ↦ rw e (ap (λ (y : ℕ). times y c) (times-0 b l) ∙ times-0 c m ∙ sym (times-0 (times b c) (times_in-lt b c l m)))
+      | inl e ↦ rw e (ap (λ (y : ℕ). times y c) (times-0 b l) ∙ times-0 c m
+          ∙ sym (times-0 (times b c) (times_in-lt b c l m)))
       | inr na ↦
           ap (λ (y : ℕ). times y c) (times-log a b h l na) ∙ times-steps (log_of a) b c l m
           ∙ sym (times-log a (times b c) h (times_in-lt b c l m) na)
@@ -89,7 +92,8 @@ pub times-plus : (a b c : ℕ) → times a (bit_xor b c) ≡ bit_xor (times a b)
 times-plus a b c =
     times-low a (bit_xor b c) ∙ ap (times (a % 256)) (xor_mod b c 8)
     ∙ distrib_in (a % 256) (b % 256) (c % 256) (low-lt a) (low-lt b) (low-lt c)
-    ∙ sym (ap (λ (y : ℕ). bit_xor y (times a c)) (times-low a b) ∙ ap (bit_xor (times (a % 256) (b % 256))) (times-low a c))
+    ∙ sym (ap (λ (y : ℕ). bit_xor y (times a c)) (times-low a b)
+    ∙ ap (bit_xor (times (a % 256) (b % 256))) (times-low a c))
 
 pub plus-times : (a b c : ℕ) → times (bit_xor a b) c ≡ bit_xor (times a c) (times b c)
 plus-times a b c =

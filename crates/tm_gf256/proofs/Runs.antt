@@ -9,7 +9,8 @@ pub product_passes : all_below 256 (λ a. all_below 256 (λ b. eqb (times a b) (
 unfolding times bit_product remainder horner times_x
 product_passes = refl
 
-pub linear_passes : all_below 256 (λ a. all_below 256 (λ b. eqb (times_x (bit_xor a b)) (bit_xor (times_x a) (times_x b)))) ≡ true
+pub linear_passes : all_below 256 (λ a. all_below 256 (λ b. eqb (times_x (bit_xor a b))
+    (bit_xor (times_x a) (times_x b)))) ≡ true
 unfolding times_x
 linear_passes = refl
 

@@ -15,7 +15,8 @@ pub times-horner : (a b : ℕ) → a < 256 → b < 256 → times a b ≡ horner 
 times-horner = same_pair_below 256 256 times (horner 8) product_passes
 
 pub times_x-xor : (a b : ℕ) → a < 256 → b < 256 → times_x (bit_xor a b) ≡ bit_xor (times_x a) (times_x b)
-times_x-xor = same_pair_below 256 256 (λ a b. times_x (bit_xor a b)) (λ a b. bit_xor (times_x a) (times_x b)) linear_passes
+times_x-xor =
+    same_pair_below 256 256 (λ a b. times_x (bit_xor a b)) (λ a b. bit_xor (times_x a) (times_x b)) linear_passes
 
 pub times_x-lt : (a : ℕ) → a < 256 → times_x a < 256
 times_x-lt a h = ltb-true (times_x a) 256 (at_below 256 (λ a. ltb (times_x a) 256) below_passes a h)

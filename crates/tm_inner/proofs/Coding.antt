@@ -13,29 +13,41 @@ use Rattle.tm_inner.proofs.Symbols.{further-is}
 pub record GoesOnBy (before now : Encoding) (low : ℕ) (piece symbols : List ℕ) : Type 0 where
   pub stands : (given : List Bool) → EncoderStandsFor before given → EncoderStandsFor now (given ++ bits_of piece)
   pub sent : (given : List Bool) → EncoderStandsFor before given
-      → levels low (sent_for before.rate before.invert (given ++ bits_of piece)) ≡ levels low (sent_for before.rate before.invert given) ++ symbols
+      → levels low (sent_for before.rate before.invert (given ++ bits_of piece))
+      ≡ levels low (sent_for before.rate before.invert given) ++ symbols
 
-symbols-due : (before now : Encoding) (low : ℕ) (piece symbols given : List ℕ) → GoesOnBy before now low piece symbols → EncodesFor before given
+symbols-due : (before now : Encoding) (low : ℕ) (piece symbols given : List ℕ) → GoesOnBy before now low piece symbols
+    → EncodesFor before given
     → further (encoded before.rate before.invert low) given piece ≡ symbols
 symbols-due before now low piece symbols given on stood =
     further-is (encoded before.rate before.invert low) given piece symbols
-    (ap (λ l. levels low (sent_for before.rate before.invert l)) (bits_of-append given piece) ∙ on.sent (bits_of given) stood)
+    (ap (λ l. levels low (sent_for before.rate before.invert l)) (bits_of-append given piece)
+    ∙ on.sent (bits_of given) stood)
 
-pub fed-piece : (before now : Encoding) (low : ℕ) (piece symbols : List ℕ) (taken taken_now : Option (List ℕ)) → GoesOnBy before now low piece symbols → Wrote taken taken_now symbols
+pub fed-piece : (before now : Encoding) (low : ℕ) (piece symbols : List ℕ) (taken taken_now : Option (List ℕ))
+    → GoesOnBy before now low piece symbols → Wrote taken taken_now symbols
     → Fed EncodesFor (encoded before.rate before.invert low) before now taken taken_now piece
 fed-piece before now low piece symbols taken taken_now on wrote = record {
-  stands = λ given stood. subst (EncoderStandsFor now) (sym (bits_of-append given piece)) (on.stands (bits_of given) stood);
-  written = λ given stood. subst (Wrote taken taken_now) (sym (symbols-due before now low piece symbols given on stood)) wrote;
+  stands =
+      λ given stood. subst (EncoderStandsFor now) (sym (bits_of-append given piece))
+      (on.stands (bits_of given) stood);
+  written =
+      λ given stood. subst (Wrote taken taken_now)
+      (sym (symbols-due before now low piece symbols given on stood)) wrote;
 }
 
-pub fed-piece_prefix : (before now : Encoding) (low : ℕ) (piece symbols : List ℕ) (taken taken_now : Option (List ℕ)) → GoesOnBy before now low piece symbols → WrotePrefix taken taken_now symbols
+pub fed-piece_prefix : (before now : Encoding) (low : ℕ) (piece symbols : List ℕ) (taken taken_now : Option (List ℕ))
+    → GoesOnBy before now low piece symbols → WrotePrefix taken taken_now symbols
     → FedPrefix EncodesFor (encoded before.rate before.invert low) before taken taken_now piece
 fed-piece_prefix before now low piece symbols taken taken_now on wrote = record {
-  prefix = λ given stood. subst (WrotePrefix taken taken_now) (sym (symbols-due before now low piece symbols given on stood)) wrote;
+  prefix =
+      λ given stood. subst (WrotePrefix taken taken_now)
+      (sym (symbols-due before now low piece symbols given on stood)) wrote;
 }
 
 -- a piece after the octets before it
-pub joined : (done count : ℕ) (octets : List ℕ) → take done octets ++ take ((done + count) - done) (drop done octets) ≡ take (done + count) octets
+pub joined : (done count : ℕ) (octets : List ℕ) → take done octets ++ take ((done + count) - done) (drop done octets)
+    ≡ take (done + count) octets
 joined done count octets =
     let same : (done + count) - done ≡ count = omega arith in
     ap (λ (n : ℕ). take done octets ++ take n (drop done octets)) same ∙ sym (take-add done count octets)

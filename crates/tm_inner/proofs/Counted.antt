@@ -26,42 +26,53 @@ use Rattle.tm_inner.proofs.ReceivedBits.{kept-count, kept-le}
 
 -- ---- where nothing is dropped before a window
 
-pub blocks-slips : (rate : Rate) (invert : Bool) (keep ahead : ℕ) (starts : Option ℕ) (t n : ℕ) (octets : List ℕ) (blocks : List WindowBlock)
+pub blocks-slips : (rate : Rate) (invert : Bool) (keep ahead : ℕ) (starts : Option ℕ) (t n : ℕ) (octets : List ℕ)
+    (blocks : List WindowBlock)
     → AreBlocks rate invert keep ahead starts t n octets blocks → slips_of blocks ≡ 0
 blocks-slips rate invert keep ahead starts t n octets [] are = refl
 blocks-slips rate invert keep ahead starts t n octets (b ∷ blocks) are = omega (
   arith,
   ap slip_at are.1.dropped,
-  blocks-slips rate invert keep ahead (Some b.end_state) (t + b.kept) (n - b.kept) (drop (steps_size rate t b.kept) octets) blocks are.2,
+  blocks-slips rate invert keep ahead (Some b.end_state) (t + b.kept) (n - b.kept)
+      (drop (steps_size rate t b.kept) octets) blocks are.2,
 )
 
-pub whole-slips : (s : Settings) (octets : List ℕ) (blocks : List WindowBlock) (left : ℕ) → AreBlocksOf s octets blocks left → slips_of blocks ≡ 0
-whole-slips s octets blocks left are = blocks-slips s.rate s.invert s.keep s.ahead (first_start s.start) 0 are.count octets blocks are.are
+pub whole-slips : (s : Settings) (octets : List ℕ) (blocks : List WindowBlock) (left : ℕ)
+    → AreBlocksOf s octets blocks left → slips_of blocks ≡ 0
+whole-slips s octets blocks left are =
+    blocks-slips s.rate s.invert s.keep s.ahead (first_start s.start) 0 are.count octets blocks are.are
 
 -- they keep all steps
-pub blocks-kept : (rate : Rate) (invert : Bool) (keep ahead : ℕ) (starts : Option ℕ) (t n : ℕ) (octets : List ℕ) (blocks : List WindowBlock)
+pub blocks-kept : (rate : Rate) (invert : Bool) (keep ahead : ℕ) (starts : Option ℕ) (t n : ℕ) (octets : List ℕ)
+    (blocks : List WindowBlock)
     → AreBlocks rate invert keep ahead starts t n octets blocks → kept_of blocks ≡ n
 blocks-kept rate invert keep ahead starts t n octets [] are = sym are
 blocks-kept rate invert keep ahead starts t n octets (b ∷ blocks) are =
-    let rest = blocks-kept rate invert keep ahead (Some b.end_state) (t + b.kept) (n - b.kept) (drop (steps_size rate t b.kept) octets) blocks are.2 in
+    let rest = blocks-kept rate invert keep ahead (Some b.end_state) (t + b.kept) (n - b.kept)
+    (drop (steps_size rate t b.kept) octets) blocks are.2 in
     omega (arith, are.1.kept, kept-le keep ahead n, rest)
 
 -- ---- a decoder that was given octets
 
-pub stands-counted : (d : InnerDecoder) (given : List ℕ) (done : List WindowBlock) → StandsIn d given done → HasCounted d done
+pub stands-counted : (d : InnerDecoder) (given : List ℕ) (done : List WindowBlock) → StandsIn d given done
+    → HasCounted d done
 stands-counted (One d) given done stands =
     let w = d.stream.flow.window in
     closed-slips (settings_in d.stream) (record { starts = first_start d.stream.start; t = 0; octets = given })
-    (record { starts = w.starts; t = w.t; octets = stands.reaches.whole ++ (waiting_octets d.stream.waiting ++ []) }) done stands.reaches.closed
+    (record { starts = w.starts; t = w.t; octets = stands.reaches.whole ++ (waiting_octets d.stream.waiting ++ []) })
+    done stands.reaches.closed
 stands-counted (Many d) given done stands = (stands.reaches.slips, stands.reaches.kept)
 
-pub decodes-counted : (d : Option InnerDecoder) (soft : List ℕ) (blocks : List WindowBlock) → DecodesFor d soft blocks → HasCountedAll d blocks
+pub decodes-counted : (d : Option InnerDecoder) (soft : List ℕ) (blocks : List WindowBlock) → DecodesFor d soft blocks
+    → HasCountedAll d blocks
 decodes-counted None soft blocks is = is
 decodes-counted (Some d) soft blocks is = stands-counted d soft blocks is
 
-pub phases-counted : (p : Phasing) (soft : List ℕ) (done : List (Handed WindowBlock)) → PhasesFor p soft done → HasCountedAll p.decoder (items_of done)
+pub phases-counted : (p : Phasing) (soft : List ℕ) (done : List (Handed WindowBlock)) → PhasesFor p soft done
+    → HasCountedAll p.decoder (items_of done)
 phases-counted p soft done (inl w) =
-    subst (λ (l : List (Handed WindowBlock)). HasCountedAll p.decoder (items_of l)) (sym w.0.nothing) (decodes-counted p.decoder [] [] w.0.fresh)
+    subst (λ (l : List (Handed WindowBlock)). HasCountedAll p.decoder (items_of l)) (sym w.0.nothing)
+    (decodes-counted p.decoder [] [] w.0.fresh)
 phases-counted p soft done (inr g) =
     subst (HasCountedAll p.decoder) (sym (ap items_of g.0.are ∙ items_of-with_phase p.chosen g.0.blocks))
     (decodes-counted p.decoder (drop (skip_of p.chosen) soft) g.0.blocks g.0.decodes)
@@ -73,7 +84,8 @@ stood-counted r given done stood = phases-counted r.phased (phase_octets r.confi
 
 -- ---- how many bits blocks keep
 
-whole-kept : (seen : Option ℕ) (w : Windows) (octets : List ℕ) (blocks : List WindowBlock) (left : ℕ) → AreBlocksBy seen w octets blocks left
+whole-kept : (seen : Option ℕ) (w : Windows) (octets : List ℕ) (blocks : List WindowBlock) (left : ℕ)
+    → AreBlocksBy seen w octets blocks left
     → length (kept_bits blocks) ≡ kept_of blocks
 whole-kept None w octets blocks left h =
     let s = w.settings in
@@ -82,13 +94,15 @@ whole-kept None w octets blocks left h =
     ∙ sym (blocks-kept s.rate s.invert s.keep s.ahead start 0 h.count octets blocks h.are)
 whole-kept (Some steps) w octets blocks left h = (followed-whole w octets blocks left h).bits
 
-kept-at : (rate : Option Rate) (c : Configuration) (phase : ℕ) (given : List ℕ) (blocks : List WindowBlock) (left : ℕ) → (rate ≡ None → ⊥)
+kept-at : (rate : Option Rate) (c : Configuration) (phase : ℕ) (given : List ℕ) (blocks : List WindowBlock) (left : ℕ)
+    → (rate ≡ None → ⊥)
     → BlocksAt rate c phase given blocks left → length (bits_at rate c given blocks) ≡ kept_of blocks
 kept-at None c phase given blocks left some are = absurd (some refl)
 kept-at (Some rate) c phase given blocks left some are =
     let w = windows_of c rate in
     length-map (kept_bits blocks) (λ bit. bit == 1) ∙ whole-kept w.seen w (soft_octets c phase given) blocks left are
 
-pub inner-kept : (c : Configuration) (phase : ℕ) (given : List ℕ) (blocks : List WindowBlock) (left : ℕ) → (c.inner ≡ None → ⊥)
+pub inner-kept : (c : Configuration) (phase : ℕ) (given : List ℕ) (blocks : List WindowBlock) (left : ℕ)
+    → (c.inner ≡ None → ⊥)
     → AreInnerBlocks c phase given blocks left → length (inner_bits c given blocks) ≡ kept_of blocks
 inner-kept c = kept-at c.inner c

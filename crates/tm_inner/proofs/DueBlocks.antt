@@ -12,8 +12,11 @@ use Rattle.tm_inner.specs.declared.inner_decoder.InnerDecoder.{InnerDecoder}
 use Rattle.tm_inner.specs.declared.inner_decoder.InnerDecoder.TheVariants.{One, Many}
 use Rattle.tm_inner.specs.InnerDecoding.{HasClosed, StandsIn, windows_in}
 
-pub due-in : (d : InnerDecoder) (given : List ℕ) (done : List WindowBlock) → HasClosed d → StandsIn d given done → AreDueIn (windows_in d) given done
-due-in (One d) given done closed stands = subst (λ (s : Settings). AreDue s given done) stands.settings (AreDue-one d.stream given done stands.reaches stands.open_step)
+pub due-in : (d : InnerDecoder) (given : List ℕ) (done : List WindowBlock) → HasClosed d → StandsIn d given done
+    → AreDueIn (windows_in d) given done
+due-in (One d) given done closed stands =
+    subst (λ (s : Settings). AreDue s given done) stands.settings
+    (AreDue-one d.stream given done stands.reaches stands.open_step)
 due-in (Many d) given done closed stands =
     let g = d.gathering in
     subst (λ (w : Windows). AreDueIn w given done) stands.windows

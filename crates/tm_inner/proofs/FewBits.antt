@@ -14,39 +14,58 @@ use Rattle.tm_inner.proofs.ReceivedBits.{length-soft}
 use Rattle.tm_inner.proofs.PlainBits.{plain-few}
 use Rattle.tm_inner.proofs.WindowBits.{first-keeps, whole-keeps, more-keeps, last-keeps, later-keeps}
 
-few-first : (rate : Option Rate) (c : Configuration) (phase : ℕ) (octets : List ℕ) (blocks : List WindowBlock) → FirstAt rate c phase octets blocks
+few-first : (rate : Option Rate) (c : Configuration) (phase : ℕ) (octets : List ℕ) (blocks : List WindowBlock)
+    → FirstAt rate c phase octets blocks
     → length (bits_at rate c octets blocks) ≤ 8 * length octets
 few-first None c phase octets blocks are = omega (arith, length-drop c.skip (plain_bits c octets), plain-few c octets)
 few-first (Some rate) c phase octets blocks are =
     let w = windows_of c rate in
-    omega (arith, first-keeps w.seen w (soft_octets c phase octets) blocks are, length-soft c phase octets, length-map (kept_bits blocks) (λ bit. bit == 1))
+    omega (
+      arith,
+      first-keeps w.seen w (soft_octets c phase octets) blocks are,
+      length-soft c phase octets,
+      length-map (kept_bits blocks) (λ bit. bit == 1),
+    )
 
-few-whole : (rate : Option Rate) (c : Configuration) (phase : ℕ) (octets : List ℕ) (blocks : List WindowBlock) (left : ℕ) → BlocksAt rate c phase octets blocks left
+few-whole : (rate : Option Rate) (c : Configuration) (phase : ℕ) (octets : List ℕ) (blocks : List WindowBlock)
+    (left : ℕ) → BlocksAt rate c phase octets blocks left
     → length (bits_at rate c octets blocks) ≤ 8 * length octets
-few-whole None c phase octets blocks left are = omega (arith, length-drop c.skip (plain_bits c octets), plain-few c octets)
+few-whole None c phase octets blocks left are =
+    omega (arith, length-drop c.skip (plain_bits c octets), plain-few c octets)
 few-whole (Some rate) c phase octets blocks left are =
     let w = windows_of c rate in
-    omega (arith, whole-keeps w.seen w (soft_octets c phase octets) blocks left are, length-soft c phase octets, length-map (kept_bits blocks) (λ bit. bit == 1))
+    omega (
+      arith,
+      whole-keeps w.seen w (soft_octets c phase octets) blocks left are,
+      length-soft c phase octets,
+      length-map (kept_bits blocks) (λ bit. bit == 1),
+    )
 
 -- the bits of first blocks, and of all blocks
-pub first-few : (c : Configuration) (phase : ℕ) (octets : List ℕ) (blocks : List WindowBlock) → AreInnerFirst c phase octets blocks → length (inner_bits c octets blocks) ≤ 8 * length octets
+pub first-few : (c : Configuration) (phase : ℕ) (octets : List ℕ) (blocks : List WindowBlock)
+    → AreInnerFirst c phase octets blocks → length (inner_bits c octets blocks) ≤ 8 * length octets
 first-few c = few-first c.inner c
 
-pub whole-few : (c : Configuration) (phase : ℕ) (octets : List ℕ) (blocks : List WindowBlock) (left : ℕ) → AreInnerBlocks c phase octets blocks left
+pub whole-few : (c : Configuration) (phase : ℕ) (octets : List ℕ) (blocks : List WindowBlock) (left : ℕ)
+    → AreInnerBlocks c phase octets blocks left
     → length (inner_bits c octets blocks) ≤ 8 * length octets
 whole-few c = few-whole c.inner c
 
 -- due blocks are first ones
-due-is-first : (rate : Option Rate) (c : Configuration) (phase : ℕ) (octets : List ℕ) (blocks : List WindowBlock) → DueAt rate c phase octets blocks → FirstAt rate c phase octets blocks
+due-is-first : (rate : Option Rate) (c : Configuration) (phase : ℕ) (octets : List ℕ) (blocks : List WindowBlock)
+    → DueAt rate c phase octets blocks → FirstAt rate c phase octets blocks
 due-is-first None c phase octets blocks are = are
-due-is-first (Some rate) c phase octets blocks are = let w = windows_of c rate in due-prefix w.seen w (soft_octets c phase octets) blocks are
+due-is-first (Some rate) c phase octets blocks are =
+    let w = windows_of c rate in due-prefix w.seen w (soft_octets c phase octets) blocks are
 
-pub first-of-due : (c : Configuration) (phase : ℕ) (octets : List ℕ) (blocks : List WindowBlock) → AreInnerDue c phase octets blocks → AreInnerFirst c phase octets blocks
+pub first-of-due : (c : Configuration) (phase : ℕ) (octets : List ℕ) (blocks : List WindowBlock)
+    → AreInnerDue c phase octets blocks → AreInnerFirst c phase octets blocks
 first-of-due c = due-is-first c.inner c
 
 -- ---- the blocks of a window and of so many octets more keep no more bits than these have
 
-more-at : (rate : Rate) (c : Configuration) (phase : ℕ) (given octets : List ℕ) (done all : List WindowBlock) → DueAt (Some rate) c phase given done → FirstAt (Some rate) c phase (given ++ octets) all
+more-at : (rate : Rate) (c : Configuration) (phase : ℕ) (given octets : List ℕ) (done all : List WindowBlock)
+    → DueAt (Some rate) c phase given done → FirstAt (Some rate) c phase (given ++ octets) all
     → length (kept_bits all) ≤ length (kept_bits done) + c.keep + c.ahead + length octets
 more-at rate c phase given octets done all due first =
     let w = windows_of c rate in
@@ -61,7 +80,8 @@ more-at rate c phase given octets done all due first =
     ) in
     omega (arith, more-keeps w.seen w (soft_octets c phase given) back done all due after, short)
 
-last-at : (rate : Rate) (c : Configuration) (phase : ℕ) (given : List ℕ) (done all : List WindowBlock) (left : ℕ) → DueAt (Some rate) c phase given done → BlocksAt (Some rate) c phase given all left
+last-at : (rate : Rate) (c : Configuration) (phase : ℕ) (given : List ℕ) (done all : List WindowBlock) (left : ℕ)
+    → DueAt (Some rate) c phase given done → BlocksAt (Some rate) c phase given all left
     → length (kept_bits all) ≤ length (kept_bits done) + c.keep + c.ahead
 last-at rate c phase given done all left due are =
     let w = windows_of c rate in
@@ -72,27 +92,40 @@ with_rate P none some None = none
 with_rate P none some (Some rate) = some rate
 
 -- blocks of further octets keep few bits more than those that are due
-pub more-few : (c : Configuration) (phase : ℕ) (given octets : List ℕ) (done all : List WindowBlock) → AreInnerDue c phase given done → AreInnerFirst c phase (given ++ octets) all
+pub more-few : (c : Configuration) (phase : ℕ) (given octets : List ℕ) (done all : List WindowBlock)
+    → AreInnerDue c phase given done → AreInnerFirst c phase (given ++ octets) all
     → length (kept_bits all) ≤ length (kept_bits done) + c.keep + c.ahead + length octets
 more-few c phase given octets done all =
-    with_rate (λ rate. DueAt rate c phase given done → FirstAt rate c phase (given ++ octets) all → length (kept_bits all) ≤ length (kept_bits done) + c.keep + c.ahead + length octets)
-    (λ due first. omega (arith, ap (λ (l : List WindowBlock). length (kept_bits l)) first)) (λ rate. more-at rate c phase given octets done all) c.inner
+    with_rate (λ rate. DueAt rate c phase given done → FirstAt rate c phase (given ++ octets) all
+    → length (kept_bits all) ≤ length (kept_bits done) + c.keep + c.ahead + length octets)
+    (λ due first. omega (arith, ap (λ (l : List WindowBlock). length (kept_bits l)) first))
+    (λ rate. more-at rate c phase given octets done all) c.inner
 
 -- and so do all blocks
-pub last-few : (c : Configuration) (phase : ℕ) (given : List ℕ) (done all : List WindowBlock) (left : ℕ) → AreInnerDue c phase given done → AreInnerBlocks c phase given all left
+pub last-few : (c : Configuration) (phase : ℕ) (given : List ℕ) (done all : List WindowBlock) (left : ℕ)
+    → AreInnerDue c phase given done → AreInnerBlocks c phase given all left
     → length (kept_bits all) ≤ length (kept_bits done) + c.keep + c.ahead
 last-few c phase given done all left =
-    with_rate (λ rate. DueAt rate c phase given done → BlocksAt rate c phase given all left → length (kept_bits all) ≤ length (kept_bits done) + c.keep + c.ahead)
-    (λ due are. omega (arith, ap (λ (l : List WindowBlock). length (kept_bits l)) are.0)) (λ rate. last-at rate c phase given done all left) c.inner
+    with_rate (λ rate. DueAt rate c phase given done → BlocksAt rate c phase given all left
+    → length (kept_bits all) ≤ length (kept_bits done) + c.keep + c.ahead)
+    (λ due are. omega (arith, ap (λ (l : List WindowBlock). length (kept_bits l)) are.0))
+    (λ rate. last-at rate c phase given done all left) c.inner
 
 -- the last of the blocks that are due
-pub due-kept : (c : Configuration) (phase : ℕ) (given : List ℕ) (done more : List WindowBlock) → AreInnerDue c phase given (done ++ more) → length (kept_bits more) ≡ length more * c.keep
+pub due-kept : (c : Configuration) (phase : ℕ) (given : List ℕ) (done more : List WindowBlock)
+    → AreInnerDue c phase given (done ++ more) → length (kept_bits more) ≡ length more * c.keep
 due-kept c phase given done more =
-    with_rate (λ rate. DueAt rate c phase given (done ++ more) → length (kept_bits more) ≡ length more * c.keep) (none done more)
+    with_rate (λ rate. DueAt rate c phase given (done ++ more) → length (kept_bits more) ≡ length more * c.keep)
+    (none done more)
     (λ rate due. (let w = windows_of c rate in later-keeps w.seen w (soft_octets c phase given) done more due)) c.inner
   where
     none : (xs ys : List WindowBlock) → xs ++ ys ≡ [] → length (kept_bits ys) ≡ length ys * c.keep
-    none [] ys is = omega (arith, ap (λ (l : List WindowBlock). length (kept_bits l)) is, ap (λ (l : List WindowBlock). length l * c.keep) is)
+    none [] ys is =
+        omega (
+          arith,
+          ap (λ (l : List WindowBlock). length (kept_bits l)) is,
+          ap (λ (l : List WindowBlock). length l * c.keep) is,
+        )
     none (x ∷ xs) ys is = absurd cc
 
 no-octets : (octets : List ℕ) → length octets ≡ 0 → octets ≡ []
@@ -104,7 +137,8 @@ none-due : (rate : Option Rate) (c : Configuration) → DueAt rate c 0 [] []
 none-due None c = refl
 none-due (Some rate) c =
     let w = windows_of c rate in
-    subst (λ (l : List ℕ). AreDueIn w l []) (sym (no-octets (soft_octets c 0 []) (omega (arith, length-soft c 0 [])))) (none-of w.seen w)
+    subst (λ (l : List ℕ). AreDueIn w l []) (sym (no-octets (soft_octets c 0 []) (omega (arith, length-soft c 0 []))))
+    (none-of w.seen w)
 
 pub due-none : (c : Configuration) → AreInnerDue c 0 [] []
 due-none c = none-due c.inner c

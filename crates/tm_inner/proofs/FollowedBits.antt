@@ -19,8 +19,10 @@ use Rattle.tm_inner.proofs.ReceivedBits.{block-bits, kept-le}
 -- ---- what blocks keep
 
 -- a block keeps as many bits as it says
-block-keeps : (s : Settings) (b : Beginning) (n : ℕ) (x : WindowBlock) → steps_size s.rate b.place.t n ≤ length b.place.octets
-    → IsBlock s.rate s.invert s.keep s.ahead b.place.starts b.place.t n b.place.octets (undropped x) → length (take x.kept x.bits) ≡ x.kept
+block-keeps : (s : Settings) (b : Beginning) (n : ℕ) (x : WindowBlock)
+    → steps_size s.rate b.place.t n ≤ length b.place.octets
+    → IsBlock s.rate s.invert s.keep s.ahead b.place.starts b.place.t n b.place.octets (undropped x)
+    → length (take x.kept x.bits) ≡ x.kept
 block-keeps s b n x whole is =
     let less : x.kept ≤ x.steps = omega (arith, is.kept, is.steps, kept-le s.keep s.ahead n) in
     omega (
@@ -30,7 +32,8 @@ block-keeps s b n x whole is =
       block-bits s.rate s.invert s.keep s.ahead b.place.starts b.place.t n b.place.octets (undropped x) whole is,
     )
 
-pub followed-keep : (w : Windows) (from to : Spot) (blocks : List WindowBlock) → Followed w from blocks to → length (kept_bits blocks) ≡ kept_of blocks
+pub followed-keep : (w : Windows) (from to : Spot) (blocks : List WindowBlock) → Followed w from blocks to
+    → length (kept_bits blocks) ≡ kept_of blocks
 followed-keep w from to [] h = refl
 followed-keep w from to (x ∷ xs) h =
     let s = w.settings in
@@ -41,10 +44,16 @@ followed-keep w from to (x ∷ xs) h =
       followed-keep w (spot_after s h.0 x) to xs h.3,
     )
 
-pub followed-few : (w : Windows) (octets : List ℕ) (blocks : List WindowBlock) → AreFollowedFirst w octets blocks → length (kept_bits blocks) ≤ length octets
+pub followed-few : (w : Windows) (octets : List ℕ) (blocks : List WindowBlock) → AreFollowedFirst w octets blocks
+    → length (kept_bits blocks) ≤ length octets
 followed-few w octets blocks h =
     let taken = followed-taken w (first_spot w octets) h.0 blocks h.1 in
-    omega (arith, followed-keep w (first_spot w octets) h.0 blocks h.1, taken.octets, steps_size-least w.settings.rate 0 (kept_of blocks))
+    omega (
+      arith,
+      followed-keep w (first_spot w octets) h.0 blocks h.1,
+      taken.octets,
+      steps_size-least w.settings.rate 0 (kept_of blocks),
+    )
 
 -- ---- all blocks
 
@@ -53,9 +62,11 @@ record KeepsLast (last : List WindowBlock) (n : ℕ) : Type 0 where
   bits : length (kept_bits last) ≡ n
   steps : kept_of last ≡ n
 
-last-keeps : (s : Settings) (b : Beginning) (n : ℕ) (last : List WindowBlock) → steps_size s.rate b.place.t n ≤ length b.place.octets → n ≤ s.keep + s.ahead
+last-keeps : (s : Settings) (b : Beginning) (n : ℕ) (last : List WindowBlock)
+    → steps_size s.rate b.place.t n ≤ length b.place.octets → n ≤ s.keep + s.ahead
     → IsLast s b n last → KeepsLast last n
-last-keeps s b zero last whole few h = subst (λ (v : List WindowBlock). KeepsLast v 0) (sym h) (record { bits = refl; steps = refl })
+last-keeps s b zero last whole few h =
+    subst (λ (v : List WindowBlock). KeepsLast v 0) (sym h) (record { bits = refl; steps = refl })
 last-keeps s b (suc n) last whole few h =
     let x = h.0 in
     let kept : x.kept ≡ suc n = h.3.kept ∙ sym (last_kept s.keep s.ahead (suc n) few) in
@@ -65,7 +76,8 @@ last-keeps s b (suc n) last whole few h =
       steps = omega (arith, kept);
     })
 
-bits-append : (first rest : List WindowBlock) → length (kept_bits (first ++ rest)) ≡ length (kept_bits first) + length (kept_bits rest)
+bits-append : (first rest : List WindowBlock) → length (kept_bits (first ++ rest))
+    ≡ length (kept_bits first) + length (kept_bits rest)
 bits-append [] rest = omega arith
 bits-append (x ∷ first) rest = omega (
   arith,
@@ -74,7 +86,8 @@ bits-append (x ∷ first) rest = omega (
   bits-append first rest,
 )
 
-begins_last-within : (w : Windows) (to : Spot) (b : Beginning) → BeginsLast w to b → length b.place.octets ≤ length to.place.octets
+begins_last-within : (w : Windows) (to : Spot) (b : Beginning) → BeginsLast w to b
+    → length b.place.octets ≤ length to.place.octets
 begins_last-within w to b (inl begins) = (begins-within w to b begins).1
 begins_last-within w to b (inr unseen) = omega (arith, ap (λ (v : Beginning). length v.place.octets) unseen.1)
 
@@ -83,7 +96,8 @@ pub record WholeKeeps (octets : List ℕ) (blocks : List WindowBlock) (left : �
   pub bits : length (kept_bits blocks) ≡ kept_of blocks
   pub few : kept_of blocks + left ≤ length octets
 
-pub followed-whole : (w : Windows) (octets : List ℕ) (blocks : List WindowBlock) (left : ℕ) → AreFollowedOf w octets blocks left → WholeKeeps octets blocks left
+pub followed-whole : (w : Windows) (octets : List ℕ) (blocks : List WindowBlock) (left : ℕ)
+    → AreFollowedOf w octets blocks left → WholeKeeps octets blocks left
 followed-whole w octets blocks left h =
     let s = w.settings in
     let from = first_spot w octets in
@@ -109,7 +123,8 @@ followed-whole w octets blocks left h =
 -- ---- blocks of further octets keep few bits more than those that are due
 
 -- so many steps have as many octets at least
-few-steps : (s : Settings) (t m k count : ℕ) → steps_size s.rate t m < steps_size s.rate t (k + 1) + count → m ≤ k + count
+few-steps : (s : Settings) (t m k count : ℕ) → steps_size s.rate t m < steps_size s.rate t (k + 1) + count
+    → m ≤ k + count
 few-steps s t m k count less = elim (cases_lt (k + count) m) as (λ _. m ≤ k + count) [
   | inl more ↦ absurd
       (let split : (k + 1) + (m - (k + 1)) ≡ m = omega (arith, more) in
@@ -135,7 +150,8 @@ unfolding more_octets
 longer-begun b octets = (refl, length-append b.place.octets octets)
 
 -- windows that further octets close, where none was closed before
-rest-few : (w : Windows) (to at : Spot) (octets : List ℕ) (rest : List WindowBlock) → IsOpenAt w to → Followed w (longer_spot to octets) rest at
+rest-few : (w : Windows) (to at : Spot) (octets : List ℕ) (rest : List WindowBlock) → IsOpenAt w to
+    → Followed w (longer_spot to octets) rest at
     → kept_of rest ≤ w.settings.keep + w.settings.ahead + length octets
 rest-few w to at octets [] is_open h = omega arith
 rest-few w to at octets (x ∷ xs) (inl few) h =
@@ -148,7 +164,8 @@ rest-few w to at octets (x ∷ xs) (inr few) h =
     let s = w.settings in
     let b = few.0 in
     let n : ℕ = kept_of (x ∷ xs) in
-    let same = begins-one w (longer_spot to octets) h.0 (longer_beginning b octets) h.1 (begins-more w to b octets few.1) in
+    let same = begins-one w (longer_spot to octets) h.0 (longer_beginning b octets) h.1
+    (begins-more w to b octets few.1) in
     let taken : steps_size s.rate h.0.place.t n ≤ length h.0.place.octets =
     omega (arith, begun-taken w (longer_spot to octets) at x xs h (followed-taken w (spot_after s h.0 x) at xs h.3)) in
     let there = subst (λ (v : Beginning). steps_size s.rate v.place.t n ≤ length v.place.octets) same taken in
@@ -156,29 +173,39 @@ rest-few w to at octets (x ∷ xs) (inr few) h =
     few-steps s b.place.t n (s.keep + s.ahead) (length octets)
     (omega (arith, there, place.1, ap (λ (t : ℕ). steps_size s.rate t n) place.0, few.2))
 
-pub followed-more_few : OneBest → (w : Windows) (given octets : List ℕ) (done all : List WindowBlock) → AreFollowedDue w given done
-    → AreFollowedFirst w (given ++ octets) all → kept_of all ≤ kept_of done + w.settings.keep + w.settings.ahead + length octets
+pub followed-more_few : OneBest → (w : Windows) (given octets : List ℕ) (done all : List WindowBlock)
+    → AreFollowedDue w given done
+    → AreFollowedFirst w (given ++ octets) all → kept_of all
+    ≤ kept_of done + w.settings.keep + w.settings.ahead + length octets
 followed-more_few one w given octets done all due first =
     elim (one-longer one w (first_spot w (given ++ octets)) (longer_spot due.to octets) first.0 done all
     (closed-more w given octets done due.to due.closed) first.1)
     as (λ _. kept_of all ≤ kept_of done + w.settings.keep + w.settings.ahead + length octets) [
-      | inl on ↦ omega (arith, ap kept_of on.1, kept-append done on.0, rest-few w due.to first.0 octets on.0 due.is_open on.2)
+      | inl on ↦ omega (
+        arith,
+        ap kept_of on.1,
+        kept-append done on.0,
+        rest-few w due.to first.0 octets on.0 due.is_open on.2,
+      )
       | inr on ↦ omega (arith, ap kept_of on.1, kept-append all on.0)
     ]
 
 -- all blocks of the same octets keep at most a window more than those that are due
-pub followed-last_few : OneBest → (w : Windows) (given : List ℕ) (done all : List WindowBlock) (left : ℕ) → AreFollowedDue w given done
+pub followed-last_few : OneBest → (w : Windows) (given : List ℕ) (done all : List WindowBlock) (left : ℕ)
+    → AreFollowedDue w given done
     → AreFollowedOf w given all left → kept_of all ≤ kept_of done + w.settings.keep + w.settings.ahead
 followed-last_few one w given done all left due whole =
     let s = w.settings in
-    let same = both-stop one w (first_spot w given) due.to whole.to done whole.done due.closed whole.closed (open-stops w due.to due.is_open)
+    let same = both-stop one w (first_spot w given) due.to whole.to done whole.done due.closed whole.closed
+    (open-stops w due.to due.is_open)
     (last-stops w whole.to whole.window whole.count whole.begins whole.steps whole.few) in
     let last = last-keeps s whole.window whole.count whole.last whole.steps.whole whole.few whole.is_last in
     omega (arith, ap kept_of whole.are, kept-append whole.done whole.last, last.steps, whole.few, ap kept_of same.0)
 
 -- ---- closed windows after others
 
-pub followed-later : (w : Windows) (from to : Spot) (prefix blocks : List WindowBlock) → Followed w from (prefix ++ blocks) to
+pub followed-later : (w : Windows) (from to : Spot) (prefix blocks : List WindowBlock)
+    → Followed w from (prefix ++ blocks) to
     → length (kept_bits blocks) ≡ length blocks * w.settings.keep
 followed-later w from to [] blocks h =
     followed-keep w from to blocks h ∙ followed-steps w from to blocks h
@@ -187,12 +214,18 @@ followed-later w from to (x ∷ prefix) blocks h = followed-later w (spot_after 
 -- ---- how many windows there are
 
 -- each closed one keeps a step or more
-pub followed-count : (w : Windows) (from to : Spot) (blocks : List WindowBlock) → 0 < w.settings.keep → Followed w from blocks to
+pub followed-count : (w : Windows) (from to : Spot) (blocks : List WindowBlock) → 0 < w.settings.keep
+    → Followed w from blocks to
     → length blocks ≤ kept_of blocks
 followed-count w from to [] some h = omega arith
 followed-count w from to (x ∷ xs) some h =
     let s = w.settings in
-    omega (arith, some, h.2.0.is_block.kept ∙ kept_is s.keep s.ahead, followed-count w (spot_after s h.0 x) to xs some h.3)
+    omega (
+      arith,
+      some,
+      h.2.0.is_block.kept ∙ kept_is s.keep s.ahead,
+      followed-count w (spot_after s h.0 x) to xs some h.3,
+    )
 
 last-count : (s : Settings) (b : Beginning) (n : ℕ) (last : List WindowBlock) → IsLast s b n last → length last ≤ n
 last-count s b zero last h = omega (arith, ap length h)

@@ -26,7 +26,8 @@ needed-some None c some = omega arith
 needed-some (Some rate) c some = omega (arith, steps_size_ge rate 0 (c.keep + c.ahead))
 
 -- before any octets
-pub phases-none : (p : Phasing) → p.chosen ≡ None → p.held ≡ [] → DecodesFor p.decoder [] [] → 1 ≤ p.config.keep → (p.config.phase ≡ Given) ⊎ (p.config.phase ≡ Find) → PhasesFor p [] []
+pub phases-none : (p : Phasing) → p.chosen ≡ None → p.held ≡ [] → DecodesFor p.decoder [] [] → 1 ≤ p.config.keep
+    → (p.config.phase ≡ Given) ⊎ (p.config.phase ≡ Find) → PhasesFor p [] []
 phases-none p none held fresh some (inl given) = inr (
   record {
     choice = subst (IsChosenBy p.config []) (sym none) given;
@@ -45,21 +46,27 @@ phases-none p none held fresh some (inr find) = inl (
     unsettled (inl given) = never_both p.config.phase given find
     unsettled (inr many) = omega (arith, many, needed-some p.config.inner p.config some)
 
-pub phases-so-far : (p : Phasing) (soft : List ℕ) (done : List (Handed WindowBlock)) → PhasesFor p soft done → IsSoFarBy p.config soft p.chosen
+pub phases-so-far : (p : Phasing) (soft : List ℕ) (done : List (Handed WindowBlock)) → PhasesFor p soft done
+    → IsSoFarBy p.config soft p.chosen
 phases-so-far p soft done (inl w) = subst (IsSoFarBy p.config soft) (sym w.0.none) (λ settled. absurd (w.1 settled))
 phases-so-far p soft done (inr g) = so-far p.config soft p.chosen g.1 g.0.choice
 
-pub stands-so-far : (r : InnerReceiving) (given : List ℕ) (done : List (Handed WindowBlock)) → InnerReceiverStandsFor r given done → IsChosenSoFar r.config given r.phased.chosen
+pub stands-so-far : (r : InnerReceiving) (given : List ℕ) (done : List (Handed WindowBlock))
+    → InnerReceiverStandsFor r given done → IsChosenSoFar r.config given r.phased.chosen
 stands-so-far r given done stood =
-    subst (λ (k : Configuration). IsSoFarBy k (phase_octets r.config given) r.phased.chosen) stood.same (phases-so-far r.phased (phase_octets r.config given) done stood.phases)
+    subst (λ (k : Configuration). IsSoFarBy k (phase_octets r.config given) r.phased.chosen) stood.same
+    (phases-so-far r.phased (phase_octets r.config given) done stood.phases)
 
 -- first blocks after the phase are those of received octets
 first-after : (rate : Option Rate) (c : Configuration) (phase : ℕ) (given : List ℕ) (blocks : List WindowBlock)
-    → FirstFor rate c (drop phase (map (soft_value c) (drop (skipped_at rate c) given))) blocks → FirstAt rate c phase given blocks
+    → FirstFor rate c (drop phase (map (soft_value c) (drop (skipped_at rate c) given))) blocks
+    → FirstAt rate c phase given blocks
 first-after None c phase given blocks is = is
-first-after (Some rate) c phase given blocks is = subst (λ (l : List ℕ). AreFirstIn (windows_of c rate) l blocks) (soft-after c phase c.skip given refl) is
+first-after (Some rate) c phase given blocks is =
+    subst (λ (l : List ℕ). AreFirstIn (windows_of c rate) l blocks) (soft-after c phase c.skip given refl) is
 
-pub handed-prefix : (c : Configuration) (given : List ℕ) (handed : List (Handed WindowBlock)) → IsPrefixBy c (phase_octets c given) handed → AreHandedPrefix c given handed
+pub handed-prefix : (c : Configuration) (given : List ℕ) (handed : List (Handed WindowBlock))
+    → IsPrefixBy c (phase_octets c given) handed → AreHandedPrefix c given handed
 handed-prefix c given handed h = record {
   chosen = h.chosen;
   choice = h.choice;
@@ -68,7 +75,8 @@ handed-prefix c given handed h = record {
   are = h.are;
 }
 
-pub handed-first : (c : Configuration) (given : List ℕ) (handed : List (Handed WindowBlock)) → IsFirstBy c (phase_octets c given) handed → AreHandedFirst c given handed
+pub handed-first : (c : Configuration) (given : List ℕ) (handed : List (Handed WindowBlock))
+    → IsFirstBy c (phase_octets c given) handed → AreHandedFirst c given handed
 handed-first c given handed h = (
   h.0,
   record {
@@ -80,8 +88,16 @@ handed-first c given handed h = (
   },
 )
 
-pub prefix-first : (c : Configuration) (given : List ℕ) (handed : List (Handed WindowBlock)) → AreHandedFirst c given handed → AreHandedPrefix c given handed
-prefix-first c given handed h = record { chosen = h.1.chosen; choice = h.1.choice; items = h.1.items; are_items = inl h.1.are_items; are = h.1.are }
+pub prefix-first : (c : Configuration) (given : List ℕ) (handed : List (Handed WindowBlock))
+    → AreHandedFirst c given handed → AreHandedPrefix c given handed
+prefix-first c given handed h =
+    record {
+      chosen = h.1.chosen;
+      choice = h.1.choice;
+      items = h.1.items;
+      are_items = inl h.1.are_items;
+      are = h.1.are;
+    }
 
 pub handed-due : (p : Phasing) (given : List ℕ) (done : List (Handed WindowBlock)) → IsDecoderOf p.config p.decoder
     → ((soft : List ℕ) (done : List (Handed WindowBlock)) → Goes p soft done → HasClosedAll p.decoder)
@@ -93,27 +109,39 @@ handed-due p given done of closed (inr g) = inr (
     chosen = p.chosen;
     choice = g.0.choice;
     items = g.0.blocks;
-    are_items = due-of p.config p.decoder (skip_of p.chosen) given g.0.blocks of (closed (phase_octets p.config given) done g.0)
+    are_items =
+        due-of p.config p.decoder (skip_of p.chosen) given g.0.blocks of
+        (closed (phase_octets p.config given) done g.0)
         (decodes-after p.config p.decoder (skip_of p.chosen) given g.0.blocks of g.0.decodes);
     are = g.0.are;
   },
 )
 
 -- what is due where a decoder holds octets
-pub due-further : (p : Phasing) (given : List ℕ) (done : List (Handed WindowBlock)) (count : ℕ) → IsDecoderOf p.config p.decoder → NoneWaits p
-    → ((c : Configuration) (phase : ℕ) (given : List ℕ) (done : List WindowBlock) → IsDecoderOf c p.decoder → DecodesFor p.decoder (soft_octets c phase given) done
+pub due-further : (p : Phasing) (given : List ℕ) (done : List (Handed WindowBlock)) (count : ℕ)
+    → IsDecoderOf p.config p.decoder → NoneWaits p
+    → ((c : Configuration) (phase : ℕ) (given : List ℕ) (done : List WindowBlock) → IsDecoderOf c p.decoder
+    → DecodesFor p.decoder (soft_octets c phase given) done
     → (more : List WindowBlock) × IsCount c (length more) count × AreInnerDue c phase given (done ++ more))
     → PhasesFor p (phase_octets p.config given) done
-    → (more : List WindowBlock) × IsCount p.config (length more) count × AreHandedDue p.config given (done ++ map Item more)
+    → (more : List WindowBlock) × IsCount p.config (length more) count
+    × AreHandedDue p.config given (done ++ map Item more)
 due-further p given done count of none counted (inl w) = absurd (none (w.0.find, w.0.none))
 due-further p given done count of none counted (inr g) =
     let phase = skip_of p.chosen in
-    let h = counted p.config phase given g.0.blocks of (decodes-after p.config p.decoder phase given g.0.blocks of g.0.decodes) in (
+    let h = counted p.config phase given g.0.blocks of (decodes-after p.config p.decoder phase given g.0.blocks of
+    g.0.decodes) in (
       h.0,
       h.1,
       inr (
         g.1,
-        record { chosen = p.chosen; choice = g.0.choice; items = g.0.blocks ++ h.0; are_items = h.2; are = further p.chosen done g.0.blocks h.0 g.0.are },
+        record {
+          chosen = p.chosen;
+          choice = g.0.choice;
+          items = g.0.blocks ++ h.0;
+          are_items = h.2;
+          are = further p.chosen done g.0.blocks h.0 g.0.are;
+        },
       ),
     )
 
@@ -154,18 +182,24 @@ none-waiting p soft done find none (inr g) = absurd (none-goes p soft done find 
 
 -- the last blocks, by which all is handed over, and counted
 abbrev pub AreLast : (before now : Option InnerDecoder) → List WindowBlock → ℕ → Type 0
-AreLast before now last left = (c : Configuration) (phase : ℕ) (given : List ℕ) (done : List WindowBlock) → IsDecoderOf c before
-    → DecodesFor before (soft_octets c phase given) done → AreInnerBlocks c phase given (done ++ last) left × HasCountedAll now (done ++ last)
+AreLast before now last left =
+    (c : Configuration) (phase : ℕ) (given : List ℕ) (done : List WindowBlock) → IsDecoderOf c before
+    → DecodesFor before (soft_octets c phase given) done → AreInnerBlocks c phase given (done ++ last) left
+    × HasCountedAll now (done ++ last)
 
 -- all that was handed over, of this phase, by a decoder that has counted it
-abbrev pub AllCounted : Configuration → List ℕ → List (Handed WindowBlock) → ℕ → Option Chosen → Option InnerDecoder → Type 0
+abbrev pub AllCounted : Configuration → List ℕ → List (Handed WindowBlock) → ℕ → Option Chosen → Option InnerDecoder
+    → Type 0
 AllCounted c given handed left chosen decoder =
     (all : AreHanded c given handed left) × (all.chosen ≡ chosen) × HasCountedAll decoder all.items
 
-pub handed-last : (p : Phasing) (now : Option InnerDecoder) (given : List ℕ) (done : List (Handed WindowBlock)) (last : List WindowBlock) (left : ℕ) → IsDecoderOf p.config p.decoder
-    → AreLast p.decoder now last left → Goes p (phase_octets p.config given) done → AllCounted p.config given (done ++ map Item last) left p.chosen now
+pub handed-last : (p : Phasing) (now : Option InnerDecoder) (given : List ℕ) (done : List (Handed WindowBlock))
+    (last : List WindowBlock) (left : ℕ) → IsDecoderOf p.config p.decoder
+    → AreLast p.decoder now last left → Goes p (phase_octets p.config given) done
+    → AllCounted p.config given (done ++ map Item last) left p.chosen now
 handed-last p now given done last left of are g =
-    let all = are p.config (skip_of p.chosen) given g.blocks of (decodes-after p.config p.decoder (skip_of p.chosen) given g.blocks of g.decodes) in (
+    let all = are p.config (skip_of p.chosen) given g.blocks of
+    (decodes-after p.config p.decoder (skip_of p.chosen) given g.blocks of g.decodes) in (
       record {
         chosen = p.chosen;
         choice = g.choice;
@@ -178,97 +212,134 @@ handed-last p now given done last left of are g =
     )
 
 -- the taker fails at one of the last blocks
-pub handed-last_prefix : (p : Phasing) (given : List ℕ) (done : List (Handed WindowBlock)) (tried : List WindowBlock) → IsDecoderOf p.config p.decoder
+pub handed-last_prefix : (p : Phasing) (given : List ℕ) (done : List (Handed WindowBlock)) (tried : List WindowBlock)
+    → IsDecoderOf p.config p.decoder
     → ((c : Configuration) (phase : ℕ) (given : List ℕ) (done : List WindowBlock) → IsDecoderOf c p.decoder
-    → DecodesFor p.decoder (soft_octets c phase given) done → AreInnerFirst c phase given (done ++ tried) ⊎ ((left : ℕ) × AreInnerBlocks c phase given (done ++ tried) left))
+    → DecodesFor p.decoder (soft_octets c phase given) done → AreInnerFirst c phase given (done ++ tried)
+    ⊎ ((left : ℕ) × AreInnerBlocks c phase given (done ++ tried) left))
     → Goes p (phase_octets p.config given) done → AreHandedPrefix p.config given (done ++ map Item tried)
 handed-last_prefix p given done tried of are g = record {
   chosen = p.chosen;
   choice = g.choice;
   items = g.blocks ++ tried;
-  are_items = are p.config (skip_of p.chosen) given g.blocks of (decodes-after p.config p.decoder (skip_of p.chosen) given g.blocks of g.decodes);
+  are_items =
+      are p.config (skip_of p.chosen) given g.blocks of
+      (decodes-after p.config p.decoder (skip_of p.chosen) given g.blocks of g.decodes);
   are = further p.chosen done g.blocks tried g.are;
 }
 
 -- ---- an inner receiver that is given more
 
-pub stands-further : {T : Type 0} (took : T → Handed WindowBlock → T → Type 0) (before now : InnerReceiving) (taker taker_now : T) (octets : List ℕ) (skipped : ℕ)
-    → before.phased.config ≡ before.config → now.config ≡ before.config → now.phased.config ≡ before.phased.config → IsDecoderOf now.phased.config now.phased.decoder
+pub stands-further : {T : Type 0} (took : T → Handed WindowBlock → T → Type 0) (before now : InnerReceiving)
+    (taker taker_now : T) (octets : List ℕ) (skipped : ℕ)
+    → before.phased.config ≡ before.config → now.config ≡ before.config → now.phased.config ≡ before.phased.config
+    → IsDecoderOf now.phased.config now.phased.decoder
     → ((soft : List ℕ) (done : List (Handed WindowBlock)) → Goes now.phased soft done → HasClosedAll now.phased.decoder)
-    → skipped ≡ min (skipped_at before.config.inner before.config - before.count) (length octets) → now.count ≡ min (before.count + length octets) (2 ^ 64 - 1)
-    → (h : Hands took PhasesFor before.phased now.phased taker taker_now (soft_form before.config (drop skipped octets)))
-    → (given : List ℕ) (done : List (Handed WindowBlock)) → length given + length octets < 2 ^ 60 → InnerReceiverStandsFor before given done
+    → skipped ≡ min (skipped_at before.config.inner before.config - before.count) (length octets)
+    → now.count ≡ min (before.count + length octets) (2 ^ 64 - 1)
+    → (h : Hands took PhasesFor before.phased now.phased taker taker_now
+    (soft_form before.config (drop skipped octets)))
+    → (given : List ℕ) (done : List (Handed WindowBlock)) → length given + length octets < 2 ^ 60
+    → InnerReceiverStandsFor before given done
     → InnerReceiverStandsFor now (given ++ octets) (done ++ h.more)
     × AreHandedDue before.config (given ++ octets) (done ++ h.more)
-stands-further took before now taker taker_now octets skipped inside config phased of closed skip counted h given done few stood =
+stands-further took before now taker taker_now octets skipped inside config phased of closed skip counted h given done
+    few stood =
     let c = before.config in
-    let all = phase_octets-more c given octets skipped (skip ∙ ap (λ (n : ℕ). min (skipped_at c.inner c - n) (length octets)) (sym stood.count)) in
-    let size : length (soft_form c (drop skipped octets)) ≤ length octets = omega (arith, length-map (drop skipped octets) (soft_value c), length-drop skipped octets) in
-    let phases : PhasesFor now.phased (phase_octets c (given ++ octets)) (done ++ h.more) = subst (λ (l : List ℕ). PhasesFor now.phased l (done ++ h.more)) (sym all)
+    let all = phase_octets-more c given octets skipped (skip
+    ∙ ap (λ (n : ℕ). min (skipped_at c.inner c - n) (length octets)) (sym stood.count)) in
+    let size : length (soft_form c (drop skipped octets)) ≤ length octets =
+    omega (arith, length-map (drop skipped octets) (soft_value c), length-drop skipped octets) in
+    let phases : PhasesFor now.phased (phase_octets c (given ++ octets)) (done ++ h.more) =
+    subst (λ (l : List ℕ). PhasesFor now.phased l (done ++ h.more)) (sym all)
     (h.stands (phase_octets c given) done (omega (arith, few, few-soft c given, size)) stood.phases) in
     let same : now.phased.config ≡ c = phased ∙ inside in (
       record {
         count = omega (arith, stood.count, few, counted, length-append given octets);
         few = omega (arith, few, length-append given octets);
         same = phased ∙ inside ∙ sym config;
-        phases = subst (λ (k : Configuration). PhasesFor now.phased (phase_octets k (given ++ octets)) (done ++ h.more)) (sym config) phases;
+        phases =
+            subst (λ (k : Configuration). PhasesFor now.phased (phase_octets k (given ++ octets)) (done ++ h.more))
+            (sym config) phases;
       },
       subst (λ (k : Configuration). AreHandedDue k (given ++ octets) (done ++ h.more)) same
-          (handed-due now.phased (given ++ octets) (done ++ h.more) of closed (subst (λ (k : Configuration). PhasesFor now.phased (phase_octets k (given ++ octets)) (done ++ h.more)) (sym same) phases)),
+          (handed-due now.phased (given ++ octets) (done ++ h.more) of closed
+          (subst (λ (k : Configuration). PhasesFor now.phased (phase_octets k (given ++ octets)) (done ++ h.more))
+          (sym same) phases)),
     )
 
-pub prefix-further : {T : Type 0} (took broke : T → Handed WindowBlock → T → Type 0) (before : InnerReceiving) (taker taker_now : T) (octets : List ℕ) (skipped : ℕ)
+pub prefix-further : {T : Type 0} (took broke : T → Handed WindowBlock → T → Type 0) (before : InnerReceiving)
+    (taker taker_now : T) (octets : List ℕ) (skipped : ℕ)
     → skipped ≡ min (skipped_at before.config.inner before.config - before.count) (length octets)
-    → (h : HandsPrefix took broke PhasesFor (IsFirstBy before.config) before.phased taker taker_now (soft_form before.config (drop skipped octets)))
-    → (given : List ℕ) (done : List (Handed WindowBlock)) → length given + length octets < 2 ^ 60 → InnerReceiverStandsFor before given done
+    → (h : HandsPrefix took broke PhasesFor (IsFirstBy before.config) before.phased taker taker_now
+    (soft_form before.config (drop skipped octets)))
+    → (given : List ℕ) (done : List (Handed WindowBlock)) → length given + length octets < 2 ^ 60
+    → InnerReceiverStandsFor before given done
     → AreHandedFirst before.config (given ++ octets) (done ++ h.tried)
 prefix-further took broke before taker taker_now octets skipped skip h given done few stood =
     let c = before.config in
-    let all = phase_octets-more c given octets skipped (skip ∙ ap (λ (n : ℕ). min (skipped_at c.inner c - n) (length octets)) (sym stood.count)) in
-    let size : length (soft_form c (drop skipped octets)) ≤ length octets = omega (arith, length-map (drop skipped octets) (soft_value c), length-drop skipped octets) in
-    handed-first c (given ++ octets) (done ++ h.tried) (subst (λ (l : List ℕ). IsFirstBy c l (done ++ h.tried)) (sym all)
+    let all = phase_octets-more c given octets skipped (skip
+    ∙ ap (λ (n : ℕ). min (skipped_at c.inner c - n) (length octets)) (sym stood.count)) in
+    let size : length (soft_form c (drop skipped octets)) ≤ length octets =
+    omega (arith, length-map (drop skipped octets) (soft_value c), length-drop skipped octets) in
+    handed-first c (given ++ octets) (done ++ h.tried) (subst (λ (l : List ℕ). IsFirstBy c l (done ++ h.tried))
+    (sym all)
     (h.first (phase_octets c given) done (omega (arith, few, few-soft c given, size)) stood.phases))
 
-pub chosen-further : (before : InnerReceiving) (chosen : Option Chosen) (octets piece : List ℕ) (skipped : ℕ) → before.phased.config ≡ before.config → piece ≡ drop skipped octets
+pub chosen-further : (before : InnerReceiving) (chosen : Option Chosen) (octets piece : List ℕ) (skipped : ℕ)
+    → before.phased.config ≡ before.config → piece ≡ drop skipped octets
     → skipped ≡ min (skipped_at before.config.inner before.config - before.count) (length octets)
-    → ((soft : List ℕ) (done : List (Handed WindowBlock)) → PhasesFor before.phased soft done → IsSoFarBy before.phased.config (soft ++ soft_form before.phased.config piece) chosen)
-    → (given : List ℕ) (done : List (Handed WindowBlock)) → InnerReceiverStandsFor before given done → IsChosenSoFar before.config (given ++ octets) chosen
+    → ((soft : List ℕ) (done : List (Handed WindowBlock)) → PhasesFor before.phased soft done
+    → IsSoFarBy before.phased.config (soft ++ soft_form before.phased.config piece) chosen)
+    → (given : List ℕ) (done : List (Handed WindowBlock)) → InnerReceiverStandsFor before given done
+    → IsChosenSoFar before.config (given ++ octets) chosen
 chosen-further before chosen octets piece skipped inside is skip so_far given done stood =
     let c = before.config in
-    let all = phase_octets-more c given octets skipped (skip ∙ ap (λ (n : ℕ). min (skipped_at c.inner c - n) (length octets)) (sym stood.count)) in
-    let there = subst (λ (k : Configuration). IsSoFarBy k (phase_octets c given ++ soft_form k piece) chosen) inside (so_far (phase_octets c given) done stood.phases) in
-    subst (λ (l : List ℕ). IsSoFarBy c l chosen) (ap (λ (l : List ℕ). phase_octets c given ++ soft_form c l) is ∙ sym all) there
+    let all = phase_octets-more c given octets skipped (skip
+    ∙ ap (λ (n : ℕ). min (skipped_at c.inner c - n) (length octets)) (sym stood.count)) in
+    let there = subst (λ (k : Configuration). IsSoFarBy k (phase_octets c given ++ soft_form k piece) chosen) inside
+    (so_far (phase_octets c given) done stood.phases) in
+    subst (λ (l : List ℕ). IsSoFarBy c l chosen) (ap (λ (l : List ℕ). phase_octets c given ++ soft_form c l) is
+    ∙ sym all) there
 
 -- ---- the end
 
 pub chosen-last : (r : InnerReceiving) (chosen : Option Chosen) → r.phased.config ≡ r.config
-    → ((soft : List ℕ) (done : List (Handed WindowBlock)) → PhasesFor r.phased soft done → IsChosenBy r.phased.config soft chosen)
+    → ((soft : List ℕ) (done : List (Handed WindowBlock)) → PhasesFor r.phased soft done
+    → IsChosenBy r.phased.config soft chosen)
     → (given : List ℕ) (done : List (Handed WindowBlock)) → InnerReceiverStandsFor r given done
     → IsChosen r.config given chosen
 chosen-last r chosen inside is given done stood =
-    subst (λ (k : Configuration). IsChosenBy k (phase_octets r.config given) chosen) inside (is (phase_octets r.config given) done stood.phases)
+    subst (λ (k : Configuration). IsChosenBy k (phase_octets r.config given) chosen) inside
+    (is (phase_octets r.config given) done stood.phases)
 
 -- what came of all octets, by what was counted of the blocks
 abbrev pub Counted : InnerReceiving → (phase bits : ℕ) → Option ℕ → Option InnerDecoder → Type 0
-Counted r phase bits slips now = (given : List ℕ) (blocks : List WindowBlock) (left : ℕ) → length given ≡ r.count → length given < 2 ^ 60
+Counted r phase bits slips now =
+    (given : List ℕ) (blocks : List WindowBlock) (left : ℕ) → length given ≡ r.count → length given < 2 ^ 60
     → AreInnerBlocks r.config phase given blocks left → HasCountedAll now blocks
     → (bits ≡ length (inner_bits r.config given blocks)) × (slips ≡ reported_slips r.config blocks)
 
-pub all-handed : (r : InnerReceiving) (now : Option InnerDecoder) (chosen : Option Chosen) (last : List (Handed WindowBlock)) (bits left : ℕ) (slips : Option ℕ)
+pub all-handed : (r : InnerReceiving) (now : Option InnerDecoder) (chosen : Option Chosen)
+    (last : List (Handed WindowBlock)) (bits left : ℕ) (slips : Option ℕ)
     → r.phased.config ≡ r.config → Counted r (skip_of chosen) bits slips now
-    → ((given : List ℕ) (done : List (Handed WindowBlock)) → length given < 2 ^ 60 → PhasesFor r.phased (phase_octets r.phased.config given) done
+    → ((given : List ℕ) (done : List (Handed WindowBlock)) → length given < 2 ^ 60
+    → PhasesFor r.phased (phase_octets r.phased.config given) done
     → AllCounted r.phased.config given (done ++ last) left chosen now)
     → (given : List ℕ) (done : List (Handed WindowBlock)) → InnerReceiverStandsFor r given done
-    → AreHanded r.config given (done ++ last) left × (bits ≡ length (inner_bits r.config given (items_of (done ++ last))))
+    → AreHanded r.config given (done ++ last) left × (bits ≡ length
+    (inner_bits r.config given (items_of (done ++ last))))
     × (slips ≡ reported_slips r.config (items_of (done ++ last)))
 all-handed r now chosen last bits left slips inside counts handed given done stood =
     let c = r.config in
     let h : AllCounted c given (done ++ last) left chosen now =
-    subst (λ (k : Configuration). PhasesFor r.phased (phase_octets k given) done → AllCounted k given (done ++ last) left chosen now) inside
+    subst (λ (k : Configuration). PhasesFor r.phased (phase_octets k given) done
+    → AllCounted k given (done ++ last) left chosen now) inside
     (handed given done stood.few) stood.phases in
     let all = h.0 in
     let items : items_of (done ++ last) ≡ all.items = ap items_of all.are ∙ items_of-with_phase all.chosen all.items in
-    let said = counts given all.items left stood.count stood.few (subst (λ (o : Option Chosen). AreInnerBlocks c (skip_of o) given all.items left) h.1 all.are_items) h.2 in (
+    let said = counts given all.items left stood.count stood.few
+    (subst (λ (o : Option Chosen). AreInnerBlocks c (skip_of o) given all.items left) h.1 all.are_items) h.2 in (
       all,
       said.0 ∙ ap (λ (l : List WindowBlock). length (inner_bits c given l)) (sym items),
       said.1 ∙ ap (reported_slips c) (sym items),

@@ -14,7 +14,8 @@ use Rattle.tm_inner.specs.Inner.{nearest_bit, plain_bits_by, plain_bits, plain_c
 
 -- ---- one list after another
 
-append-by : (pack : Bool) (c : Configuration) (xs ys : List ℕ) → plain_bits_by pack c (xs ++ ys) ≡ plain_bits_by pack c xs ++ plain_bits_by pack c ys
+append-by : (pack : Bool) (c : Configuration) (xs ys : List ℕ)
+    → plain_bits_by pack c (xs ++ ys) ≡ plain_bits_by pack c xs ++ plain_bits_by pack c ys
 append-by true c xs ys = bits_of-append xs ys
 append-by false c xs ys = map-append (nearest_bit c) xs ys
 
@@ -35,7 +36,8 @@ bits-nil (Some rate) c = refl
 
 -- ---- how many they are
 
-length-by : (pack : Bool) (c : Configuration) (octets : List ℕ) → length (plain_bits_by pack c octets) ≡ (if pack then 8 * length octets else length octets)
+length-by : (pack : Bool) (c : Configuration) (octets : List ℕ)
+    → length (plain_bits_by pack c octets) ≡ (if pack then 8 * length octets else length octets)
 length-by true c octets = length-bits_of octets
 length-by false c octets = length-map octets (nearest_bit c)
 
@@ -59,21 +61,25 @@ bit-sent : (c : Configuration) (bit : Bool) → nearest_bit c (level (low_level 
 bit-sent c bit = go c.soft bit
   where
     go : (form : SoftForm) (bit : Bool)
-        → (let octet = level (low_level form) (bit_number bit) in nat_le 128 (if is_signed form then (octet + 128) % 256 else octet)) ≡ bit
+        → (let octet = level (low_level form) (bit_number bit) in
+        nat_le 128 (if is_signed form then (octet + 128) % 256 else octet)) ≡ bit
     go Unsigned true = refl
     go Unsigned false = refl
     go Signed true = refl
     go Signed false = refl
 
-bits-sent : (c : Configuration) (bits : List Bool) → map (nearest_bit c) (levels (low_level c.soft) (bit_numbers bits)) ≡ bits
+bits-sent : (c : Configuration) (bits : List Bool) → map (nearest_bit c)
+    (levels (low_level c.soft) (bit_numbers bits)) ≡ bits
 bits-sent c [] = refl
 bits-sent c (bit ∷ bits) = (λ i. bit-sent c bit i ∷ bits-sent c bits i)
 
-sent-by : (pack : Bool) (c : Configuration) (octets : List ℕ) → plain_bits_by pack c (plain_symbols pack c (bits_of octets)) ≡ bits_of octets
+sent-by : (pack : Bool) (c : Configuration) (octets : List ℕ)
+    → plain_bits_by pack c (plain_symbols pack c (bits_of octets)) ≡ bits_of octets
 sent-by true c octets = bits_of-octets_of (bits_of octets) (omega (arith, length-bits_of octets))
 sent-by false c octets = bits-sent c (bits_of octets)
 
-pub plain-sent : (c : Configuration) (octets : List ℕ) → plain_bits c (plain_symbols c.pack c (bits_of octets)) ≡ bits_of octets
+pub plain-sent : (c : Configuration) (octets : List ℕ) → plain_bits c (plain_symbols c.pack c (bits_of octets))
+    ≡ bits_of octets
 plain-sent c octets = sent-by c.pack c octets
 
 -- ---- packed or not
@@ -81,7 +87,8 @@ plain-sent c octets = sent-by c.pack c octets
 pub plain-packed : (c : Configuration) (octets : List ℕ) → c.pack ≡ true → plain_bits c octets ≡ bits_of octets
 plain-packed c octets is = ap (λ (pack : Bool). plain_bits_by pack c octets) is
 
-pub plain-nearest : (c : Configuration) (octets : List ℕ) → c.pack ≡ false → plain_bits c octets ≡ map (nearest_bit c) octets
+pub plain-nearest : (c : Configuration) (octets : List ℕ) → c.pack ≡ false
+    → plain_bits c octets ≡ map (nearest_bit c) octets
 plain-nearest c octets is = ap (λ (pack : Bool). plain_bits_by pack c octets) is
 
 -- ---- bits that are nearest to octets, after the first ones
@@ -90,7 +97,8 @@ pub nearest-after : (c : Configuration) (skip from : ℕ) (octets bits : List �
     → map (λ bit. bit == 1) bits ≡ map (nearest_bit c) (take (length octets - from) (drop from octets))
     → map (λ bit. bit == 1) bits ≡ drop skip (map (nearest_bit c) octets)
 nearest-after c skip from octets bits is are =
-    are ∙ ap (map (nearest_bit c)) (take_rest octets from ∙ ap (λ n. drop n octets) is ∙ drop_min skip octets) ∙ sym (drop-map (nearest_bit c) skip octets)
+    are ∙ ap (map (nearest_bit c)) (take_rest octets from ∙ ap (λ n. drop n octets) is ∙ drop_min skip octets)
+    ∙ sym (drop-map (nearest_bit c) skip octets)
 
 -- ---- an octet's bit, read from its soft value
 

@@ -21,7 +21,8 @@ use Rattle.tm_inner.specs.Inner.{settings_of, soft_value, soft_octets, BlocksAt,
 
 -- ---- the whole steps of symbols
 
--- of a period and one more symbol each period has its steps, and after the whole periods each symbol but the first ends a step
+-- of a period and one more symbol each period has its steps, and after the whole periods each
+-- symbol but the first ends a step
 abbrev steps_of : ℕ → ℕ → ℕ
 steps_of period n = n / (period + 1) * period + (n % (period + 1) - 1)
 
@@ -32,30 +33,46 @@ whole-steps : (rate : Rate) (n : ℕ) → AreWhole rate n (steps_of (period rate
 whole-steps R12 n =
     let m : ℕ = n / 2 * 1 + (n % 2 - 1) in
     let a : steps_size R12 0 m ≡ m + (m / 1 + min 1 (m % 1)) = steps_size-is R12 m in
-    let b : steps_size R12 0 (m + 1) ≡ m + 1 + ((m + 1) / 1 + min 1 ((m + 1) % 1)) = steps_size-is R12 (m + 1) in
-    (let goal : steps_size R12 0 m ≤ n = omega (arith, a) in goal, let goal : n < steps_size R12 0 (m + 1) = omega (arith, b) in goal)
+    let b : steps_size R12 0 (m + 1) ≡ m + 1 + ((m + 1) / 1 + min 1 ((m + 1) % 1)) = steps_size-is R12 (m + 1) in (
+      let goal : steps_size R12 0 m ≤ n = omega (arith, a) in
+          goal,
+      let goal : n < steps_size R12 0 (m + 1) = omega (arith, b) in goal,
+    )
 whole-steps R23 n =
     let m : ℕ = n / 3 * 2 + (n % 3 - 1) in
     let a : steps_size R23 0 m ≡ m + (m / 2 + min 1 (m % 2)) = steps_size-is R23 m in
-    let b : steps_size R23 0 (m + 1) ≡ m + 1 + ((m + 1) / 2 + min 1 ((m + 1) % 2)) = steps_size-is R23 (m + 1) in
-    (let goal : steps_size R23 0 m ≤ n = omega (arith, a) in goal, let goal : n < steps_size R23 0 (m + 1) = omega (arith, b) in goal)
+    let b : steps_size R23 0 (m + 1) ≡ m + 1 + ((m + 1) / 2 + min 1 ((m + 1) % 2)) = steps_size-is R23 (m + 1) in (
+      let goal : steps_size R23 0 m ≤ n = omega (arith, a) in
+          goal,
+      let goal : n < steps_size R23 0 (m + 1) = omega (arith, b) in goal,
+    )
 whole-steps R34 n =
     let m : ℕ = n / 4 * 3 + (n % 4 - 1) in
     let a : steps_size R34 0 m ≡ m + (m / 3 + min 1 (m % 3)) = steps_size-is R34 m in
-    let b : steps_size R34 0 (m + 1) ≡ m + 1 + ((m + 1) / 3 + min 1 ((m + 1) % 3)) = steps_size-is R34 (m + 1) in
-    (let goal : steps_size R34 0 m ≤ n = omega (arith, a) in goal, let goal : n < steps_size R34 0 (m + 1) = omega (arith, b) in goal)
+    let b : steps_size R34 0 (m + 1) ≡ m + 1 + ((m + 1) / 3 + min 1 ((m + 1) % 3)) = steps_size-is R34 (m + 1) in (
+      let goal : steps_size R34 0 m ≤ n = omega (arith, a) in
+          goal,
+      let goal : n < steps_size R34 0 (m + 1) = omega (arith, b) in goal,
+    )
 whole-steps R56 n =
     let m : ℕ = n / 6 * 5 + (n % 6 - 1) in
     let a : steps_size R56 0 m ≡ m + (m / 5 + min 1 (m % 5)) = steps_size-is R56 m in
-    let b : steps_size R56 0 (m + 1) ≡ m + 1 + ((m + 1) / 5 + min 1 ((m + 1) % 5)) = steps_size-is R56 (m + 1) in
-    (let goal : steps_size R56 0 m ≤ n = omega (arith, a) in goal, let goal : n < steps_size R56 0 (m + 1) = omega (arith, b) in goal)
+    let b : steps_size R56 0 (m + 1) ≡ m + 1 + ((m + 1) / 5 + min 1 ((m + 1) % 5)) = steps_size-is R56 (m + 1) in (
+      let goal : steps_size R56 0 m ≤ n = omega (arith, a) in
+          goal,
+      let goal : n < steps_size R56 0 (m + 1) = omega (arith, b) in goal,
+    )
 whole-steps R78 n =
     let m : ℕ = n / 8 * 7 + (n % 8 - 1) in
     let a : steps_size R78 0 m ≡ m + (m / 7 + min 1 (m % 7)) = steps_size-is R78 m in
-    let b : steps_size R78 0 (m + 1) ≡ m + 1 + ((m + 1) / 7 + min 1 ((m + 1) % 7)) = steps_size-is R78 (m + 1) in
-    (let goal : steps_size R78 0 m ≤ n = omega (arith, a) in goal, let goal : n < steps_size R78 0 (m + 1) = omega (arith, b) in goal)
+    let b : steps_size R78 0 (m + 1) ≡ m + 1 + ((m + 1) / 7 + min 1 ((m + 1) % 7)) = steps_size-is R78 (m + 1) in (
+      let goal : steps_size R78 0 m ≤ n = omega (arith, a) in
+          goal,
+      let goal : n < steps_size R78 0 (m + 1) = omega (arith, b) in goal,
+    )
 
-pub whole_steps : (rate : Rate) (n p rest : ℕ) → p ≡ period rate → rest ≡ n % (p + 1) - 1 → AreWhole rate n (n / (p + 1) * p + rest)
+pub whole_steps : (rate : Rate) (n p rest : ℕ) → p ≡ period rate → rest ≡ n % (p + 1) - 1
+    → AreWhole rate n (n / (p + 1) * p + rest)
 whole_steps rate n p rest same is =
     subst (λ (r : ℕ). AreWhole rate n (n / (p + 1) * p + r)) (sym is)
     (subst (λ (q : ℕ). AreWhole rate n (steps_of q n)) (sym same) (whole-steps rate n))
@@ -67,7 +84,8 @@ one-count rate n count other a b =
     let down = least rate n other count a.1 b.0 in
     omega arith
   where
-    least : (rate : Rate) (n count other : ℕ) → n < steps_size rate 0 (other + 1) → steps_size rate 0 count ≤ n → count ≤ other
+    least : (rate : Rate) (n count other : ℕ) → n < steps_size rate 0 (other + 1) → steps_size rate 0 count ≤ n
+        → count ≤ other
     least rate n count other most le = elim (cases_lt other count) as (λ _. count ≤ other) [
       | inl less ↦ absurd (omega (arith, most, le, steps-mono rate 0 (other + 1) count (omega arith)))
       | inr there ↦ there
@@ -79,15 +97,19 @@ pub kept-le : (keep ahead n : ℕ) → kept_steps keep ahead n ≤ window_steps 
 kept-le keep ahead n = grind (arith, nat_tests)
 
 -- a block has a bit for each step
-pub block-bits : (rate : Rate) (invert : Bool) (keep ahead : ℕ) (starts : Option ℕ) (t n : ℕ) (octets : List ℕ) (b : WindowBlock) → steps_size rate t n ≤ length octets
+pub block-bits : (rate : Rate) (invert : Bool) (keep ahead : ℕ) (starts : Option ℕ) (t n : ℕ) (octets : List ℕ)
+    (b : WindowBlock) → steps_size rate t n ≤ length octets
     → IsBlock rate invert keep ahead starts t n octets b → length b.bits ≡ b.steps
 block-bits rate invert keep ahead starts t n octets b whole is =
-    let inside : steps_size rate t b.steps ≤ length octets = omega (arith, whole, steps-mono rate t b.steps n (omega (arith, is.steps))) in
+    let inside : steps_size rate t b.steps ≤ length octets =
+    omega (arith, whole, steps-mono rate t b.steps n (omega (arith, is.steps))) in
     let size : steps_size rate t (length b.bits) ≡ steps_size rate t b.steps =
-    sym (length-path rate invert t b.start b.bits) ∙ is.best.candidate.covers ∙ omega (arith, inside, length-take (steps_size rate t b.steps) octets) in
+    sym (length-path rate invert t b.start b.bits) ∙ is.best.candidate.covers
+    ∙ omega (arith, inside, length-take (steps_size rate t b.steps) octets) in
     same_from_steps_size rate t (length b.bits) b.steps size
 
-pub kept-count : (rate : Rate) (invert : Bool) (keep ahead : ℕ) (starts : Option ℕ) (t n : ℕ) (octets : List ℕ) (blocks : List WindowBlock) → steps_size rate t n ≤ length octets
+pub kept-count : (rate : Rate) (invert : Bool) (keep ahead : ℕ) (starts : Option ℕ) (t n : ℕ) (octets : List ℕ)
+    (blocks : List WindowBlock) → steps_size rate t n ≤ length octets
     → AreBlocks rate invert keep ahead starts t n octets blocks → length (kept_bits blocks) ≡ n
 kept-count rate invert keep ahead starts t n octets [] whole are = sym are
 kept-count rate invert keep ahead starts t n octets (b ∷ blocks) whole are =
@@ -96,44 +118,64 @@ kept-count rate invert keep ahead starts t n octets (b ∷ blocks) whole are =
     let most : b.steps ≤ n = omega (arith, is.steps) in
     let sum : b.kept + (n - b.kept) ≡ n = omega arith in
     let rest : steps_size rate (t + b.kept) (n - b.kept) ≤ length (drop (steps_size rate t b.kept) octets) =
-    omega (arith, whole, length-drop (steps_size rate t b.kept) octets, steps_size-add rate t b.kept (n - b.kept), ap (steps_size rate t) sum) in
-    let after = kept-count rate invert keep ahead (Some b.end_state) (t + b.kept) (n - b.kept) (drop (steps_size rate t b.kept) octets) blocks rest are.2 in
-    let prefix : length (take b.kept b.bits) ≡ b.kept = omega (arith, length-take b.kept b.bits, block-bits rate invert keep ahead starts t n octets b whole is) in
+    omega (
+      arith,
+      whole,
+      length-drop (steps_size rate t b.kept) octets,
+      steps_size-add rate t b.kept (n - b.kept),
+      ap (steps_size rate t) sum,
+    ) in
+    let after = kept-count rate invert keep ahead (Some b.end_state) (t + b.kept) (n - b.kept)
+    (drop (steps_size rate t b.kept) octets) blocks rest are.2 in
+    let prefix : length (take b.kept b.bits) ≡ b.kept = omega
+    (arith, length-take b.kept b.bits, block-bits rate invert keep ahead starts t n octets b whole is) in
     omega (arith, length-append (take b.kept b.bits) (kept_bits blocks), prefix, after)
 
 -- ---- the bits of octets
 
-pub length-soft : (c : Configuration) (phase : ℕ) (given : List ℕ) → length (soft_octets c phase given) ≡ length given - c.skip - phase
-length-soft c phase given = length-map (drop phase (drop c.skip given)) (soft_value c) ∙ omega (arith, length-drop phase (drop c.skip given), length-drop c.skip given)
+pub length-soft : (c : Configuration) (phase : ℕ) (given : List ℕ)
+    → length (soft_octets c phase given) ≡ length given - c.skip - phase
+length-soft c phase given =
+    length-map (drop phase (drop c.skip given)) (soft_value c)
+    ∙ omega (arith, length-drop phase (drop c.skip given), length-drop c.skip given)
 
-pub bits-coded : (c : Configuration) (rate : Rate) (phase n m : ℕ) (given : List ℕ) (blocks : List WindowBlock) (left : ℕ) → c.inner ≡ Some rate → c.follow ≡ false → length given ≡ n
-    → AreWhole rate (n - c.skip - phase) m → AreInnerBlocks c phase given blocks left → m ≡ length (inner_bits c given blocks)
+pub bits-coded : (c : Configuration) (rate : Rate) (phase n m : ℕ) (given : List ℕ) (blocks : List WindowBlock)
+    (left : ℕ) → c.inner ≡ Some rate → c.follow ≡ false → length given ≡ n
+    → AreWhole rate (n - c.skip - phase) m → AreInnerBlocks c phase given blocks left
+    → m ≡ length (inner_bits c given blocks)
 bits-coded c rate phase n m given blocks left is plain long whole are =
     subst (λ (r : Option Rate). BlocksAt r c phase given blocks left → m ≡ length (bits_at r c given blocks)) (sym is)
     (λ at. counted (blocks-unfollowed c rate (soft_octets c phase given) blocks left plain at)) are
   where
-    counted : AreBlocksOf (settings_of c rate) (soft_octets c phase given) blocks left → m ≡ length (map (λ bit. bit == 1) (kept_bits blocks))
+    counted : AreBlocksOf (settings_of c rate) (soft_octets c phase given) blocks left
+        → m ≡ length (map (λ bit. bit == 1) (kept_bits blocks))
     counted of =
         let s = settings_of c rate in
-        let size : length (soft_octets c phase given) ≡ n - c.skip - phase = length-soft c phase given ∙ ap (λ k. k - c.skip - phase) long in
-        let steps : AreWhole rate (n - c.skip - phase) of.count = (omega (arith, size, of.steps.whole), omega (arith, size, of.steps.most)) in
+        let size : length (soft_octets c phase given) ≡ n - c.skip - phase = length-soft c phase given
+        ∙ ap (λ k. k - c.skip - phase) long in
+        let steps : AreWhole rate (n - c.skip - phase) of.count =
+        (omega (arith, size, of.steps.whole), omega (arith, size, of.steps.most)) in
         let same : m ≡ of.count = one-count rate (n - c.skip - phase) m of.count whole steps in
-        let kept = kept-count rate s.invert s.keep s.ahead (first_start s.start) 0 of.count (soft_octets c phase given) blocks of.steps.whole of.are in
+        let kept = kept-count rate s.invert s.keep s.ahead (first_start s.start) 0 of.count
+        (soft_octets c phase given) blocks of.steps.whole of.are in
         same ∙ sym kept ∙ sym (length-map (kept_bits blocks) (λ bit. bit == 1))
 
-pub bits-plain : (c : Configuration) (n m : ℕ) (given : List ℕ) (blocks : List WindowBlock) → c.inner ≡ None → length given ≡ n
+pub bits-plain : (c : Configuration) (n m : ℕ) (given : List ℕ) (blocks : List WindowBlock) → c.inner ≡ None
+    → length given ≡ n
     → m ≡ plain_count c n - c.skip → m ≡ length (inner_bits c given blocks)
 bits-plain c n m given blocks none long is =
     subst (λ (r : Option Rate). m ≡ length (bits_at r c given blocks)) (sym none)
     (omega (arith, is, ap (plain_count c) long, length-drop c.skip (plain_bits c given), length-plain c given))
 
 -- the bits of a longer list, with no inner code
-pub bits-further : (c : Configuration) (given octets : List ℕ) (n : ℕ) → c.inner ≡ None → n ≡ c.skip - plain_count c (length given)
+pub bits-further : (c : Configuration) (given octets : List ℕ) (n : ℕ) → c.inner ≡ None
+    → n ≡ c.skip - plain_count c (length given)
     → inner_bits c (given ++ octets) [] ≡ inner_bits c given [] ++ drop n (plain_bits c octets)
 bits-further c given octets n none is =
     let before = plain_bits c given in
     let more = plain_bits c octets in
     let same : c.skip - length before ≡ n = omega (arith, is, length-plain c given) in
     let plain : drop c.skip (plain_bits c (given ++ octets)) ≡ drop c.skip before ++ drop n more =
-    ap (drop c.skip) (plain-append c given octets) ∙ drop-split c.skip before more ∙ ap (λ k. drop c.skip before ++ drop k more) same in
+    ap (drop c.skip) (plain-append c given octets) ∙ drop-split c.skip before more
+    ∙ ap (λ k. drop c.skip before ++ drop k more) same in
     subst (λ (r : Option Rate). bits_at r c (given ++ octets) [] ≡ bits_at r c given [] ++ drop n more) (sym none) plain

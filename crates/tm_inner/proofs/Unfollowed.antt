@@ -17,33 +17,43 @@ use Rattle.tm_inner.specs.Phase.{IsChosen, IsSettled, PhaseAt, needed_at, phase_
 abbrev pub unseen : Settings → Windows
 unseen settings = record { settings = settings; seen = None }
 
-pub unfollowed-windows : (c : Configuration) (rate : Rate) → c.follow ≡ false → windows_of c rate ≡ unseen (settings_of c rate)
+pub unfollowed-windows : (c : Configuration) (rate : Rate) → c.follow ≡ false
+    → windows_of c rate ≡ unseen (settings_of c rate)
 unfollowed-windows c rate is =
-    ap (λ (follow : Bool). let w : Windows = record { settings = settings_of c rate; seen = if follow then Some (steps_seen c.keep c.ahead) else None } in w) is
+    ap (λ (follow : Bool). let w : Windows = record {
+      settings = settings_of c rate;
+      seen = if follow then Some (steps_seen c.keep c.ahead) else None;
+    } in w) is
 
 -- and where no slip is looked for, it is not followed
-unseen-not : (follow : Bool) (steps : ℕ) → ◌≡◌ {A = Option ℕ} (if follow then Some steps else None) None → follow ≡ false
+unseen-not : (follow : Bool) (steps : ℕ) → ◌≡◌ {A = Option ℕ} (if follow then Some steps else None) None
+    → follow ≡ false
 unseen-not false steps is = refl
 unseen-not true steps is = absurd cc
 
 pub unseen-unfollowed : (c : Configuration) (rate : Rate) → (windows_of c rate).seen ≡ None → c.follow ≡ false
 unseen-unfollowed c rate is = unseen-not c.follow (steps_seen c.keep c.ahead) is
 
-pub blocks-unfollowed : (c : Configuration) (rate : Rate) (soft : List ℕ) (blocks : List WindowBlock) (left : ℕ) → c.follow ≡ false
+pub blocks-unfollowed : (c : Configuration) (rate : Rate) (soft : List ℕ) (blocks : List WindowBlock) (left : ℕ)
+    → c.follow ≡ false
     → AreBlocksIn (windows_of c rate) soft blocks left → AreBlocksOf (settings_of c rate) soft blocks left
-blocks-unfollowed c rate soft blocks left is h = subst (λ (w : Windows). AreBlocksIn w soft blocks left) (unfollowed-windows c rate is) h
+blocks-unfollowed c rate soft blocks left is h =
+    subst (λ (w : Windows). AreBlocksIn w soft blocks left) (unfollowed-windows c rate is) h
 
 pub due-unfollowed : (c : Configuration) (rate : Rate) (soft : List ℕ) (blocks : List WindowBlock) → c.follow ≡ false
     → AreDueIn (windows_of c rate) soft blocks → AreDue (settings_of c rate) soft blocks
-due-unfollowed c rate soft blocks is h = subst (λ (w : Windows). AreDueIn w soft blocks) (unfollowed-windows c rate is) h
+due-unfollowed c rate soft blocks is h =
+    subst (λ (w : Windows). AreDueIn w soft blocks) (unfollowed-windows c rate is) h
 
 pub first-unfollowed : (c : Configuration) (rate : Rate) (soft : List ℕ) (blocks : List WindowBlock) → c.follow ≡ false
     → AreFirstIn (windows_of c rate) soft blocks → AreFirst (settings_of c rate) soft blocks
-first-unfollowed c rate soft blocks is h = subst (λ (w : Windows). AreFirstIn w soft blocks) (unfollowed-windows c rate is) h
+first-unfollowed c rate soft blocks is h =
+    subst (λ (w : Windows). AreFirstIn w soft blocks) (unfollowed-windows c rate is) h
 
 pub first-windows : (c : Configuration) (rate : Rate) (soft : List ℕ) (blocks : List WindowBlock) → c.follow ≡ false
     → AreFirst (settings_of c rate) soft blocks → AreFirstIn (windows_of c rate) soft blocks
-first-windows c rate soft blocks is h = subst (λ (w : Windows). AreFirstIn w soft blocks) (sym (unfollowed-windows c rate is)) h
+first-windows c rate soft blocks is h =
+    subst (λ (w : Windows). AreFirstIn w soft blocks) (sym (unfollowed-windows c rate is)) h
 
 -- ---- the decoder of a configuration
 

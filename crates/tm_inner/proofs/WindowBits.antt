@@ -60,16 +60,26 @@ closed-later s from to (b ∷ prefix) blocks closed =
     closed-later s (after_block s.rate from b) to prefix blocks closed.1
 
 -- so many steps further are as many octets at least
-reach_with : (rate : Rate) (t n m k count : ℕ) → steps_size rate t (n + m) < steps_size rate t n + steps_size rate (t + n) (k + 1) + count → m ≤ k + count
+reach_with : (rate : Rate) (t n m k count : ℕ) → steps_size rate t (n + m)
+    < steps_size rate t n + steps_size rate (t + n) (k + 1) + count → m ≤ k + count
 reach_with rate t n m k count less = elim (cases_lt (k + count) m) as (λ _. m ≤ k + count) [
   | inl more ↦ (
       let split : m ≡ (k + 1) + (m - (k + 1)) = omega (arith, more) in
-      absurd (omega (arith, less, more, steps_size-add rate t n m, ap (steps_size rate (t + n)) split, steps_size-add rate (t + n) (k + 1) (m - (k + 1)), steps_size_ge rate (t + n + (k + 1)) (m - (k + 1))))
+      absurd (omega (
+        arith,
+        less,
+        more,
+        steps_size-add rate t n m,
+        ap (steps_size rate (t + n)) split,
+        steps_size-add rate (t + n) (k + 1) (m - (k + 1)),
+        steps_size_ge rate (t + n + (k + 1)) (m - (k + 1)),
+      ))
       )
   | inr there ↦ there
 ]
 
-pub past_with : (rate : Rate) (n all k count : ℕ) → steps_size rate 0 all < steps_size rate 0 n + steps_size rate (0 + n) (k + 1) + count → all ≤ n + k + count
+pub past_with : (rate : Rate) (n all k count : ℕ) → steps_size rate 0 all
+    < steps_size rate 0 n + steps_size rate (0 + n) (k + 1) + count → all ≤ n + k + count
 past_with rate n all k count less = elim (cases_lt n all) as (λ _. all ≤ n + k + count) [
   | inl more ↦ (
       let split : all ≡ n + (all - n) = omega (arith, more) in
@@ -81,7 +91,8 @@ past_with rate n all k count less = elim (cases_lt n all) as (λ _. all ≤ n + 
 -- ---- by whether it is
 
 -- the first blocks keep no more bits than the octets have, and neither do all
-pub first-keeps : (seen : Option ℕ) (w : Windows) (octets : List ℕ) (blocks : List WindowBlock) → AreFirstBy seen w octets blocks
+pub first-keeps : (seen : Option ℕ) (w : Windows) (octets : List ℕ) (blocks : List WindowBlock)
+    → AreFirstBy seen w octets blocks
     → length (kept_bits blocks) ≤ length octets
 first-keeps None w octets blocks h =
     let s = w.settings in
@@ -89,16 +100,26 @@ first-keeps None w octets blocks h =
     omega (arith, taken.octets, steps_size_ge s.rate 0 (length (kept_bits blocks)))
 first-keeps (Some steps) w octets blocks h = followed-few w octets blocks h
 
-pub whole-keeps : (seen : Option ℕ) (w : Windows) (octets : List ℕ) (blocks : List WindowBlock) (left : ℕ) → AreBlocksBy seen w octets blocks left
+pub whole-keeps : (seen : Option ℕ) (w : Windows) (octets : List ℕ) (blocks : List WindowBlock) (left : ℕ)
+    → AreBlocksBy seen w octets blocks left
     → length (kept_bits blocks) ≤ length octets
 whole-keeps None w octets blocks left h =
     let s = w.settings in
-    omega (arith, kept-count s.rate s.invert s.keep s.ahead (first_start s.start) 0 h.count octets blocks h.steps.whole h.are, h.steps.whole, steps_size_ge s.rate 0 h.count)
-whole-keeps (Some steps) w octets blocks left h = let k = followed-whole w octets blocks left h in omega (arith, k.bits, k.few)
+    omega (
+      arith,
+      kept-count s.rate s.invert s.keep s.ahead
+          (first_start s.start) 0 h.count octets blocks h.steps.whole h.are,
+      h.steps.whole,
+      steps_size_ge s.rate 0 h.count,
+    )
+whole-keeps (Some steps) w octets blocks left h =
+    let k = followed-whole w octets blocks left h in omega (arith, k.bits, k.few)
 
 -- the blocks of a window and of so many octets more keep no more bits than these have
-pub more-keeps : (seen : Option ℕ) (w : Windows) (given octets : List ℕ) (done all : List WindowBlock) → AreDueBy seen w given done
-    → AreFirstBy seen w (given ++ octets) all → length (kept_bits all) ≤ length (kept_bits done) + w.settings.keep + w.settings.ahead + length octets
+pub more-keeps : (seen : Option ℕ) (w : Windows) (given octets : List ℕ) (done all : List WindowBlock)
+    → AreDueBy seen w given done
+    → AreFirstBy seen w (given ++ octets) all → length (kept_bits all)
+    ≤ length (kept_bits done) + w.settings.keep + w.settings.ahead + length octets
 more-keeps None w given octets done all due first =
     let s = w.settings in
     let was = closed-taken s (first_place s given) due.to done due.closed in
@@ -117,21 +138,34 @@ more-keeps (Some steps) w given octets done all due first = omega (
   followed-keep w (first_spot w (given ++ octets)) first.0 all first.1,
 )
 
-pub last-keeps : (seen : Option ℕ) (w : Windows) (given : List ℕ) (done all : List WindowBlock) (left : ℕ) → AreDueBy seen w given done
-    → AreBlocksBy seen w given all left → length (kept_bits all) ≤ length (kept_bits done) + w.settings.keep + w.settings.ahead
+pub last-keeps : (seen : Option ℕ) (w : Windows) (given : List ℕ) (done all : List WindowBlock) (left : ℕ)
+    → AreDueBy seen w given done
+    → AreBlocksBy seen w given all left → length (kept_bits all)
+    ≤ length (kept_bits done) + w.settings.keep + w.settings.ahead
 last-keeps None w given done all left due whole =
     let s = w.settings in
     let was = closed-taken s (first_place s given) due.to done due.closed in
-    let same : length (kept_bits all) ≡ whole.count = kept-count s.rate s.invert s.keep s.ahead (first_start s.start) 0 whole.count given all whole.steps.whole whole.are in
+    let same : length (kept_bits all) ≡ whole.count = kept-count s.rate s.invert s.keep s.ahead
+    (first_start s.start) 0 whole.count given all whole.steps.whole whole.are in
     let few : length due.to.octets < steps_size s.rate (0 + length (kept_bits done)) (s.keep + s.ahead + 1) =
     subst (λ (t : ℕ). length due.to.octets < steps_size s.rate t (s.keep + s.ahead + 1)) was.step due.few in
-    omega (arith, past_with s.rate (length (kept_bits done)) (length (kept_bits all)) (s.keep + s.ahead) 0 (omega (arith, was.octets, few, whole.steps.whole, ap (steps_size s.rate 0) same)))
+    omega (
+      arith,
+      past_with s.rate (length (kept_bits done)) (length (kept_bits all)) (s.keep + s.ahead) 0
+          (omega (arith, was.octets, few, whole.steps.whole, ap (steps_size s.rate 0) same)),
+    )
 last-keeps (Some steps) w given done all left due whole =
     let k = followed-whole w given all left whole in
-    omega (arith, followed-last_few IsBest-unique w given done all left due whole, k.bits, followed-keep w (first_spot w given) due.to done due.closed)
+    omega (
+      arith,
+      followed-last_few IsBest-unique w given done all left due whole,
+      k.bits,
+      followed-keep w (first_spot w given) due.to done due.closed,
+    )
 
 -- the last of the blocks that are due keep `keep` bits each
-pub later-keeps : (seen : Option ℕ) (w : Windows) (given : List ℕ) (done more : List WindowBlock) → AreDueBy seen w given (done ++ more)
+pub later-keeps : (seen : Option ℕ) (w : Windows) (given : List ℕ) (done more : List WindowBlock)
+    → AreDueBy seen w given (done ++ more)
     → length (kept_bits more) ≡ length more * w.settings.keep
 later-keeps None w given done more due =
     closed-later w.settings (first_place w.settings given) due.to done more due.closed

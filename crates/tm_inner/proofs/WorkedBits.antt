@@ -27,11 +27,20 @@ row_short = refl
 row_settings : settings_of signed R12 ≡ record { rate = R12; invert = true; start = Any; keep = 64; ahead = 8 }
 row_settings = refl
 
-row_upright : settings_of (record signed { inner = Some R23; start = Zero }) R23 ≡ record { rate = R23; invert = false; start = Zero; keep = 64; ahead = 8 }
+row_upright : settings_of (record signed { inner = Some R23; start = Zero }) R23
+    ≡ record { rate = R23; invert = false; start = Zero; keep = 64; ahead = 8 }
 row_upright = refl
 
 -- of a block the first bits are kept
-row_kept : bits_at (Some R12) signed [] (record { start = 0; steps = 3; kept = 2; metric = 9; bits = 1 ∷ 0 ∷ 1 ∷ []; end_state = 16; dropped = 0 } ∷ []) ≡ true ∷ false ∷ []
+row_kept : bits_at (Some R12) signed [] (record {
+  start = 0;
+  steps = 3;
+  kept = 2;
+  metric = 9;
+  bits = 1 ∷ 0 ∷ 1 ∷ [];
+  end_state = 16;
+  dropped = 0;
+} ∷ []) ≡ true ∷ false ∷ []
 row_kept = refl
 
 -- with no inner code bits are skipped, not octets
@@ -40,10 +49,12 @@ unfolding low_bits
 row_bits = record { blocks = []; left = 0; are_blocks = (refl, refl); are_bits = refl }
 
 -- where bits are not packed each octet is the bit that it is nearest to, and as many are skipped
-row_nearest : Inner (record signed { inner = None; skip = 1; pack = false }) 0 (0x11 ∷ 0x80 ∷ 0xFF ∷ 0x00 ∷ 0x7F ∷ []) (false ∷ false ∷ true ∷ true ∷ [])
+row_nearest : Inner (record signed { inner = None; skip = 1; pack = false }) 0 (0x11 ∷ 0x80 ∷ 0xFF ∷ 0x00 ∷ 0x7F ∷ [])
+    (false ∷ false ∷ true ∷ true ∷ [])
 row_nearest = record { blocks = []; left = 0; are_blocks = (refl, refl); are_bits = refl }
 
-row_half : Inner (record signed { soft = Unsigned; inner = None; skip = 0; pack = false }) 0 (0x00 ∷ 0x7F ∷ 0x80 ∷ 0xFF ∷ []) (false ∷ false ∷ true ∷ true ∷ [])
+row_half : Inner (record signed { soft = Unsigned; inner = None; skip = 0; pack = false }) 0
+    (0x00 ∷ 0x7F ∷ 0x80 ∷ 0xFF ∷ []) (false ∷ false ∷ true ∷ true ∷ [])
 row_half = record { blocks = []; left = 0; are_blocks = (refl, refl); are_bits = refl }
 
 -- and each bit is sent as an octet of its own

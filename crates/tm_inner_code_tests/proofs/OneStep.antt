@@ -12,13 +12,16 @@ pub no_step : steps_size R12 0 0 ≡ 0
 unfolding steps_size
 no_step = refl
 
-pub room : (claim known : Claim) (count n : ℕ) → claim ≡ known → count ≡ n → steps_size known.rate known.first n ≤ length known.soft → steps_size claim.rate claim.first count ≤ length claim.soft
+pub room : (claim known : Claim) (count n : ℕ) → claim ≡ known → count ≡ n
+    → steps_size known.rate known.first n ≤ length known.soft
+    → steps_size claim.rate claim.first count ≤ length claim.soft
 room claim known count n e f h =
     let P : Claim → Type 0 = λ v. steps_size v.rate v.first count ≤ length v.soft in
     let Q : ℕ → Type 0 = λ v. steps_size known.rate known.first v ≤ length known.soft in
     subst P (sym e) (subst Q (sym f) h)
 
-pub room_end : (claim known : Claim) → claim ≡ known → length known.soft ≡ steps_size known.rate known.first 1 → length claim.soft ≡ steps_size claim.rate claim.first 1
+pub room_end : (claim known : Claim) → claim ≡ known → length known.soft ≡ steps_size known.rate known.first 1
+    → length claim.soft ≡ steps_size claim.rate claim.first 1
 room_end claim known e h =
     let P : Claim → Type 0 = λ v. length v.soft ≡ steps_size v.rate v.first 1 in
     subst P (sym e) h

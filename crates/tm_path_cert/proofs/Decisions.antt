@@ -30,7 +30,8 @@ one_more Test count all here k lt = elim (cases_order k count) as (λ _. Test k)
   | inr (inr more) ↦ absurd (omega arith)
 ]
 
-least_failing : (Test : ℕ → Type 0) (count : ℕ) → ((k : ℕ) → k < count → Decided (Test k)) → AllBelow Test count ⊎ LeastFailing Test count
+least_failing : (Test : ℕ → Type 0) (count : ℕ) → ((k : ℕ) → k < count → Decided (Test k)) → AllBelow Test count
+    ⊎ LeastFailing Test count
 least_failing Test zero decide = inl (λ k lt. absurd (omega arith))
 least_failing Test (suc count) decide = elim (least_failing Test count (λ k lt. decide k (omega arith))) [
   | inr l ↦ inr (record { place = l.place; below = omega (arith, l.below); fails = l.fails; before = l.before })
@@ -66,20 +67,26 @@ decide_where P Q (inr none) (inr fails) = inl (λ p. absurd (none p))
 decide_true : (b : Bool) → Decided (IsTrue b)
 decide_true b = elim (cases_Bool b) [ inl is ↦ inl is | inr not_so ↦ inr (λ is. both_ways b not_so is) ]
 
-decide_keeps : (edge : ℕ → ℕ → ℕ) (before column : List ℕ) (register : ℕ) → Decided (IsLowEnough edge before column register)
+decide_keeps : (edge : ℕ → ℕ → ℕ) (before column : List ℕ) (register : ℕ)
+    → Decided (IsLowEnough edge before column register)
 decide_keeps edge before column register =
-    let Edge : ℕ → ℕ → Type 0 = λ from bit. next_register from bit ≡ register → get_or column register 0 ≤ get_or before from 0 + edge from bit in
-    elim (decide_all (λ from. AllBelow (Edge from) 2) 64 (λ from small. decide_all (Edge from) 2 (λ bit lt. decide_where _ _ (decide_same _ _) (decide_le _ _)))) [
+    let Edge : ℕ → ℕ → Type 0 = λ from bit. next_register from bit ≡ register
+    → get_or column register 0 ≤ get_or before from 0 + edge from bit in
+    elim (decide_all (λ from. AllBelow (Edge from) 2) 64 (λ from small. decide_all (Edge from) 2
+    (λ bit lt. decide_where _ _ (decide_same _ _) (decide_le _ _)))) [
       | inl all ↦ inl (λ from bit small lt same. all from small bit lt same)
       | inr fails ↦ inr (λ keeps. fails (λ from small bit lt same. keeps from bit small lt same))
     ]
 
-decide_holds_at : (claim : Claim) (t : ℕ) (before column : List ℕ) (register : ℕ) → Decided (HoldsAt claim t before column register)
-decide_holds_at claim zero before column register = decide_where _ _ (decide_true (is_start claim.starts register)) (decide_same _ _)
+decide_holds_at : (claim : Claim) (t : ℕ) (before column : List ℕ) (register : ℕ)
+    → Decided (HoldsAt claim t before column register)
+decide_holds_at claim zero before column register =
+    decide_where _ _ (decide_true (is_start claim.starts register)) (decide_same _ _)
 decide_holds_at claim (suc k) before column register = decide_keeps (edge_cost claim k) before column register
 
 decide_holds : (claim : Claim) (columns : List (List ℕ)) (t register : ℕ) → Decided (Holds claim columns t register)
-decide_holds claim columns t register = decide_holds_at claim t (column_at columns (t - 1)) (column_at columns t) register
+decide_holds claim columns t register =
+    decide_holds_at claim t (column_at columns (t - 1)) (column_at columns t) register
 
 -- ---- the answer
 
@@ -91,30 +98,47 @@ record FirstWrong (claim : Claim) (columns : List (List ℕ)) : Type 0 where
 all_or_first_wrong : (claim : Claim) (columns : List (List ℕ)) → AllHold claim columns ⊎ FirstWrong claim columns
 all_or_first_wrong claim columns =
     let decide = decide_holds claim columns in
-    elim (least_failing (λ t. AllBelow (Holds claim columns t) 64) (length columns) (λ t lt. decide_all _ 64 (λ register small. decide t register))) [
+    elim (least_failing (λ t. AllBelow (Holds claim columns t) 64) (length columns)
+    (λ t lt. decide_all _ 64 (λ register small. decide t register))) [
       | inl all ↦ inl (λ t register lt small. all t lt register small)
       | inr l ↦ elim (least_failing (Holds claim columns l.place) 64 (λ register small. decide l.place register)) [
         | inl all ↦ absurd (l.fails all)
         | inr m ↦ inr (record {
           column = l.place;
           register = m.place;
-          is = record { column = l.below; below = m.below; wrong = m.fails; columns_before = λ u other lt small. l.before u lt other small; registers_before = m.before };
+          is =
+              record {
+                column = l.below;
+                below = m.below;
+                wrong = m.fails;
+                columns_before = λ u other lt small. l.before u lt other small;
+                registers_before = m.before;
+              };
         })
       ]
     ]
 
-pub IsVerdict-exists : (claim : Claim) (columns : List (List ℕ)) (register : ℕ) (bits : List ℕ) (metric : ℕ) → (verdict : Verdict) × IsVerdict claim columns register bits metric verdict
+pub IsVerdict-exists : (claim : Claim) (columns : List (List ℕ)) (register : ℕ) (bits : List ℕ) (metric : ℕ)
+    → (verdict : Verdict) × IsVerdict claim columns register bits metric verdict
 IsVerdict-exists claim columns register bits metric = elim (all_or_first_wrong claim columns) [
   | inr wrong ↦ (No wrong.column wrong.register, inl wrong.is)
-  | inl all ↦ elim (least_failing (λ state. metric ≤ get_or (last_of columns) state 0) 64 (λ state small. decide_le _ _)) [
-    | inr l ↦ (
-      No (length columns - 1) l.place,
-      inr (record { columns_hold = all; last = refl; below = l.below; less = elim (cases_lt (get_or (last_of columns) l.place 0) metric) [ inl less ↦ less | inr le ↦ absurd (l.fails le) ]; registers_before = l.before }),
-    )
-    | inl at_least ↦ (let pass : Pass claim columns metric = record { columns_hold = all; at_least = at_least } in
-        elim (decide_same (path_cost claim register bits) metric) [
-          | inl same ↦ (Yes, (pass, same))
-          | inr other ↦ (Sum (path_cost claim register bits), (pass, refl, other))
-        ])
-  ]
+  | inl all ↦ elim (least_failing (λ state. metric ≤ get_or (last_of columns) state 0) 64
+      (λ state small. decide_le _ _)) [
+        | inr l ↦ (
+          No (length columns - 1) l.place,
+          inr (record {
+            columns_hold = all;
+            last = refl;
+            below = l.below;
+            less = elim (cases_lt (get_or (last_of columns) l.place 0) metric)
+                [ inl less ↦ less | inr le ↦ absurd (l.fails le) ];
+            registers_before = l.before;
+          }),
+        )
+        | inl at_least ↦ (let pass : Pass claim columns metric = record { columns_hold = all; at_least = at_least } in
+            elim (decide_same (path_cost claim register bits) metric) [
+              | inl same ↦ (Yes, (pass, same))
+              | inr other ↦ (Sum (path_cost claim register bits), (pass, refl, other))
+            ])
+      ]
 ]

@@ -15,7 +15,8 @@ abbrev pub by_sums : List ℕ → ℕ → ℕ → ℕ
 by_sums costs register bit = get_or costs (2 * c1 register bit + c2 register bit) 0
 
 -- a list of four has at 2 * c + d what its entries are by c and d
-pub at_pair : (f : ℕ → ℕ → ℕ) (w x y z : ℕ) → w ≡ f 0 0 → x ≡ f 0 1 → y ≡ f 1 0 → z ≡ f 1 1 → (c d : ℕ) → c < 2 → d < 2 → get_or (w ∷ x ∷ y ∷ z ∷ []) (2 * c + d) 0 ≡ f c d
+pub at_pair : (f : ℕ → ℕ → ℕ) (w x y z : ℕ) → w ≡ f 0 0 → x ≡ f 0 1 → y ≡ f 1 0 → z ≡ f 1 1 → (c d : ℕ) → c < 2
+    → d < 2 → get_or (w ∷ x ∷ y ∷ z ∷ []) (2 * c + d) 0 ≡ f c d
 at_pair f w x y z ew ex ey ez zero zero cl dl = ew
 at_pair f w x y z ew ex ey ez zero (suc zero) cl dl = ex
 at_pair f w x y z ew ex ey ez (suc zero) zero cl dl = ey
@@ -57,8 +58,10 @@ odd_by_one j lt = omega arith
 
 -- ---- a register is kept by its two edges
 
-two_edges : (costs before sums : List ℕ) (j bit register p q : ℕ) → j < 32 → bit < 2 → register ≡ j + 32 * bit → p ≡ pair (2 * j) bit → q ≡ pair (2 * j + 1) bit
-    → get_or sums register 0 ≤ get_or before (2 * j) 0 + get_or costs p 0 → get_or sums register 0 ≤ get_or before (2 * j + 1) 0 + get_or costs q 0
+two_edges : (costs before sums : List ℕ) (j bit register p q : ℕ) → j < 32 → bit < 2 → register ≡ j + 32 * bit
+    → p ≡ pair (2 * j) bit → q ≡ pair (2 * j + 1) bit
+    → get_or sums register 0 ≤ get_or before (2 * j) 0 + get_or costs p 0
+    → get_or sums register 0 ≤ get_or before (2 * j + 1) 0 + get_or costs q 0
     → IsLowEnough (by_sums costs) before sums register
 two_edges costs before sums j bit register p q lt small at ep eq by_even by_odd from b from_small b_small same =
     let one : b ≡ bit = omega (arith, same, at) in
@@ -74,12 +77,16 @@ two_edges costs before sums j bit register p q lt small at ep eq by_even by_odd 
 
 -- where none of the four edges from registers 2 * j and 2 * j + 1 undercuts, both registers that they lead to are kept
 pub both_keep : (costs before sums : List ℕ) (j p : ℕ) → j < 32 → p ≡ pair (2 * j) 0
-    → (get_or sums j 0 ≤ get_or before (2 * j) 0 + get_or costs p 0) × (get_or sums j 0 ≤ get_or before (2 * j + 1) 0 + get_or costs (3 - p) 0)
-    → (get_or sums (j + 32) 0 ≤ get_or before (2 * j) 0 + get_or costs (3 - p) 0) × (get_or sums (j + 32) 0 ≤ get_or before (2 * j + 1) 0 + get_or costs p 0)
+    → (get_or sums j 0 ≤ get_or before (2 * j) 0 + get_or costs p 0)
+    × (get_or sums j 0 ≤ get_or before (2 * j + 1) 0 + get_or costs (3 - p) 0)
+    → (get_or sums (j + 32) 0 ≤ get_or before (2 * j) 0 + get_or costs (3 - p) 0)
+    × (get_or sums (j + 32) 0 ≤ get_or before (2 * j + 1) 0 + get_or costs p 0)
     → AreLowEnough costs before sums j
 both_keep costs before sums j p lt is low high = (
-  two_edges costs before sums j 0 j p (3 - p) lt (omega arith) (omega arith) is (omega (arith, is, odd_by_none j lt)) low.0 low.1,
-  two_edges costs before sums j 1 (j + 32) (3 - p) p lt (omega arith) (omega arith) (omega (arith, is, even_by_one j lt)) (omega (arith, is, odd_by_one j lt)) high.0 high.1,
+  two_edges costs before sums j 0 j p (3 - p) lt (omega arith) (omega arith) is
+      (omega (arith, is, odd_by_none j lt)) low.0 low.1,
+  two_edges costs before sums j 1 (j + 32) (3 - p) p lt (omega arith) (omega arith)
+      (omega (arith, is, even_by_one j lt)) (omega (arith, is, odd_by_one j lt)) high.0 high.1,
 )
 
 -- ---- a difference that is below zero has the top bit set
@@ -91,7 +98,8 @@ not_below : (a b : ℕ) → a < 2 ^ 34 → b < 2 ^ 32 → difference a b < 2 ^ 6
 not_below a b small lt top = omega arith
 
 -- where the bits of four differences have no top bit, none is below zero
-pub none_below : (a b c d low high : ℕ) → a < 2 ^ 34 → b < 2 ^ 34 → c < 2 ^ 34 → d < 2 ^ 34 → low < 2 ^ 32 → high < 2 ^ 32
+pub none_below : (a b c d low high : ℕ) → a < 2 ^ 34 → b < 2 ^ 34 → c < 2 ^ 34 → d < 2 ^ 34 → low < 2 ^ 32
+    → high < 2 ^ 32
     → bit_or (bit_or (bit_or (difference a low) (difference b low)) (difference c high)) (difference d high) < 2 ^ 63
     → ((low ≤ a) × (low ≤ b)) × ((high ≤ c) × (high ≤ d))
 none_below a b c d low high al bl cl dl ll hl top =
@@ -101,6 +109,12 @@ none_below a b c d low high al bl cl dl ll hl top =
     let z = difference d high in
     let two = bit_or w x in
     let three = bit_or two y in (
-      (not_below a low al ll (omega (arith, top, le_or_l three z, le_or_l two y, le_or_l w x)), not_below b low bl ll (omega (arith, top, le_or_l three z, le_or_l two y, le_or_r w x))),
-      (not_below c high cl hl (omega (arith, top, le_or_l three z, le_or_r two y)), not_below d high dl hl (omega (arith, top, le_or_r three z))),
+      (
+        not_below a low al ll (omega (arith, top, le_or_l three z, le_or_l two y, le_or_l w x)),
+        not_below b low bl ll (omega (arith, top, le_or_l three z, le_or_l two y, le_or_r w x)),
+      ),
+      (
+        not_below c high cl hl (omega (arith, top, le_or_l three z, le_or_r two y)),
+        not_below d high dl hl (omega (arith, top, le_or_r three z)),
+      ),
     )

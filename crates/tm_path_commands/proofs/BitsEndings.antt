@@ -149,7 +149,8 @@ module _ (receiver : InnerReceiving) (packing packed : Packing) (end : InnerEnd)
     (h : GathersLast receiver packing packed end) where
   -- the line after the bits
   end-is : (c : Configuration) (octets : List ℕ) (handed : List (Handed WindowBlock)) (windows : ℕ)
-      → windows ≡ length (items_of handed) → end.bits ≡ length (bits_of_handed c octets handed) → end.slips ≡ reported_slips c (items_of handed)
+      → windows ≡ length (items_of handed) → end.bits ≡ length (bits_of_handed c octets handed)
+      → end.slips ≡ reported_slips c (items_of handed)
       → bits_end_text end.slips windows end.bits end.leftover ≡ end_line c octets handed end.leftover
   end-is c octets handed windows is counted slips = λ i. bits_end_text (slips i) (is i) (counted i) end.leftover
 
@@ -178,7 +179,8 @@ module _ (receiver : InnerReceiving) (packing packed : Packing) (end : InnerEnd)
         (wrote-then noted notes middle (phase_line p.handed) (line_of packed.phase) p.notes wrote)
 
     last-line : (emptied : Packing) → IsEmptied packed emptied
-        → bits_end_text end.slips emptied.windows end.bits end.leftover ≡ end_line c octets (p.handed ++ h.last) end.leftover
+        → bits_end_text end.slips emptied.windows end.bits end.leftover
+        ≡ end_line c octets (p.handed ++ h.last) end.leftover
     last-line emptied is =
         let g = h.holds c p.written octets p.handed accepted p.holds p.is_written in
         end-is c octets (p.handed ++ h.last) emptied.windows (ap (λ (q : Packing). q.windows) is ∙ g.0.windows)
@@ -274,15 +276,16 @@ shows-part c octets taken taken_now noted noted_now w =
     let all = filled_octets (bits_of_handed c octets handed) in (
       output-of c octets handed w.left,
       is-bits c octets handed w.left w.are_handed,
-      elim w.part as (λ _. WrotePrefixes (output-of c octets handed w.left) (taken_by taken taken_now noted noted_now)) [
-        | inl (inl p) ↦ record { out = no-part taken taken_now all p.0; notes = prefix-of noted noted_now line end p.1 }
-        | inl (inr p) ↦ record {
-          out = p.0;
-          notes = prefix-of noted noted_now line end
-              (wrote-prefix noted noted_now line p.1);
-        }
-        | inr p ↦ record { out = wrote-prefix taken taken_now all p.0; notes = p.1 }
-      ],
+      elim w.part as (λ _. WrotePrefixes (output-of c octets handed w.left)
+          (taken_by taken taken_now noted noted_now)) [
+            | inl (inl p) ↦ record { out = no-part taken taken_now all p.0; notes = prefix-of noted noted_now line end p.1 }
+            | inl (inr p) ↦ record {
+              out = p.0;
+              notes = prefix-of noted noted_now line end
+                  (wrote-prefix noted noted_now line p.1);
+            }
+            | inr p ↦ record { out = wrote-prefix taken taken_now all p.0; notes = p.1 }
+          ],
       (
         handed,
         w.left,
@@ -361,7 +364,8 @@ module _ (exists : HasBlocks) (stands : StandFirst) (phase : HasPhase) (one : On
       let r = octets-more (bits_of_handed c octets due) (l.rest ++ fill) in
       let same : filled_octets (bits_of_handed c longer all) ≡ octets_of (bits_of_handed c octets due) ++ r.0 =
       ap filled_octets l.bits ∙ ap octets_of (append_assoc (bits_of_handed c octets due) l.rest fill) ∙ r.1 in
-      subst (WrotePrefix before now) (sym same) (prefix-of before now (octets_of (bits_of_handed c octets due)) r.0 wrote)
+      subst (WrotePrefix before now) (sym same) (prefix-of before now
+      (octets_of (bits_of_handed c octets due)) r.0 wrote)
 
   due-part : (c : Configuration) (octets longer : List ℕ) (due all : List (Handed WindowBlock))
       → Later c octets longer due all → (taken taken_now noted noted_now : Option (List ℕ))
@@ -372,7 +376,8 @@ module _ (exists : HasBlocks) (stands : StandFirst) (phase : HasPhase) (one : On
         | inl none ↦ inl (
           (elim part as (λ _. Wrote taken taken_now []) [
             | inl p ↦ p.0
-            | inr p ↦ prefix-nothing taken taken_now (subst (λ (b : List Bool). WrotePrefix taken taken_now (octets_of b))
+            | inr p ↦ prefix-nothing taken taken_now (subst
+                (λ (b : List Bool). WrotePrefix taken taken_now (octets_of b))
                 none.1 p.0)
           ]),
           no-part noted noted_now (phase_line all) (elim part as (λ _. Wrote noted noted_now []) [
@@ -476,7 +481,8 @@ module _ (exists : HasBlocks) (stands : StandFirst) (phase : HasPhase) (one : On
           (p c (out before) (notes before) [] accepted (λ _. fresh) (omega arith))
 
       pub driven-ends : (limit : ℕ) → limit ≡ c.limit → (ended unended : Type 0) (ending : Ending) (octets : List ℕ)
-          → DrivenTo Fed (λ a b o why. (why ≡ stop.SinkFault) × Fails a b o) (λ a b by. (by ≡ outcome.Done) × Finishes a b)
+          → DrivenTo Fed (λ a b o why. (why ≡ stop.SinkFault) × Fails a b o)
+          (λ a b by. (by ≡ outcome.Done) × Finishes a b)
           Failed limit before now ended unended ending octets
           → Ends ending (bits_meaning c) c.limit octets (taken_by (out before) (out now) (notes before) (notes now))
       driven-ends = done-driven Fed Fails Finishes Failed before now (bits_meaning c) c.limit

@@ -30,14 +30,16 @@ use Rattle.tm_path_commands.proofs.CertifyingPlace.{Longer}
 use Rattle.tm_path_commands.proofs.CertifyingPieces.{fails-longer}
 use Rattle.tm_path_commands.proofs.CertifyingEnd.{HasCertificate, OneCertificate, Split, fails-all}
 
-shows-all : (c : Configuration) (octets : List ℕ) (taken taken_now noted : Option (List ℕ)) → WroteCertificate c taken taken_now octets
+shows-all : (c : Configuration) (octets : List ℕ) (taken taken_now noted : Option (List ℕ))
+    → WroteCertificate c taken taken_now octets
     → Shows (certified_meaning c) octets (taken_by taken taken_now noted noted) outcome.Done
 shows-all c octets taken taken_now noted w = (
   (record { out = w.0; notes = [] }, (w.1, refl), record { out = w.2; notes = wrote-nothing noted }),
   (λ none. none, λ none. none),
 )
 
-shows-prefix : (c : Configuration) (octets : List ℕ) (taken taken_now noted : Option (List ℕ)) → WroteCertificatePrefix c taken taken_now octets
+shows-prefix : (c : Configuration) (octets : List ℕ) (taken taken_now noted : Option (List ℕ))
+    → WroteCertificatePrefix c taken taken_now octets
     → WroteInOrder (certified_meaning c) octets (taken_by taken taken_now noted noted)
 shows-prefix c octets taken taken_now noted w = (
   record { out = w.0; notes = [] },
@@ -48,29 +50,41 @@ shows-prefix c octets taken taken_now noted w = (
 
 -- ---- what is due
 
-so-far : (q : Option Rate) (c : Configuration) (now : Certifying) (octets : List ℕ) (handed : List (Handed WindowBlock)) (text : List ℕ) → c.inner ≡ q
+so-far : (q : Option Rate) (c : Configuration) (now : Certifying) (octets : List ℕ)
+    (handed : List (Handed WindowBlock)) (text : List ℕ) → c.inner ≡ q
     → WritesAt q c now octets handed text → AreHandedDue c octets handed → IsCertifiedSoFar c octets handed text
 so-far None c now octets handed text is w (inl none) = inl (none.0, none.1, w)
 so-far None c now octets handed text is w (inr h) =
-    inr (record { settled = h.0; are_due = h.1; is_text = subst (λ (r : Option Rate). TextAt r c (skip_of h.1.chosen) octets h.1.items text) (sym is) w })
+    inr (record {
+      settled = h.0;
+      are_due = h.1;
+      is_text = subst
+          (λ (r : Option Rate). TextAt r c (skip_of h.1.chosen) octets h.1.items text) (sym is) w;
+    })
 so-far (Some rate) c now octets handed text is w due = elim w.3 as (λ _. IsCertifiedSoFar c octets handed text) [
   | inl waits ↦ inl (waits.unsettled, waits.nothing, waits.is_text)
   | inr goes ↦ inr (record {
     settled = goes.settled;
     are_due = goes.are_due;
-    is_text = subst (λ (r : Option Rate). TextAt r c (skip_of goes.are_due.chosen) octets goes.are_due.items text) (sym is) goes.is_text;
+    is_text =
+        subst (λ (r : Option Rate). TextAt r c (skip_of goes.are_due.chosen) octets goes.are_due.items text)
+        (sym is) goes.is_text;
   })
 ]
 
-text-all : HasCertificate → (q : Option Rate) (c : Configuration) (phase : ℕ) (octets : List ℕ) (blocks : List WindowBlock) (left : ℕ) → c.follow ≡ false → BlocksAt q c phase octets blocks left
+text-all : HasCertificate → (q : Option Rate) (c : Configuration) (phase : ℕ) (octets : List ℕ)
+    (blocks : List WindowBlock) (left : ℕ) → c.follow ≡ false → BlocksAt q c phase octets blocks left
     → (text : List ℕ) × TextAt q c phase octets blocks text
 text-all has None c phase octets blocks left plain are = ([], refl)
 text-all has (Some rate) c phase octets blocks left plain are =
-    has (settings_of c rate) (soft_octets c phase octets) blocks left (blocks-unfollowed c rate (soft_octets c phase octets) blocks left plain are)
+    has (settings_of c rate) (soft_octets c phase octets) blocks left
+    (blocks-unfollowed c rate (soft_octets c phase octets) blocks left plain are)
 
-module _ (exists : HasBlocks) (stands : StandFirst) (phase : HasPhase) (stays : PhaseStays) (stay : StayClosed) (has : HasCertificate) (one : OneCertificate) (parts : Split) (longer : Longer) where
+module _ (exists : HasBlocks) (stands : StandFirst) (phase : HasPhase) (stays : PhaseStays) (stay : StayClosed)
+    (has : HasCertificate) (one : OneCertificate) (parts : Split) (longer : Longer) where
   -- octets have a certificate
-  certificate-all : (c : Configuration) (octets : List ℕ) → IsAccepted c → c.follow ≡ false → (text : List ℕ) × IsCertifiedAll c octets text
+  certificate-all : (c : Configuration) (octets : List ℕ) → IsAccepted c → c.follow ≡ false → (text : List ℕ)
+      × IsCertifiedAll c octets text
   certificate-all c octets accepted plain =
       let all = with_phase-exists (λ n blocks. (left : ℕ) × AreInnerBlocks c n octets blocks left) phase c octets
       (λ n. let b = has_blocks exists c n octets accepted in (b.0, (b.1, b.2))) in
@@ -80,14 +94,23 @@ module _ (exists : HasBlocks) (stands : StandFirst) (phase : HasPhase) (stays : 
         record {
           handed = all.0;
           left = h.are_items.0;
-          are_handed = record { chosen = h.chosen; choice = h.choice; items = h.items; are_items = h.are_items.1; are = h.are };
+          are_handed =
+              record {
+                chosen = h.chosen;
+                choice = h.choice;
+                items = h.items;
+                are_items = h.are_items.1;
+                are = h.are;
+              };
           is_text = text.1;
         },
       )
 
   -- what was written is a prefix of it, whatever octets come
-  prefix-later : (c : Configuration) (octets more : List ℕ) (handed : List (Handed WindowBlock)) (text : List ℕ) (taken taken_now : Option (List ℕ)) → IsAccepted c → c.follow ≡ false
-      → taken_now ≡ append_known taken text → IsCertifiedSoFar c octets handed text → WroteCertificatePrefix c taken taken_now (octets ++ more)
+  prefix-later : (c : Configuration) (octets more : List ℕ) (handed : List (Handed WindowBlock)) (text : List ℕ)
+      (taken taken_now : Option (List ℕ)) → IsAccepted c → c.follow ≡ false
+      → taken_now ≡ append_known taken text → IsCertifiedSoFar c octets handed text
+      → WroteCertificatePrefix c taken taken_now (octets ++ more)
   prefix-later c octets more handed text taken taken_now accepted plain wrote (inl none) =
       let all = certificate-all c (octets ++ more) accepted plain in
       (all.0, all.1, (0, wrote ∙ ap (append_known taken) none.2))
@@ -110,16 +133,27 @@ module _ (exists : HasBlocks) (stands : StandFirst) (phase : HasPhase) (stays : 
         is_text = s.is_text;
         wrote = wrote-prefix taken taken_now text wrote;
       } in
-      fails-all exists stands has one parts c taken taken_now (octets ++ more) accepted (fails-longer longer stay stays c taken taken_now octets more fails)
+      fails-all exists stands has one parts c taken taken_now (octets ++ more) accepted
+      (fails-longer longer stay stays c taken taken_now octets more fails)
 
-  ends-early : (c : Configuration) (r : InnerReceiving) (now : Certifying) (octets : List ℕ) (taken taken_now noted : Option (List ℕ)) → IsAccepted c
-      → Certifies c r now taken taken_now octets → WroteEarly (certified_meaning c) octets (taken_by taken taken_now noted noted)
+  ends-early : (c : Configuration) (r : InnerReceiving) (now : Certifying) (octets : List ℕ)
+      (taken taken_now noted : Option (List ℕ)) → IsAccepted c
+      → Certifies c r now taken taken_now octets → WroteEarly (certified_meaning c) octets
+      (taken_by taken taken_now noted noted)
   ends-early c r now octets taken taken_now noted accepted t =
-      let due = so-far c.inner c now octets t.handed t.text refl t.writes (subst (λ (k : Configuration). AreHandedDue k octets t.handed) t.config t.stands.1) in (
-        (record { out = t.text; notes = [] }, ((t.handed, due), refl), record { out = t.wrote; notes = wrote-nothing noted }),
+      let due = so-far c.inner c now octets t.handed t.text refl t.writes
+      (subst (λ (k : Configuration). AreHandedDue k octets t.handed) t.config t.stands.1) in (
+        (
+          record { out = t.text; notes = [] },
+          ((t.handed, due), refl),
+          record { out = t.wrote; notes = wrote-nothing noted },
+        ),
         λ more.
-            let later = prefix-later c octets more t.handed t.text taken taken_now accepted t.unfollowed t.wrote due in
-            (record { out = later.0; notes = [] }, (later.1, refl), record { out = later.2; notes = (0, wrote-nothing noted) }),
+            let later = prefix-later c octets more t.handed t.text taken taken_now accepted t.unfollowed t.wrote due in (
+              record { out = later.0; notes = [] },
+              (later.1, refl),
+              record { out = later.2; notes = (0, wrote-nothing noted) },
+            ),
       )
 
   -- ---- how what was driven ends
@@ -153,7 +187,8 @@ module _ (exists : HasBlocks) (stands : StandFirst) (phase : HasPhase) (stays : 
           (p c (out before) [] accepted (λ _. fresh) (omega arith))
 
       pub driven-ends : (limit : ℕ) → limit ≡ c.limit → (ended unended : Type 0) (ending : Ending) (octets : List ℕ)
-          → DrivenTo Fed (λ a b o why. (why ≡ stop.SinkFault) × Fails a b o) (λ a b by. (by ≡ outcome.Done) × Finishes a b)
+          → DrivenTo Fed (λ a b o why. (why ≡ stop.SinkFault) × Fails a b o)
+          (λ a b by. (by ≡ outcome.Done) × Finishes a b)
           Failed limit before now ended unended ending octets
           → Ends ending (certified_meaning c) c.limit octets (taken_by (out before) (out now) noted noted)
       driven-ends = done-driven Fed Fails Finishes Failed before now (certified_meaning c) c.limit

@@ -51,7 +51,8 @@ use Rattle.tm_path_commands.proofs.TraceLines.{TookOne, BrokeOne, few-tally, tra
 
 -- ---- windows are at most as many as octets
 
-closed-few : (rate : Rate) (invert : Bool) (keep ahead : ℕ) (from to : Place) (blocks : List WindowBlock) → 0 < keep → Closed rate invert keep ahead from blocks to
+closed-few : (rate : Rate) (invert : Bool) (keep ahead : ℕ) (from to : Place) (blocks : List WindowBlock) → 0 < keep
+    → Closed rate invert keep ahead from blocks to
     → length blocks ≤ length from.octets
 closed-few rate invert keep ahead from to [] some closed = omega arith
 closed-few rate invert keep ahead from to (b ∷ blocks) some closed =
@@ -59,26 +60,44 @@ closed-few rate invert keep ahead from to (b ∷ blocks) some closed =
     let kept = some_kept keep ahead n some (omega arith) in
     let rest = closed-few rate invert keep ahead (after_block rate from b) to blocks some closed.1 in
     let inside = steps-mono rate from.t b.kept n (omega (arith, kept, closed.0.is_block.kept)) in
-    omega (arith, kept, closed.0.is_block.kept, closed.0.room, rest, inside, length-drop (steps_size rate from.t b.kept) from.octets, steps_size_ge rate from.t b.kept)
+    omega (
+      arith,
+      kept,
+      closed.0.is_block.kept,
+      closed.0.room,
+      rest,
+      inside,
+      length-drop (steps_size rate from.t b.kept) from.octets,
+      steps_size_ge rate from.t b.kept,
+    )
 
-whole-few : (rate : Rate) (invert : Bool) (keep ahead : ℕ) (starts : Option ℕ) (t n : ℕ) (octets : List ℕ) (blocks : List WindowBlock) → 0 < keep
+whole-few : (rate : Rate) (invert : Bool) (keep ahead : ℕ) (starts : Option ℕ) (t n : ℕ) (octets : List ℕ)
+    (blocks : List WindowBlock) → 0 < keep
     → AreBlocks rate invert keep ahead starts t n octets blocks → length blocks ≤ n
 whole-few rate invert keep ahead starts t n octets [] some are = omega arith
 whole-few rate invert keep ahead starts t n octets (b ∷ blocks) some are =
     let kept = some_kept keep ahead n some are.0 in
-    let rest = whole-few rate invert keep ahead (Some b.end_state) (t + b.kept) (n - b.kept) (drop (steps_size rate t b.kept) octets) blocks some are.2 in
+    let rest = whole-few rate invert keep ahead (Some b.end_state) (t + b.kept) (n - b.kept)
+    (drop (steps_size rate t b.kept) octets) blocks some are.2 in
     omega (arith, kept, are.1.kept, rest)
 
-few-first-by : (seen : Option ℕ) (w : Windows) (octets : List ℕ) (blocks : List WindowBlock) → 0 < w.settings.keep → AreFirstBy seen w octets blocks
+few-first-by : (seen : Option ℕ) (w : Windows) (octets : List ℕ) (blocks : List WindowBlock) → 0 < w.settings.keep
+    → AreFirstBy seen w octets blocks
     → length blocks ≤ length octets
 few-first-by None w octets blocks some are =
     let s = w.settings in
     closed-few s.rate s.invert s.keep s.ahead (first_place s octets) are.0 blocks some are.1
 few-first-by (Some steps) w octets blocks some are =
     let from = first_spot w octets in
-    omega (arith, followed-count w from are.0 blocks some are.1, followed-keep w from are.0 blocks are.1, followed-few w octets blocks are)
+    omega (
+      arith,
+      followed-count w from are.0 blocks some are.1,
+      followed-keep w from are.0 blocks are.1,
+      followed-few w octets blocks are,
+    )
 
-few-by : (seen : Option ℕ) (w : Windows) (octets : List ℕ) (blocks : List WindowBlock) (left : ℕ) → 0 < w.settings.keep → AreBlocksBy seen w octets blocks left
+few-by : (seen : Option ℕ) (w : Windows) (octets : List ℕ) (blocks : List WindowBlock) (left : ℕ)
+    → 0 < w.settings.keep → AreBlocksBy seen w octets blocks left
     → length blocks ≤ length octets
 few-by None w octets blocks left some are =
     let s = w.settings in
@@ -91,14 +110,16 @@ few-by None w octets blocks left some are =
 few-by (Some steps) w octets blocks left some are =
     omega (arith, followed-count_all w octets blocks left some are, (followed-whole w octets blocks left are).few)
 
-few-first-at : (rate : Option Rate) (c : Configuration) (phase : ℕ) (octets : List ℕ) (blocks : List WindowBlock) → 0 < c.keep → FirstAt rate c phase octets blocks
+few-first-at : (rate : Option Rate) (c : Configuration) (phase : ℕ) (octets : List ℕ) (blocks : List WindowBlock)
+    → 0 < c.keep → FirstAt rate c phase octets blocks
     → length blocks ≤ length octets
 few-first-at None c phase octets blocks some are = let none = ap length are in omega arith
 few-first-at (Some rate) c phase octets blocks some are =
     let w = windows_of c rate in
     omega (arith, few-first-by w.seen w (soft_octets c phase octets) blocks some are, length-soft c phase octets)
 
-few-at : (rate : Option Rate) (c : Configuration) (phase : ℕ) (octets : List ℕ) (blocks : List WindowBlock) (left : ℕ) → 0 < c.keep → BlocksAt rate c phase octets blocks left
+few-at : (rate : Option Rate) (c : Configuration) (phase : ℕ) (octets : List ℕ) (blocks : List WindowBlock) (left : ℕ)
+    → 0 < c.keep → BlocksAt rate c phase octets blocks left
     → length blocks ≤ length octets
 few-at None c phase octets blocks left some are = let none = ap length are.0 in omega arith
 few-at (Some rate) c phase octets blocks left some are =
@@ -109,7 +130,8 @@ keeps-some : (c : Configuration) → IsAccepted c → 0 < c.keep
 keeps-some c accepted = let keep = accepted.some_keep in omega arith
 
 -- what is due once the phase is settled is first
-first-settled : (c : Configuration) (octets : List ℕ) (handed : List (Handed WindowBlock)) → WithPhaseSettled (λ phase. AreInnerDue c phase octets) c octets handed → AreHandedFirst c octets handed
+first-settled : (c : Configuration) (octets : List ℕ) (handed : List (Handed WindowBlock))
+    → WithPhaseSettled (λ phase. AreInnerDue c phase octets) c octets handed → AreHandedFirst c octets handed
 first-settled c octets handed h = (
   h.0,
   record {
@@ -121,32 +143,42 @@ first-settled c octets handed h = (
   },
 )
 
-few-first : (c : Configuration) (octets : List ℕ) (handed : List (Handed WindowBlock)) → IsAccepted c → AreHandedFirst c octets handed → length (items_of handed) ≤ length octets
+few-first : (c : Configuration) (octets : List ℕ) (handed : List (Handed WindowBlock)) → IsAccepted c
+    → AreHandedFirst c octets handed → length (items_of handed) ≤ length octets
 few-first c octets handed accepted h =
     let few = few-first-at c.inner c (skip_of h.1.chosen) octets h.1.items (keeps-some c accepted) h.1.are_items in
     omega (arith, few, ap (λ l. length (items_of l)) h.1.are, ap length (items_of-with_phase h.1.chosen h.1.items))
 
-pub few-due : (c : Configuration) (octets : List ℕ) (handed : List (Handed WindowBlock)) → IsAccepted c → AreHandedDue c octets handed → length (items_of handed) ≤ length octets
+pub few-due : (c : Configuration) (octets : List ℕ) (handed : List (Handed WindowBlock)) → IsAccepted c
+    → AreHandedDue c octets handed → length (items_of handed) ≤ length octets
 few-due c octets handed accepted (inl none) = omega (arith, ap (λ l. length (items_of l)) none.1)
 few-due c octets handed accepted (inr h) = few-first c octets handed accepted (first-settled c octets handed h)
 
-pub few-handed : (c : Configuration) (octets : List ℕ) (handed : List (Handed WindowBlock)) (left : ℕ) → IsAccepted c → AreHanded c octets handed left → length (items_of handed) ≤ length octets
+pub few-handed : (c : Configuration) (octets : List ℕ) (handed : List (Handed WindowBlock)) (left : ℕ) → IsAccepted c
+    → AreHanded c octets handed left → length (items_of handed) ≤ length octets
 few-handed c octets handed left accepted h =
     let few = few-at c.inner c (skip_of h.chosen) octets h.items left (keeps-some c accepted) h.are_items in
     omega (arith, few, ap (λ l. length (items_of l)) h.are, ap length (items_of-with_phase h.chosen h.items))
 
 -- ---- they keep no more bits than there are octets
 
-kept-first-by : (seen : Option ℕ) (w : Windows) (octets : List ℕ) (blocks : List WindowBlock) → AreFirstBy seen w octets blocks
+kept-first-by : (seen : Option ℕ) (w : Windows) (octets : List ℕ) (blocks : List WindowBlock)
+    → AreFirstBy seen w octets blocks
     → kept_of blocks ≤ length octets
 kept-first-by None w octets blocks are =
     let s = w.settings in
     let from = first_place s octets in
-    omega (arith, closed-kept s from are.0 blocks are.1, closed-less s.rate s.invert s.keep s.ahead from are.0 blocks are.1)
+    omega (
+      arith,
+      closed-kept s from are.0 blocks are.1,
+      closed-less s.rate s.invert s.keep s.ahead from are.0 blocks
+          are.1,
+    )
 kept-first-by (Some steps) w octets blocks are =
     omega (arith, followed-keep w (first_spot w octets) are.0 blocks are.1, followed-few w octets blocks are)
 
-kept-by : (seen : Option ℕ) (w : Windows) (octets : List ℕ) (blocks : List WindowBlock) (left : ℕ) → AreBlocksBy seen w octets blocks left
+kept-by : (seen : Option ℕ) (w : Windows) (octets : List ℕ) (blocks : List WindowBlock) (left : ℕ)
+    → AreBlocksBy seen w octets blocks left
     → kept_of blocks ≤ length octets
 kept-by None w octets blocks left are =
     let s = w.settings in
@@ -158,21 +190,24 @@ kept-by None w octets blocks left are =
     )
 kept-by (Some steps) w octets blocks left are = let k = followed-whole w octets blocks left are in omega (arith, k.few)
 
-kept-first-at : (rate : Option Rate) (c : Configuration) (phase : ℕ) (octets : List ℕ) (blocks : List WindowBlock) → FirstAt rate c phase octets blocks
+kept-first-at : (rate : Option Rate) (c : Configuration) (phase : ℕ) (octets : List ℕ) (blocks : List WindowBlock)
+    → FirstAt rate c phase octets blocks
     → kept_of blocks ≤ length octets
 kept-first-at None c phase octets blocks are = omega (arith, ap kept_of are)
 kept-first-at (Some rate) c phase octets blocks are =
     let w = windows_of c rate in
     omega (arith, kept-first-by w.seen w (soft_octets c phase octets) blocks are, length-soft c phase octets)
 
-kept-at : (rate : Option Rate) (c : Configuration) (phase : ℕ) (octets : List ℕ) (blocks : List WindowBlock) (left : ℕ) → BlocksAt rate c phase octets blocks left
+kept-at : (rate : Option Rate) (c : Configuration) (phase : ℕ) (octets : List ℕ) (blocks : List WindowBlock)
+    (left : ℕ) → BlocksAt rate c phase octets blocks left
     → kept_of blocks ≤ length octets
 kept-at None c phase octets blocks left are = omega (arith, ap kept_of are.0)
 kept-at (Some rate) c phase octets blocks left are =
     let w = windows_of c rate in
     omega (arith, kept-by w.seen w (soft_octets c phase octets) blocks left are, length-soft c phase octets)
 
-kept-first : (c : Configuration) (octets : List ℕ) (handed : List (Handed WindowBlock)) → AreHandedFirst c octets handed → kept_of (items_of handed) ≤ length octets
+kept-first : (c : Configuration) (octets : List ℕ) (handed : List (Handed WindowBlock))
+    → AreHandedFirst c octets handed → kept_of (items_of handed) ≤ length octets
 kept-first c octets handed h = omega (
   arith,
   kept-first-at c.inner c (skip_of h.1.chosen) octets h.1.items h.1.are_items,
@@ -180,11 +215,13 @@ kept-first c octets handed h = omega (
   ap kept_of (items_of-with_phase h.1.chosen h.1.items),
 )
 
-kept-due : (c : Configuration) (octets : List ℕ) (handed : List (Handed WindowBlock)) → AreHandedDue c octets handed → kept_of (items_of handed) ≤ length octets
+kept-due : (c : Configuration) (octets : List ℕ) (handed : List (Handed WindowBlock)) → AreHandedDue c octets handed
+    → kept_of (items_of handed) ≤ length octets
 kept-due c octets handed (inl none) = omega (arith, ap (λ l. kept_of (items_of l)) none.1)
 kept-due c octets handed (inr h) = kept-first c octets handed (first-settled c octets handed h)
 
-kept-handed : (c : Configuration) (octets : List ℕ) (handed : List (Handed WindowBlock)) (left : ℕ) → AreHanded c octets handed left → kept_of (items_of handed) ≤ length octets
+kept-handed : (c : Configuration) (octets : List ℕ) (handed : List (Handed WindowBlock)) (left : ℕ)
+    → AreHanded c octets handed left → kept_of (items_of handed) ≤ length octets
 kept-handed c octets handed left h = omega (
   arith,
   kept-at c.inner c (skip_of h.chosen) octets h.items left h.are_items,
@@ -194,31 +231,43 @@ kept-handed c octets handed left h = omega (
 
 -- ---- first windows stand first
 
-first-of-all : StandFirst → (rate : Option Rate) (c : Configuration) (phase : ℕ) (octets : List ℕ) (first blocks : List WindowBlock) (left : ℕ)
-    → FirstAt rate c phase octets first → BlocksAt rate c phase octets blocks left → (rest : List WindowBlock) × (blocks ≡ first ++ rest)
+first-of-all : StandFirst → (rate : Option Rate) (c : Configuration) (phase : ℕ) (octets : List ℕ)
+    (first blocks : List WindowBlock) (left : ℕ)
+    → FirstAt rate c phase octets first → BlocksAt rate c phase octets blocks left → (rest : List WindowBlock)
+    × (blocks ≡ first ++ rest)
 first-of-all stands None c phase octets first blocks left are all = ([], all.0 ∙ ap (λ l. l ++ []) (sym are))
-first-of-all stands (Some rate) c phase octets first blocks left are all = stands (windows_of c rate) (soft_octets c phase octets) first blocks left are all
+first-of-all stands (Some rate) c phase octets first blocks left are all =
+    stands (windows_of c rate) (soft_octets c phase octets) first blocks left are all
 
-stay-first : StayClosed → (rate : Option Rate) (c : Configuration) (phase : ℕ) (octets more : List ℕ) (first : List WindowBlock) → FirstAt rate c phase octets first
+stay-first : StayClosed → (rate : Option Rate) (c : Configuration) (phase : ℕ) (octets more : List ℕ)
+    (first : List WindowBlock) → FirstAt rate c phase octets first
     → FirstAt rate c phase (octets ++ more) first
 stay-first stay None c phase octets more first are = are
 stay-first stay (Some rate) c phase octets more first are =
     let back = map (soft_value c) (drop (phase - length (drop c.skip octets)) (drop (c.skip - length octets) more)) in
-    subst (λ (l : List ℕ). AreFirstIn (windows_of c rate) l first) (sym (soft-more c phase octets more)) (stay (windows_of c rate) (soft_octets c phase octets) back first are)
+    subst (λ (l : List ℕ). AreFirstIn (windows_of c rate) l first) (sym (soft-more c phase octets more))
+    (stay (windows_of c rate) (soft_octets c phase octets) back first are)
 
 -- what is handed over up to a fault is a prefix of all
-prefix-of-all : HasBlocks → StandFirst → (c : Configuration) (octets : List ℕ) (prefix : List (Handed WindowBlock)) → IsAccepted c → AreHandedPrefix c octets prefix
-    → (handed : List (Handed WindowBlock)) × (left : ℕ) × AreHanded c octets handed left × ((rest : List (Handed WindowBlock)) × (handed ≡ prefix ++ rest))
+prefix-of-all : HasBlocks → StandFirst → (c : Configuration) (octets : List ℕ) (prefix : List (Handed WindowBlock))
+    → IsAccepted c → AreHandedPrefix c octets prefix
+    → (handed : List (Handed WindowBlock)) × (left : ℕ) × AreHanded c octets handed left
+    × ((rest : List (Handed WindowBlock)) × (handed ≡ prefix ++ rest))
 prefix-of-all exists stands c octets prefix accepted f =
     let phase = skip_of f.chosen in
-    elim f.are_items as (λ _. (handed : List (Handed WindowBlock)) × (left : ℕ) × AreHanded c octets handed left × ((rest : List (Handed WindowBlock)) × (handed ≡ prefix ++ rest))) [
+    elim f.are_items as (λ _. (handed : List (Handed WindowBlock)) × (left : ℕ) × AreHanded c octets handed left
+    × ((rest : List (Handed WindowBlock)) × (handed ≡ prefix ++ rest))) [
       | inl first ↦ (
           let all = has_blocks exists c phase octets accepted in
           let split = first-of-all stands c.inner c phase octets f.items all.0 all.1 first all.2 in (
             with_phase f.chosen all.0,
             all.1,
             record { chosen = f.chosen; choice = f.choice; items = all.0; are_items = all.2; are = refl },
-            (map Item split.0, ap (with_phase f.chosen) split.1 ∙ with_phase-more f.chosen f.items split.0 ∙ ap (λ l. l ++ map Item split.0) (sym f.are)),
+            (
+              map Item split.0,
+              ap (with_phase f.chosen) split.1 ∙ with_phase-more f.chosen f.items split.0
+                  ∙ ap (λ l. l ++ map Item split.0) (sym f.are),
+            ),
           )
           )
       | inr all ↦ (
@@ -231,48 +280,63 @@ prefix-of-all exists stands c octets prefix accepted f =
 
 -- ---- what was traced of the octets that were read
 
-traces : {T K : Type 0} (name : T → K) (lines : T → SinkState) (count : T → Tally) (c : Configuration) (a b : InnerReceiving) (taker now : T) (octets : List ℕ)
+traces : {T K : Type 0} (name : T → K) (lines : T → SinkState) (count : T → Tally) (c : Configuration)
+    (a b : InnerReceiving) (taker now : T) (octets : List ℕ)
     → count taker ≡ no_blocks → IsAccepted c → b.config ≡ c → length octets < 2 ^ 60 → StandsAt a [] []
-    → Hands (TookOne name lines count) StandsAt a b taker now octets → Traces c b (count now) (lines taker) (lines now) octets
+    → Hands (TookOne name lines count) StandsAt a b taker now octets
+    → Traces c b (count now) (lines taker) (lines now) octets
 traces name lines count c a b taker now octets new accepted same few stood p =
     let small : 0 + length octets < 2 ^ 60 = omega arith in
     let stands : StandsAt b octets p.more = p.stands [] [] small stood in
     let ok = subst IsAccepted (sym same) accepted in
-    let bound = few-tally (length octets) p.more few (few-due b.config octets p.more ok stands.1) (kept-due b.config octets p.more stands.1) in
+    let bound = few-tally (length octets) p.more few (few-due b.config octets p.more ok stands.1)
+    (kept-due b.config octets p.more stands.1) in
     record {
       handed = p.more;
       config = same;
       stands = stands;
-      lines = traced-more name lines count (lines taker) [] p.more taker now (traced-none (lines taker) (count taker) new) p.handed bound;
+      lines =
+          traced-more name lines count (lines taker) [] p.more taker now
+          (traced-none (lines taker) (count taker) new) p.handed bound;
     }
 
-trace-fails : {T K : Type 0} (name : T → K) (lines : T → SinkState) (last : T → Type 0) (count : T → Tally) (c : Configuration) (a : InnerReceiving) (taker now : T) (octets : List ℕ)
+trace-fails : {T K : Type 0} (name : T → K) (lines : T → SinkState) (last : T → Type 0) (count : T → Tally)
+    (c : Configuration) (a : InnerReceiving) (taker now : T) (octets : List ℕ)
     → count taker ≡ no_blocks → IsAccepted c → length octets < 2 ^ 60 → StandsAt a [] []
-    → HandsPrefix (TookOne name lines count) (BrokeOne name lines last count) StandsAt (AreHandedFirst c) a taker now octets
+    → HandsPrefix (TookOne name lines count) (BrokeOne name lines last count) StandsAt
+    (AreHandedFirst c) a taker now octets
     → TraceFails c (lines taker) (lines now) (last now) octets
 trace-fails name lines last count c a taker now octets new accepted few stood p =
     let small : 0 + length octets < 2 ^ 60 = omega arith in
     let first : AreHandedFirst c octets p.tried = p.first [] [] small stood in
-    let bound = few-tally (length octets) p.tried few (few-first c octets p.tried accepted first) (kept-first c octets p.tried first) in
+    let bound = few-tally (length octets) p.tried few (few-first c octets p.tried accepted first)
+    (kept-first c octets p.tried first) in
     record {
       handed = p.tried;
       are_first = first;
-      broke = traced-part name lines last count (lines taker) [] p.tried taker now (traced-none (lines taker) (count taker) new) p.handed bound;
+      broke =
+          traced-part name lines last count (lines taker) [] p.tried taker now
+          (traced-none (lines taker) (count taker) new) p.handed bound;
     }
 
 -- ---- the end of a trace
 
 -- the last windows after those that were traced before
-pub traced-whole : {T K : Type 0} (name : T → K) (lines : T → SinkState) (count : T → Tally) (c : Configuration) (r : InnerReceiving) (taker now : T) (start : SinkState) (octets : List ℕ)
-    (last : List (Handed WindowBlock)) (bits left : ℕ) → IsAccepted c → Traces c r (count taker) start (lines taker) octets
+pub traced-whole : {T K : Type 0} (name : T → K) (lines : T → SinkState) (count : T → Tally) (c : Configuration)
+    (r : InnerReceiving) (taker now : T) (start : SinkState) (octets : List ℕ)
+    (last : List (Handed WindowBlock)) (bits left : ℕ) → IsAccepted c
+    → Traces c r (count taker) start (lines taker) octets
     → HandedOver (TookOne name lines count) taker last now
     → ((given : List ℕ) (done : List (Handed WindowBlock)) → InnerReceiverStandsFor r given done
-    → AreHanded r.config given (done ++ last) left × (bits ≡ length (inner_bits r.config given (items_of (done ++ last)))))
+    → AreHanded r.config given (done ++ last) left × (bits ≡ length
+    (inner_bits r.config given (items_of (done ++ last)))))
     → TracedWhole c (count now) bits left start (lines now) octets
 traced-whole name lines count c r taker now start octets last bits left accepted t handed finish =
     let done = t.handed in
-    let whole = subst (λ (k : Configuration). AreHanded k octets (done ++ last) left × (bits ≡ length (inner_bits k octets (items_of (done ++ last))))) t.config (finish octets done t.stands.0) in
-    let bound = few-tally (length octets) (done ++ last) t.stands.0.few (few-handed c octets (done ++ last) left accepted whole.0)
+    let whole = subst (λ (k : Configuration). AreHanded k octets (done ++ last) left
+    × (bits ≡ length (inner_bits k octets (items_of (done ++ last))))) t.config (finish octets done t.stands.0) in
+    let bound = few-tally (length octets) (done ++ last) t.stands.0.few
+    (few-handed c octets (done ++ last) left accepted whole.0)
     (kept-handed c octets (done ++ last) left whole.0) in
     record {
       handed = done ++ last;
@@ -282,19 +346,24 @@ traced-whole name lines count c r taker now start octets last bits left accepted
     }
 
 -- the sink took the last line
-pub wrote-end : (c : Configuration) (count : Tally) (bits left : ℕ) (start before now : SinkState) (octets : List ℕ) → TracedWhole c count bits left start before octets
-    → ((from : SinkState) (handed : List (Handed WindowBlock)) → TracedAll from before no_blocks count handed → TookText from now (trace_text handed bits left)) → WroteTrace c start now octets
+pub wrote-end : (c : Configuration) (count : Tally) (bits left : ℕ) (start before now : SinkState) (octets : List ℕ)
+    → TracedWhole c count bits left start before octets
+    → ((from : SinkState) (handed : List (Handed WindowBlock)) → TracedAll from before no_blocks count handed
+    → TookText from now (trace_text handed bits left)) → WroteTrace c start now octets
 wrote-end c count bits left start before now octets w whole = record {
   handed = w.handed;
   left = left;
   are_handed = w.are_handed;
-  written = subst (λ (n : ℕ). TookText start now (trace_text w.handed n left)) w.are_bits (whole start w.handed w.lines);
+  written =
+      subst (λ (n : ℕ). TookText start now (trace_text w.handed n left)) w.are_bits (whole start w.handed w.lines);
 }
 
 -- the sink failed in the last line
-pub cut-end : (c : Configuration) (count : Tally) (bits left : ℕ) (start before now : SinkState) (is_last : Type 0) (octets : List ℕ) → TracedWhole c count bits left start before octets
+pub cut-end : (c : Configuration) (count : Tally) (bits left : ℕ) (start before now : SinkState) (is_last : Type 0)
+    (octets : List ℕ) → TracedWhole c count bits left start before octets
     → ((from : SinkState) (handed : List (Handed WindowBlock)) → TracedAll from before no_blocks count handed
-    → BrokeText from now is_last (blocks_text no_blocks handed) (trace_end_text (length (items_of handed)) bits left)) → WroteTracePrefix c start now octets
+    → BrokeText from now is_last (blocks_text no_blocks handed) (trace_end_text (length (items_of handed)) bits left))
+    → WroteTracePrefix c start now octets
 cut-end c count bits left start before now is_last octets w broke =
     let handed = w.handed in
     let end = trace_end_text (length (items_of handed)) bits left in
@@ -308,58 +377,91 @@ cut-end c count bits left start before now is_last octets w broke =
     }
 
 -- a prefix of the lines of the first of all is a prefix of the trace
-trace-first : (before now : Option (List ℕ)) (handed first rest : List (Handed WindowBlock)) (bits left : ℕ) → handed ≡ first ++ rest
+trace-first : (before now : Option (List ℕ)) (handed first rest : List (Handed WindowBlock)) (bits left : ℕ)
+    → handed ≡ first ++ rest
     → WrotePrefix before now (blocks_text no_blocks first) → WrotePrefix before now (trace_text handed bits left)
 trace-first before now handed first rest bits left split wrote =
     let text = trace_text-split handed first rest bits left split in
     subst (WrotePrefix before now) (sym text.1) (prefix-of before now (blocks_text no_blocks first) text.0 wrote)
 
 -- or in one of the last lines before it
-pub cut-last : HasBlocks → StandFirst → {T K : Type 0} (name : T → K) (lines : T → SinkState) (last : T → Type 0) (count : T → Tally) (c : Configuration) (r : InnerReceiving) (taker now : T)
-    (start : SinkState) (octets : List ℕ) (tried : List (Handed WindowBlock)) → IsAccepted c → Traces c r (count taker) start (lines taker) octets
+pub cut-last : HasBlocks → StandFirst → {T K : Type 0} (name : T → K) (lines : T → SinkState) (last : T → Type 0)
+    (count : T → Tally) (c : Configuration) (r : InnerReceiving) (taker now : T)
+    (start : SinkState) (octets : List ℕ) (tried : List (Handed WindowBlock)) → IsAccepted c
+    → Traces c r (count taker) start (lines taker) octets
     → HandedPart (TookOne name lines count) (BrokeOne name lines last count) taker tried now
-    → ((given : List ℕ) (done : List (Handed WindowBlock)) → InnerReceiverStandsFor r given done → AreHandedPrefix r.config given (done ++ tried))
+    → ((given : List ℕ) (done : List (Handed WindowBlock)) → InnerReceiverStandsFor r given done
+    → AreHandedPrefix r.config given (done ++ tried))
     → WroteTracePrefix c start (lines now) octets
 cut-last exists stands name lines last count c r taker now start octets tried accepted t part finish =
     let prefix = t.handed ++ tried in
-    let all = prefix-of-all exists stands c octets prefix accepted (subst (λ (k : Configuration). AreHandedPrefix k octets prefix) t.config (finish octets t.handed t.stands.0)) in
+    let all = prefix-of-all exists stands c octets prefix accepted
+    (subst (λ (k : Configuration). AreHandedPrefix k octets prefix) t.config (finish octets t.handed t.stands.0))
+    in
     let blocks : length (items_of prefix) ≤ length octets =
-    omega (arith, few-handed c octets all.0 all.1 accepted all.2, ap (λ l. length (items_of l)) all.3.1, ap length (items_of-append prefix all.3.0), length-append (items_of prefix) (items_of all.3.0)) in
+    omega (
+      arith,
+      few-handed c octets all.0 all.1 accepted all.2,
+      ap (λ l. length (items_of l)) all.3.1,
+      ap length (items_of-append prefix all.3.0),
+      length-append (items_of prefix) (items_of all.3.0),
+    ) in
     let bits : kept_of (items_of prefix) ≤ length octets =
-    omega (arith, kept-handed c octets all.0 all.1 all.2, ap (λ l. kept_of (items_of l)) all.3.1, ap kept_of (items_of-append prefix all.3.0), kept-append (items_of prefix) (items_of all.3.0)) in
-    let broke = traced-part name lines last count start t.handed tried taker now t.lines part (few-tally (length octets) prefix t.stands.0.few blocks bits) in
+    omega (
+      arith,
+      kept-handed c octets all.0 all.1 all.2,
+      ap (λ l. kept_of (items_of l)) all.3.1,
+      ap kept_of (items_of-append prefix all.3.0),
+      kept-append (items_of prefix) (items_of all.3.0),
+    ) in
+    let broke = traced-part name lines last count start t.handed tried taker now t.lines part
+    (few-tally (length octets) prefix t.stands.0.few blocks bits) in
     record {
       handed = all.0;
       left = all.1;
       are_handed = all.2;
-      written = trace-first start.taken (lines now).taken all.0 prefix all.3.0 (length (inner_bits c octets (items_of all.0))) all.1 all.3.1
+      written =
+          trace-first start.taken (lines now).taken all.0 prefix all.3.0
+          (length (inner_bits c octets (items_of all.0))) all.1 all.3.1
           (trace-prefix start (lines now) (last now) prefix broke);
     }
 
 -- ---- nothing was given yet
 
-pub stands-new : (c : Configuration) (r : InnerReceiving) → IsAccepted c → r.config ≡ c → InnerReceiverStandsFor r [] [] → StandsAt r [] []
-stands-new c r accepted same stands = (stands, subst (λ (k : Configuration). AreHandedDue k [] []) (sym same) (handed-due-none c (keeps-some c accepted)))
+pub stands-new : (c : Configuration) (r : InnerReceiving) → IsAccepted c → r.config ≡ c
+    → InnerReceiverStandsFor r [] [] → StandsAt r [] []
+stands-new c r accepted same stands = (
+  stands,
+  subst (λ (k : Configuration). AreHandedDue k [] []) (sym same)
+      (handed-due-none c (keeps-some c accepted)),
+)
 
 -- ---- how tracing ends
 
 -- lines of the first of all are a prefix of the trace
-prefixes-by : (c : Configuration) (octets : List ℕ) (first : List (Handed WindowBlock)) (taken taken_now noted : Option (List ℕ)) (output : Output) (is : IsTrace c octets output)
-    → (rest : List (Handed WindowBlock)) × (is.handed ≡ first ++ rest) → WrotePrefix taken taken_now (blocks_text no_blocks first) → WrotePrefixes output (taken_by taken taken_now noted noted)
+prefixes-by : (c : Configuration) (octets : List ℕ) (first : List (Handed WindowBlock))
+    (taken taken_now noted : Option (List ℕ)) (output : Output) (is : IsTrace c octets output)
+    → (rest : List (Handed WindowBlock)) × (is.handed ≡ first ++ rest)
+    → WrotePrefix taken taken_now (blocks_text no_blocks first)
+    → WrotePrefixes output (taken_by taken taken_now noted noted)
 prefixes-by c octets first taken taken_now noted output is split wrote = record {
   out = subst (WrotePrefix taken taken_now) (sym is.out)
-      (trace-first taken taken_now is.handed first split.0 (length (inner_bits c octets (items_of is.handed))) is.left split.1 wrote);
+      (trace-first taken taken_now is.handed first split.0 (length (inner_bits c octets (items_of is.handed))) is.left
+      split.1 wrote);
   notes = (0, wrote-nothing noted);
 }
 
 -- the trace of what is handed over of octets
 abbrev trace-of : (c : Configuration) (octets : List ℕ) (handed : List (Handed WindowBlock)) → ℕ → Output
-trace-of c octets handed left = record { out = trace_text handed (length (inner_bits c octets (items_of handed))) left; notes = [] }
+trace-of c octets handed left =
+    record { out = trace_text handed (length (inner_bits c octets (items_of handed))) left; notes = [] }
 
-is-trace : (c : Configuration) (octets : List ℕ) (handed : List (Handed WindowBlock)) (left : ℕ) → AreHanded c octets handed left → IsTrace c octets (trace-of c octets handed left)
+is-trace : (c : Configuration) (octets : List ℕ) (handed : List (Handed WindowBlock)) (left : ℕ)
+    → AreHanded c octets handed left → IsTrace c octets (trace-of c octets handed left)
 is-trace c octets handed left are = record { handed = handed; left = left; are_handed = are; out = refl; notes = refl }
 
-shows-all : (c : Configuration) (octets : List ℕ) (before now : SinkState) (noted : Option (List ℕ)) → WroteTrace c before now octets
+shows-all : (c : Configuration) (octets : List ℕ) (before now : SinkState) (noted : Option (List ℕ))
+    → WroteTrace c before now octets
     → Shows (trace_meaning c) octets (taken_by before.taken now.taken noted noted) outcome.Done
 shows-all c octets before now noted w = (
   (
@@ -370,7 +472,8 @@ shows-all c octets before now noted w = (
   (λ none. none, λ none. none),
 )
 
-shows-prefix : (c : Configuration) (octets : List ℕ) (before now : SinkState) (noted : Option (List ℕ)) → WroteTracePrefix c before now octets
+shows-prefix : (c : Configuration) (octets : List ℕ) (before now : SinkState) (noted : Option (List ℕ))
+    → WroteTracePrefix c before now octets
     → WroteInOrder (trace_meaning c) octets (taken_by before.taken now.taken noted noted)
 shows-prefix c octets before now noted w = (
   trace-of c octets w.handed w.left,
@@ -379,12 +482,19 @@ shows-prefix c octets before now noted w = (
   wrote-nothing noted,
 )
 
-due-written : (c : Configuration) (r : InnerReceiving) (count : Tally) (octets : List ℕ) (before now : SinkState) (noted : Option (List ℕ)) → Traces c r count before now octets
+due-written : (c : Configuration) (r : InnerReceiving) (count : Tally) (octets : List ℕ) (before now : SinkState)
+    (noted : Option (List ℕ)) → Traces c r count before now octets
     → (output : Output) × IsTraceDue c octets output × WroteBoth output (taken_by before.taken now.taken noted noted)
 due-written c r count octets before now noted t =
     let output : Output = record { out = blocks_text no_blocks t.handed; notes = [] } in (
       output,
-      record { handed = t.handed; are_due = subst (λ (k : Configuration). AreHandedDue k octets t.handed) t.config t.stands.1; out = refl; notes = refl },
+      record {
+        handed = t.handed;
+        are_due = subst (λ (k : Configuration). AreHandedDue k octets t.handed) t.config
+            t.stands.1;
+        out = refl;
+        notes = refl;
+      },
       record { out = t.lines.lines.written; notes = wrote-nothing noted },
     )
 
@@ -396,17 +506,27 @@ module _ (exists : HasBlocks) (stands : StandFirst) (phase : HasPhase) (one : On
       (λ n. let b = has_blocks exists c n octets accepted in (b.0, (b.1, b.2))) in
       let left = all.1.are_items.0 in (
         trace-of c octets all.0 left,
-        is-trace c octets all.0 left record { chosen = all.1.chosen; choice = all.1.choice; items = all.1.items; are_items = all.1.are_items.1; are = all.1.are },
+        is-trace c octets all.0 left record {
+          chosen = all.1.chosen;
+          choice = all.1.choice;
+          items = all.1.items;
+          are_items = all.1.are_items.1;
+          are = all.1.are;
+        },
       )
 
-  ends-early : StayClosed → PhaseStays → (c : Configuration) (r : InnerReceiving) (count : Tally) (octets : List ℕ) (before now : SinkState) (noted : Option (List ℕ))
-      → IsAccepted c → Traces c r count before now octets → WroteEarly (trace_meaning c) octets (taken_by before.taken now.taken noted noted)
+  ends-early : StayClosed → PhaseStays → (c : Configuration) (r : InnerReceiving) (count : Tally) (octets : List ℕ)
+      (before now : SinkState) (noted : Option (List ℕ))
+      → IsAccepted c → Traces c r count before now octets → WroteEarly (trace_meaning c) octets
+      (taken_by before.taken now.taken noted noted)
   ends-early stay stays c r count octets before now noted accepted t = (
     due-written c r count octets before now noted t,
     λ more.
         let all = trace-output c (octets ++ more) accepted in
         let due = subst (λ (k : Configuration). AreHandedDue k octets t.handed) t.config t.stands.1 in
-        let split = with_phase-so_far (λ n. AreInnerDue c n octets) (λ n blocks. AreInnerBlocks c n (octets ++ more) blocks all.1.left) stays one c octets more t.handed all.1.handed
+        let split = with_phase-so_far (λ n. AreInnerDue c n octets)
+        (λ n blocks. AreInnerBlocks c n (octets ++ more) blocks all.1.left) stays one c octets more t.handed
+        all.1.handed
         (λ n first blocks p q. first-of-all stands c.inner c n (octets ++ more) first blocks all.1.left
         (stay-first stay c.inner c n octets more first (first-of-due c n octets first p)) q) due all.1.are_handed in (
           all.0,
@@ -416,15 +536,20 @@ module _ (exists : HasBlocks) (stands : StandFirst) (phase : HasPhase) (one : On
         ),
   )
 
-  shows-fed : (c : Configuration) (octets : List ℕ) (before now : SinkState) (is_last : Type 0) (noted : Option (List ℕ))
-      → IsAccepted c → TraceFails c before now is_last octets → WroteInOrder (trace_meaning c) octets (taken_by before.taken now.taken noted noted)
+  shows-fed : (c : Configuration) (octets : List ℕ) (before now : SinkState) (is_last : Type 0)
+      (noted : Option (List ℕ))
+      → IsAccepted c → TraceFails c before now is_last octets
+      → WroteInOrder (trace_meaning c) octets (taken_by before.taken now.taken noted noted)
   shows-fed c octets before now is_last noted accepted t =
       let all = trace-output c octets accepted in
-      let split = with_phase-prefix (λ n. AreInnerFirst c n octets) (λ n blocks. AreInnerBlocks c n octets blocks all.1.left) one c octets t.handed all.1.handed
-      (λ n first blocks p q. first-of-all stands c.inner c n octets first blocks all.1.left p q) t.are_first.1 all.1.are_handed in (
+      let split = with_phase-prefix (λ n. AreInnerFirst c n octets)
+      (λ n blocks. AreInnerBlocks c n octets blocks all.1.left) one c octets t.handed all.1.handed
+      (λ n first blocks p q. first-of-all stands c.inner c n octets first blocks all.1.left p q) t.are_first.1
+      all.1.are_handed in (
         all.0,
         all.1,
-        prefixes-by c octets t.handed before.taken now.taken noted all.0 all.1 split (trace-prefix before now is_last t.handed t.broke),
+        prefixes-by c octets t.handed before.taken now.taken noted all.0 all.1 split
+            (trace-prefix before now is_last t.handed t.broke),
         wrote-nothing noted,
       )
 
@@ -471,7 +596,8 @@ module _ (exists : HasBlocks) (stands : StandFirst) (phase : HasPhase) (one : On
           (omega arith) stood (p c same)
 
       pub driven-ends : (limit : ℕ) → limit ≡ c.limit → (ended unended : Type 0) (ending : Ending) (octets : List ℕ)
-          → DrivenTo Fed (λ a b o why. (why ≡ stop.SinkFault) × Fails a b o) (λ a b by. (by ≡ outcome.Done) × Finishes a b)
+          → DrivenTo Fed (λ a b o why. (why ≡ stop.SinkFault) × Fails a b o)
+          (λ a b by. (by ≡ outcome.Done) × Finishes a b)
           Failed limit before now ended unended ending octets
           → Ends ending (trace_meaning c) c.limit octets
           (taken_by (lines (taker before)).taken (lines (taker now)).taken noted noted)

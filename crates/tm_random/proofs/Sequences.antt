@@ -4,14 +4,16 @@ use Rattle.std.proofs.Math.Bool.{xor}
 use Rattle.tm_random.specs.Sequence.{sequence_bit}
 
 -- the recurrence: s[k+8] = s[k+7] + s[k+5] + s[k+3] + s[k] modulo 2
-pub sequence_bit-next : (k : ℕ) → sequence_bit (k + 8) ≡ xor (xor (xor (sequence_bit (k + 7)) (sequence_bit (k + 5))) (sequence_bit (k + 3))) (sequence_bit k)
+pub sequence_bit-next : (k : ℕ) → sequence_bit (k + 8) ≡ xor
+    (xor (xor (sequence_bit (k + 7)) (sequence_bit (k + 5))) (sequence_bit (k + 3))) (sequence_bit k)
 unfolding sequence_bit
 sequence_bit-next k =
     let eight : k + 8 ≡ suc (suc (suc (suc (suc (suc (suc (suc k))))))) = omega arith in
     let seven : suc (suc (suc (suc (suc (suc (suc k)))))) ≡ k + 7 = omega arith in
     let five : suc (suc (suc (suc (suc k)))) ≡ k + 5 = omega arith in
     let three : suc (suc (suc k)) ≡ k + 3 = omega arith in
-    ap sequence_bit eight ∙ (λ i. xor (xor (xor (sequence_bit (seven i)) (sequence_bit (five i))) (sequence_bit (three i))) (sequence_bit k))
+    ap sequence_bit eight ∙ (λ i. xor (xor (xor (sequence_bit (seven i)) (sequence_bit (five i)))
+    (sequence_bit (three i))) (sequence_bit k))
 
 -- a register of eight bits, which gives its oldest bit at each step and takes the next one
 unfoldable pub generated : ℕ → Bool → Bool → Bool → Bool → Bool → Bool → Bool → Bool → List Bool
@@ -24,7 +26,9 @@ sequence_bits k zero = []
 sequence_bits k (suc count) = sequence_bit k ∷ sequence_bits (suc k) count
 
 -- the register gives the sequence
-pub generated-sequence_bits : (count k : ℕ) → generated count (sequence_bit k) (sequence_bit (k + 1)) (sequence_bit (k + 2)) (sequence_bit (k + 3)) (sequence_bit (k + 4)) (sequence_bit (k + 5)) (sequence_bit (k + 6)) (sequence_bit (k + 7)) ≡ sequence_bits k count
+pub generated-sequence_bits : (count k : ℕ) → generated count (sequence_bit k) (sequence_bit (k + 1))
+    (sequence_bit (k + 2)) (sequence_bit (k + 3)) (sequence_bit (k + 4)) (sequence_bit (k + 5)) (sequence_bit (k + 6))
+    (sequence_bit (k + 7)) ≡ sequence_bits k count
 unfolding generated sequence_bits
 generated-sequence_bits zero k = refl
 generated-sequence_bits (suc count) k =
@@ -37,14 +41,19 @@ generated-sequence_bits (suc count) k =
     let seven : k + 7 ≡ suc k + 6 = omega arith in
     let eight : k + 8 ≡ suc k + 7 = omega arith in
     ap (λ l. sequence_bit k ∷ l)
-    ((λ i. generated count (sequence_bit (one i)) (sequence_bit (two i)) (sequence_bit (three i)) (sequence_bit (four i)) (sequence_bit (five i)) (sequence_bit (six i)) (sequence_bit (seven i)) ((sym (sequence_bit-next k) ∙ ap sequence_bit eight) i))
+    ((λ i. generated count (sequence_bit (one i)) (sequence_bit (two i)) (sequence_bit (three i))
+    (sequence_bit (four i)) (sequence_bit (five i)) (sequence_bit (six i)) (sequence_bit (seven i))
+    ((sym (sequence_bit-next k) ∙ ap sequence_bit eight) i))
     ∙ generated-sequence_bits count (suc k))
 
-pub get_or-sequence_bits : (count k n : ℕ) (d : Bool) → n < count → get_or (sequence_bits k count) n d ≡ sequence_bit (k + n)
+pub get_or-sequence_bits : (count k n : ℕ) (d : Bool) → n < count
+    → get_or (sequence_bits k count) n d ≡ sequence_bit (k + n)
 unfolding sequence_bits
 get_or-sequence_bits zero k n d within = absurd (omega arith)
 get_or-sequence_bits (suc count) k zero d within = let same : k ≡ k + 0 = omega arith in ap sequence_bit same
-get_or-sequence_bits (suc count) k (suc n) d within = let same : suc k + n ≡ k + suc n = omega arith in get_or-sequence_bits count (suc k) n d (omega arith) ∙ ap sequence_bit same
+get_or-sequence_bits (suc count) k (suc n) d within =
+    let same : suc k + n ≡ k + suc n = omega arith in get_or-sequence_bits count (suc k) n d (omega arith)
+    ∙ ap sequence_bit same
 
 pub length-sequence_bits : (count k : ℕ) → length (sequence_bits k count) ≡ count
 unfolding sequence_bits
@@ -52,14 +61,17 @@ length-sequence_bits zero k = refl
 length-sequence_bits (suc count) k = ap suc (length-sequence_bits count (suc k))
 
 -- the first bits, from a register of eight ones
-pub sequence_bits-generated : (count : ℕ) → sequence_bits 0 count ≡ generated count true true true true true true true true
+pub sequence_bits-generated : (count : ℕ) → sequence_bits 0 count
+    ≡ generated count true true true true true true true true
 unfolding sequence_bit
 sequence_bits-generated count = sym (generated-sequence_bits count 0)
 
-pub sequence_bit-generated : (count n : ℕ) → n < count → sequence_bit n ≡ get_or (generated count true true true true true true true true) n false
+pub sequence_bit-generated : (count n : ℕ) → n < count → sequence_bit n
+    ≡ get_or (generated count true true true true true true true true) n false
 sequence_bit-generated count n within =
     let same : n ≡ 0 + n = omega arith in
-    ap sequence_bit same ∙ sym (get_or-sequence_bits count 0 n false within) ∙ ap (λ l. get_or l n false) (sequence_bits-generated count)
+    ap sequence_bit same ∙ sym (get_or-sequence_bits count 0 n false within)
+    ∙ ap (λ l. get_or l n false) (sequence_bits-generated count)
 
 -- where eight bits from i on are as those from j on, all bits from i on are as those from j on
 go_on : (k i j : ℕ)
@@ -70,7 +82,8 @@ go_on : (k i j : ℕ)
     → sequence_bit (suc (suc (suc (suc i)))) ≡ sequence_bit (suc (suc (suc (suc j))))
     → sequence_bit (suc (suc (suc (suc (suc i))))) ≡ sequence_bit (suc (suc (suc (suc (suc j)))))
     → sequence_bit (suc (suc (suc (suc (suc (suc i)))))) ≡ sequence_bit (suc (suc (suc (suc (suc (suc j))))))
-    → sequence_bit (suc (suc (suc (suc (suc (suc (suc i))))))) ≡ sequence_bit (suc (suc (suc (suc (suc (suc (suc j)))))))
+    → sequence_bit (suc (suc (suc (suc (suc (suc (suc i)))))))
+    ≡ sequence_bit (suc (suc (suc (suc (suc (suc (suc j)))))))
     → sequence_bit (k + i) ≡ sequence_bit (k + j)
 unfolding sequence_bit
 go_on zero i j e0 e1 e2 e3 e4 e5 e6 e7 =
@@ -84,7 +97,8 @@ go_on (suc k) i j e0 e1 e2 e3 e4 e5 e6 e7 =
     ∙ go_on k (suc i) (suc j) e1 e2 e3 e4 e5 e6 e7 (λ t. xor (xor (xor (e7 t) (e5 t)) (e3 t)) (e0 t))
     ∙ ap sequence_bit second
 
-seen : (n : ℕ) → n < 263 → get_or (generated 263 true true true true true true true true) n false ≡ true → sequence_bit n ≡ true
+seen : (n : ℕ) → n < 263 → get_or (generated 263 true true true true true true true true) n false ≡ true
+    → sequence_bit n ≡ true
 seen n within is = sequence_bit-generated 263 n within ∙ is
 
 -- the sequence repeats after 255 bits
@@ -92,7 +106,9 @@ pub sequence_bit-period : (k : ℕ) → sequence_bit (k + 255) ≡ sequence_bit 
 unfolding sequence_bit generated xor
 sequence_bit-period k =
     let same : k + 0 ≡ k = omega arith in
-    go_on k 255 0 (seen 255 (lit< tt) refl) (seen 256 (lit< tt) refl) (seen 257 (lit< tt) refl) (seen 258 (lit< tt) refl) (seen 259 (lit< tt) refl) (seen 260 (lit< tt) refl) (seen 261 (lit< tt) refl) (seen 262 (lit< tt) refl)
+    go_on k 255 0 (seen 255 (lit< tt) refl) (seen 256 (lit< tt) refl) (seen 257 (lit< tt) refl)
+    (seen 258 (lit< tt) refl) (seen 259 (lit< tt) refl) (seen 260 (lit< tt) refl) (seen 261 (lit< tt) refl)
+    (seen 262 (lit< tt) refl)
     ∙ ap sequence_bit same
 
 pub sequence_bit-periods : (times k : ℕ) → sequence_bit (k + 255 * times) ≡ sequence_bit k
@@ -106,4 +122,5 @@ unfolding sequence_bits
 sequence_bits-periods zero times k = refl
 sequence_bits-periods (suc count) times k =
     let next : suc (k + 255 * times) ≡ suc k + 255 * times = omega arith in
-    (λ t. sequence_bit-periods times k t ∷ (ap (λ n. sequence_bits n count) next ∙ sequence_bits-periods count times (suc k)) t)
+    (λ t. sequence_bit-periods times k t ∷ (ap (λ n. sequence_bits n count) next
+    ∙ sequence_bits-periods count times (suc k)) t)

@@ -110,7 +110,8 @@ nearest-line c text octets now answer accepted read repaired =
 -- all of it was written
 pub line-written : (c : Configuration) (text octets now : List ℕ) (answer : Answer) → word_refusal c text ≡ None
     → (list_all is_hex_digit text ≡ true → octets ≡ octets_of_hex text)
-    → Repaired c octets answer now → (taken taken_now noted : Option (List ℕ)) → Wrote taken taken_now (word_text answer now)
+    → Repaired c octets answer now → (taken taken_now noted : Option (List ℕ))
+    → Wrote taken taken_now (word_text answer now)
     → WroteOutput (word_meaning text c) [] (taken_by taken taken_now noted noted)
 line-written c text octets now answer accepted read repaired taken taken_now noted wrote = (
   record { out = word_text answer now; notes = [] },

@@ -35,7 +35,11 @@ one_place : (a b : ℕ) → cond (eqb a b) 0 1 ≤ cond (eqb a 0) 0 1 + cond (eq
 one_place a b =
     elim (eqb_tells a 0) [
       | inl s ↦ elim (eqb_tells b 0) [
-        | inl t ↦ elim (eqb_tells a b) [ inl r ↦ rw (s.0, t.0, r.0) (omega arith) | inr r ↦ absurd (r.1 (s.1 ∙ sym t.1)) ]
+        | inl t ↦ elim (eqb_tells a b) [
+          | inl r ↦ rw (s.0, t.0, r.0) (omega arith)
+          | inr r ↦
+              absurd (r.1 (s.1 ∙ sym t.1))
+        ]
         | inr t ↦ rw (s.0, t.0) (omega (arith, at_most (eqb a b)))
       ]
       | inr s ↦ rw s.0 (omega (arith, at_most (eqb a b)))
@@ -61,26 +65,33 @@ pattern_unique e n s v w small pv pw =
         pv.few,
         pw.few,
         weight-sums v w,
-        weight_law e (sums v w) (AreElements-sums v w pv.elements pw.elements) (omega (arith, length-sums v w same, pv.size))
-            (λ k lt. value_at-sums v w (root e k) same ∙ ap (λ (y : ℕ). bit_xor y (value_at w (root e k))) (pv.meets k lt) ∙ ap (bit_xor (s k)) (pw.meets k lt) ∙ xor_self (s k))
+        weight_law e (sums v w) (AreElements-sums v w pv.elements pw.elements)
+            (omega (arith, length-sums v w same, pv.size))
+            (λ k lt. value_at-sums v w (root e k) same ∙ ap (λ (y : ℕ). bit_xor y (value_at w (root e k)))
+            (pv.meets k lt) ∙ ap (bit_xor (s k)) (pw.meets k lt) ∙ xor_self (s k))
             (λ z. ne (sym (weight-sums v w) ∙ z)),
       ))
     ]
 
 -- a near codeword gives a pattern
-pub pattern_of_codeword : (e n : ℕ) (s : ℕ → ℕ) (u c : List ℕ) → length u ≡ n → length c ≡ n → AreElements u → AreElements c
-    → ((k : ℕ) → k < 2 * e → value_at u (root e k) ≡ s k) → IsCodeword e c → distance u c ≤ e → IsPattern e n s (sums u c)
+pub pattern_of_codeword : (e n : ℕ) (s : ℕ → ℕ) (u c : List ℕ) → length u ≡ n → length c ≡ n → AreElements u
+    → AreElements c
+    → ((k : ℕ) → k < 2 * e → value_at u (root e k) ≡ s k) → IsCodeword e c → distance u c ≤ e
+    → IsPattern e n s (sums u c)
 pattern_of_codeword e n s u c lu lc eu ec su hc near =
     let same : length u ≡ length c = lu ∙ sym lc in
     record {
       size = length-sums u c same ∙ lu;
       elements = AreElements-sums u c eu ec;
       few = omega (arith, weight-sums u c);
-      meets = λ k lt. value_at-sums u c (root e k) same ∙ ap (bit_xor (value_at u (root e k))) (hc k lt) ∙ xor_zero_r (value_at u (root e k)) ∙ su k lt;
+      meets =
+          λ k lt. value_at-sums u c (root e k) same ∙ ap (bit_xor (value_at u (root e k))) (hc k lt)
+          ∙ xor_zero_r (value_at u (root e k)) ∙ su k lt;
     }
 
 -- a pattern gives a codeword
-pub codeword_of_pattern : (e n : ℕ) (s : ℕ → ℕ) (u w : List ℕ) → length u ≡ n → ((k : ℕ) → k < 2 * e → value_at u (root e k) ≡ s k)
+pub codeword_of_pattern : (e n : ℕ) (s : ℕ → ℕ) (u w : List ℕ) → length u ≡ n
+    → ((k : ℕ) → k < 2 * e → value_at u (root e k) ≡ s k)
     → IsPattern e n s w → IsCodeword e (sums u w)
 codeword_of_pattern e n s u w lu su p k lt =
     value_at-sums u w (root e k) (lu ∙ sym p.size) ∙ ap (λ (y : ℕ). bit_xor y (value_at w (root e k))) (su k lt)
@@ -94,7 +105,8 @@ unchanged_is a b =
         | inr r ↦ absurd (r.1 (ap (bit_xor a) t.1 ∙ xor_zero_r a))
       ]
       | inr t ↦ elim (eqb_tells (bit_xor a b) a) [
-        | inl r ↦ absurd (t.1 (sym (sym (xor_assoc a a b) ∙ ap (λ (y : ℕ). bit_xor y b) (xor_self a)) ∙ ap (bit_xor a) r.1 ∙ xor_self a))
+        | inl r ↦ absurd (t.1 (sym (sym (xor_assoc a a b) ∙ ap (λ (y : ℕ). bit_xor y b) (xor_self a))
+            ∙ ap (bit_xor a) r.1 ∙ xor_self a))
         | inr r ↦ r.0 ∙ sym t.0
       ]
     ]
@@ -103,4 +115,5 @@ pub distance-sums : (u w : List ℕ) → length u ≡ length w → distance (sum
 distance-sums [] [] e = refl
 distance-sums [] (y ∷ ys) e = absurd (omega arith)
 distance-sums (x ∷ xs) [] e = absurd (omega arith)
-distance-sums (x ∷ xs) (y ∷ ys) e = rw (unchanged_is x y) (ap (λ (z : ℕ). cond (eqb y 0) 0 1 + z) (distance-sums xs ys (omega arith)))
+distance-sums (x ∷ xs) (y ∷ ys) e =
+    rw (unchanged_is x y) (ap (λ (z : ℕ). cond (eqb y 0) 0 1 + z) (distance-sums xs ys (omega arith)))

@@ -39,7 +39,13 @@ AreTerms-covering (u ∷ us) [] h = tt
 AreTerms-covering (u ∷ us) (w ∷ ws) h =
     elim (eqb_tells u 0) [
       | inl t ↦ rw t.0 (AreTerms-covering us ws h.1)
-      | inr t ↦ rw t.0 (h.0, power-lt 2 (11 * length us), power-nonzero 2 (11 * length us) (omega arith) (omega arith), AreTerms-covering us ws h.1)
+      | inr t ↦ rw t.0 (
+        h.0,
+        power-lt 2 (11 * length us),
+        power-nonzero 2 (11 * length us) (omega arith)
+            (omega arith),
+        AreTerms-covering us ws h.1,
+      )
     ]
 
 ApartFrom-covering : (l : ℕ) (us ws : List ℕ) → length us ≤ l → l < 255 → ApartFrom (place_of l) (covering us ws)
@@ -49,7 +55,10 @@ ApartFrom-covering l (u ∷ us) [] h m = tt
 ApartFrom-covering l (u ∷ us) (w ∷ ws) h m =
     elim (eqb_tells u 0) [
       | inl t ↦ rw t.0 (ApartFrom-covering l us ws (omega arith) m)
-      | inr t ↦ rw t.0 ((λ e. let same : length us ≡ l = place_apart (length us) l (omega arith) m e in omega arith), ApartFrom-covering l us ws (omega arith) m)
+      | inr t ↦ rw t.0 (
+        (λ e. let same : length us ≡ l = place_apart (length us) l (omega arith) m e in omega arith),
+        ApartFrom-covering l us ws (omega arith) m,
+      )
     ]
 
 AreApart-covering : (us ws : List ℕ) → length us ≤ 255 → AreApart (covering us ws)
@@ -58,7 +67,10 @@ AreApart-covering (u ∷ us) [] h = tt
 AreApart-covering (u ∷ us) (w ∷ ws) h =
     elim (eqb_tells u 0) [
       | inl t ↦ rw t.0 (AreApart-covering us ws (omega arith))
-      | inr t ↦ rw t.0 (ApartFrom-covering (length us) us ws (omega arith) (omega arith), AreApart-covering us ws (omega arith))
+      | inr t ↦ rw t.0 (
+        ApartFrom-covering (length us) us ws (omega arith) (omega arith),
+        AreApart-covering us ws (omega arith),
+      )
     ]
 
 places_of-covering : (us ws : List ℕ) → length ws ≡ length us → places_of (covering us ws) ≡ places_of (terms_of us)
@@ -70,7 +82,8 @@ places_of-covering (u ∷ us) (w ∷ ws) e =
       | inr t ↦ rw t.0 (ap (λ (xs : List ℕ). place_of (length us) ∷ xs) (places_of-covering us ws (omega arith)))
     ]
 
-power_sum-covering : (j : ℕ) (us ws : List ℕ) → length ws ≡ length us → Covers us ws → power_sum j (covering us ws) ≡ value_at ws (power 2 (11 * j))
+power_sum-covering : (j : ℕ) (us ws : List ℕ) → length ws ≡ length us → Covers us ws
+    → power_sum j (covering us ws) ≡ value_at ws (power 2 (11 * j))
 unfolding place_of
 power_sum-covering j [] [] e z = refl
 power_sum-covering j [] (w ∷ ws) e z = absurd (omega arith)
@@ -79,9 +92,12 @@ power_sum-covering j (u ∷ us) (w ∷ ws) e z =
     let same : length ws ≡ length us = omega arith in
     elim (eqb_tells u 0) [
       | inl t ↦ rw t.0 (power_sum-covering j us ws same z.1
-          ∙ sym (ap (λ (y : ℕ). bit_xor (times y (power (power 2 (11 * j)) (length ws))) (value_at ws (power 2 (11 * j)))) (z.0 t.1)
-          ∙ ap (λ (y : ℕ). bit_xor y (value_at ws (power 2 (11 * j)))) (zero-times (power (power 2 (11 * j)) (length ws)))))
-      | inr t ↦ rw t.0 (ap (λ (y : ℕ). bit_xor (times w y) (power_sum j (covering us ws))) (sym (exchanged (length us) j))
+          ∙ sym (ap (λ (y : ℕ). bit_xor (times y (power (power 2 (11 * j)) (length ws)))
+          (value_at ws (power 2 (11 * j)))) (z.0 t.1)
+          ∙ ap (λ (y : ℕ). bit_xor y (value_at ws (power 2 (11 * j))))
+          (zero-times (power (power 2 (11 * j)) (length ws)))))
+      | inr t ↦ rw t.0 (ap (λ (y : ℕ). bit_xor (times w y) (power_sum j (covering us ws)))
+          (sym (exchanged (length us) j))
           ∙ ap (bit_xor (times w (power (power 2 (11 * j)) (length us)))) (power_sum-covering j us ws same z.1)
           ∙ ap (λ (n : ℕ). bit_xor (times w (power (power 2 (11 * j)) n)) (value_at ws (power 2 (11 * j)))) (sym same))
     ]
@@ -95,7 +111,8 @@ value_of-covering (u ∷ us) (w ∷ ws) p e z h l =
     let same : length ws ≡ length us = omega arith in
     elim (eqb_tells (length ws) p) [
       | inl t ↦ elim (eqb_tells u 0) [
-        | inl y ↦ rw (t.0, y.0) (value_of-covering us ws p same z.1 (omega arith) l ∙ no_symbol ws p (omega (arith, t.1)) ∙ sym (z.0 y.1))
+        | inl y ↦ rw (t.0, y.0) (value_of-covering us ws p same z.1 (omega arith) l
+            ∙ no_symbol ws p (omega (arith, t.1)) ∙ sym (z.0 y.1))
         | inr y ↦ elim (eqb_tells (place_of (length us)) (place_of p)) [
           | inl s ↦ rw (t.0, y.0, s.0) refl
           | inr s ↦ absurd (s.1 (ap place_of (sym same ∙ t.1)))
@@ -104,7 +121,8 @@ value_of-covering (u ∷ us) (w ∷ ws) p e z h l =
       | inr t ↦ elim (eqb_tells u 0) [
         | inl y ↦ rw (t.0, y.0) (value_of-covering us ws p same z.1 (omega arith) l)
         | inr y ↦ elim (eqb_tells (place_of (length us)) (place_of p)) [
-          | inl s ↦ absurd (t.1 (same ∙ place_apart (length us) p (omega arith) l (sym (place_is (length us)) ∙ s.1 ∙ place_is p)))
+          | inl s ↦ absurd (t.1 (same ∙ place_apart (length us) p (omega arith) l
+              (sym (place_is (length us)) ∙ s.1 ∙ place_is p)))
           | inr s ↦ rw (t.0, y.0, s.0) (value_of-covering us ws p same z.1 (omega arith) l)
         ]
       ]
@@ -112,7 +130,8 @@ value_of-covering (u ∷ us) (w ∷ ws) p e z h l =
 
 -- ---- the symbols
 
-locator_is_product : (e : ℕ) (s : ℕ → ℕ) (locator u w : List ℕ) → IsLocated e s locator u w → locator ≡ 1 ∷ product_of (places_of (covering u w))
+locator_is_product : (e : ℕ) (s : ℕ → ℕ) (locator u w : List ℕ) → IsLocated e s locator u w
+    → locator ≡ 1 ∷ product_of (places_of (covering u w))
 locator_is_product e s locator u w h =
     h.locator_is ∙ locator-terms_of u ∙ ap (λ (xs : List ℕ). 1 ∷ product_of xs) (sym (places_of-covering u w h.size))
 
@@ -143,4 +162,6 @@ pub length-locator : (u : List ℕ) → length (locator_of u) ≡ suc (weight u)
 length-locator u = length_is (locator-terms_of u)
   where
     length_is : locator_of u ≡ 1 ∷ product_of (places_of (terms_of u)) → length (locator_of u) ≡ suc (weight u)
-    length_is e = ap length e ∙ ap suc (length-product_of (places_of (terms_of u)) ∙ length-places_of (terms_of u) ∙ length-terms_of u)
+    length_is e =
+        ap length e ∙ ap suc (length-product_of (places_of (terms_of u)) ∙ length-places_of (terms_of u)
+        ∙ length-terms_of u)

@@ -47,7 +47,13 @@ AreTerms-terms_of [] h = tt
 AreTerms-terms_of (c ∷ cs) h =
     elim (eqb_tells c 0) [
       | inl t ↦ rw t.0 (AreTerms-terms_of cs h.1)
-      | inr t ↦ rw t.0 (h.0, power-lt 2 (11 * length cs), power-nonzero 2 (11 * length cs) (omega arith) (omega arith), AreTerms-terms_of cs h.1)
+      | inr t ↦ rw t.0 (
+        h.0,
+        power-lt 2 (11 * length cs),
+        power-nonzero 2 (11 * length cs) (omega arith)
+            (omega arith),
+        AreTerms-terms_of cs h.1,
+      )
     ]
 
 ApartFrom-terms_of : (l : ℕ) (w : List ℕ) → length w ≤ l → l < 255 → ApartFrom (place_of l) (terms_of w)
@@ -56,7 +62,10 @@ ApartFrom-terms_of l [] h m = tt
 ApartFrom-terms_of l (c ∷ cs) h m =
     elim (eqb_tells c 0) [
       | inl t ↦ rw t.0 (ApartFrom-terms_of l cs (omega arith) m)
-      | inr t ↦ rw t.0 ((λ e. let same : length cs ≡ l = place_apart (length cs) l (omega arith) m e in omega arith), ApartFrom-terms_of l cs (omega arith) m)
+      | inr t ↦ rw t.0 (
+        (λ e. let same : length cs ≡ l = place_apart (length cs) l (omega arith) m e in omega arith),
+        ApartFrom-terms_of l cs (omega arith) m,
+      )
     ]
 
 pub AreApart-terms_of : (w : List ℕ) → length w ≤ 255 → AreApart (terms_of w)
@@ -64,7 +73,10 @@ AreApart-terms_of [] h = tt
 AreApart-terms_of (c ∷ cs) h =
     elim (eqb_tells c 0) [
       | inl t ↦ rw t.0 (AreApart-terms_of cs (omega arith))
-      | inr t ↦ rw t.0 (ApartFrom-terms_of (length cs) cs (omega arith) (omega arith), AreApart-terms_of cs (omega arith))
+      | inr t ↦ rw t.0 (
+        ApartFrom-terms_of (length cs) cs (omega arith) (omega arith),
+        AreApart-terms_of cs (omega arith),
+      )
     ]
 
 -- a power of a power, in either order
@@ -77,8 +89,10 @@ power_sum-terms_of j [] = refl
 power_sum-terms_of j (c ∷ cs) =
     elim (eqb_tells c 0) [
       | inl t ↦ rw t.0 (power_sum-terms_of j cs
-          ∙ sym (ap (λ (y : ℕ). bit_xor (times y (power (power 2 (11 * j)) (length cs))) (value_at cs (power 2 (11 * j)))) t.1
-          ∙ ap (λ (y : ℕ). bit_xor y (value_at cs (power 2 (11 * j)))) (zero-times (power (power 2 (11 * j)) (length cs)))))
+          ∙ sym (ap (λ (y : ℕ). bit_xor (times y (power (power 2 (11 * j)) (length cs)))
+          (value_at cs (power 2 (11 * j)))) t.1
+          ∙ ap (λ (y : ℕ). bit_xor y (value_at cs (power 2 (11 * j))))
+          (zero-times (power (power 2 (11 * j)) (length cs)))))
       | inr t ↦ rw t.0 (ap (λ (y : ℕ). bit_xor (times c y) (power_sum j (terms_of cs))) (sym (exchanged (length cs) j))
           ∙ ap (bit_xor (times c (power (power 2 (11 * j)) (length cs)))) (power_sum-terms_of j cs))
     ]
@@ -94,7 +108,8 @@ weight_of_zero (c ∷ cs) z =
 
 -- ---- the law
 
-pub weight_law : (e : ℕ) (w : List ℕ) → AreElements w → length w ≤ 255 → IsCodeword e w → weight w ≢ 0 → 2 * e < weight w
+pub weight_law : (e : ℕ) (w : List ℕ) → AreElements w → length w ≤ 255 → IsCodeword e w → weight w ≢ 0
+    → 2 * e < weight w
 weight_law e w h l code ne =
     elim (cases_lt (2 * e) (weight w)) [
       | inl lt ↦ lt
@@ -115,7 +130,8 @@ AreElements-sums [] ys h l = tt
 AreElements-sums (x ∷ xs) [] h l = tt
 AreElements-sums (x ∷ xs) (y ∷ ys) h l = (plus-lt x y h.0 l.0, AreElements-sums xs ys h.1 l.1)
 
-pub value_at-sums : (xs ys : List ℕ) (x : ℕ) → length xs ≡ length ys → value_at (sums xs ys) x ≡ bit_xor (value_at xs x) (value_at ys x)
+pub value_at-sums : (xs ys : List ℕ) (x : ℕ) → length xs ≡ length ys
+    → value_at (sums xs ys) x ≡ bit_xor (value_at xs x) (value_at ys x)
 value_at-sums [] [] x e = refl
 value_at-sums [] (d ∷ ds) x e = absurd (omega arith)
 value_at-sums (c ∷ cs) [] x e = absurd (omega arith)
@@ -125,7 +141,8 @@ value_at-sums (c ∷ cs) (d ∷ ds) x e =
     ∙ ap (bit_xor (times (bit_xor c d) (power x (length cs)))) (value_at-sums cs ds x same)
     ∙ ap (λ (y : ℕ). bit_xor y (bit_xor (value_at cs x) (value_at ds x))) (plus-times c d (power x (length cs)))
     ∙ middle (times c (power x (length cs))) (times d (power x (length cs))) (value_at cs x) (value_at ds x)
-    ∙ ap (λ (y : ℕ). bit_xor (bit_xor (times c (power x (length cs))) (value_at cs x)) (bit_xor (times d (power x y)) (value_at ds x))) same
+    ∙ ap (λ (y : ℕ). bit_xor (bit_xor (times c (power x (length cs))) (value_at cs x))
+    (bit_xor (times d (power x y)) (value_at ds x))) same
 
 differ_is : (x y : ℕ) → eqb (bit_xor x y) 0 ≡ eqb x y
 differ_is x y =
@@ -148,7 +165,9 @@ same_of_distance [] (y ∷ ys) e d = absurd (omega arith)
 same_of_distance (x ∷ xs) [] e d = absurd (omega arith)
 same_of_distance (x ∷ xs) (y ∷ ys) e d =
     elim (eqb_tells x y) [
-      | inl t ↦ let d' = rw t.0 at d in ap (λ (z : ℕ). z ∷ xs) t.1 ∙ ap (λ (zs : List ℕ). y ∷ zs) (same_of_distance xs ys (omega arith) (omega arith))
+      | inl t ↦ let d' =
+          rw t.0 at d in ap (λ (z : ℕ). z ∷ xs) t.1
+          ∙ ap (λ (zs : List ℕ). y ∷ zs) (same_of_distance xs ys (omega arith) (omega arith))
       | inr t ↦ let d' = rw t.0 at d in absurd (omega arith)
     ]
 
@@ -160,6 +179,7 @@ distance_law e v w hv hw len l cv cw ne =
       arith,
       weight-sums v w,
       weight_law e (sums v w) (AreElements-sums v w hv hw) (omega (arith, length-sums v w len))
-          (λ k lt. value_at-sums v w (root e k) len ∙ ap (λ (y : ℕ). bit_xor y (value_at w (root e k))) (cv k lt) ∙ cw k lt)
+          (λ k lt. value_at-sums v w (root e k) len ∙ ap (λ (y : ℕ). bit_xor y (value_at w (root e k))) (cv k lt)
+          ∙ cw k lt)
           (λ z. ne (same_of_distance v w len (sym (weight-sums v w) ∙ z))),
     )

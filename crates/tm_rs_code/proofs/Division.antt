@@ -23,7 +23,8 @@ pub listing-push : (c : ℕ → ℕ) (i n : ℕ) → listing c i (suc n) ≡ lis
 listing-push c i zero = ap (λ (j : ℕ). c j ∷ []) (sym (add-zero i))
 listing-push c i (suc n) =
     let same : suc i + n ≡ i + suc n = omega arith in
-    ap (λ (ys : List ℕ). c i ∷ ys) (listing-push c (suc i) n) ∙ ap (λ (j : ℕ). c i ∷ (listing c (suc i) n ++ c j ∷ [])) same
+    ap (λ (ys : List ℕ). c i ∷ ys) (listing-push c (suc i) n)
+    ∙ ap (λ (j : ℕ). c i ∷ (listing c (suc i) n ++ c j ∷ [])) same
 
 pub divided_is_value : (c : ℕ → ℕ) → ((i : ℕ) → c i < 256) → (x n : ℕ) → value_at (listing c 0 n) x ≡ divided c x n
 divided_is_value c h x zero = refl
@@ -45,10 +46,12 @@ cancel a b = xor_assoc a b b ∙ ap (bit_xor a) (xor_self b) ∙ xor_zero_r a
 quotient_listing : (c : ℕ → ℕ) (x n i : ℕ) → divided c x (suc (suc i + n)) ≡ 0
     → carry x (divided c x (suc i)) (listing (quotient_at c x) (suc i) n) ≡ listing c (suc i) (suc n)
 quotient_listing c x zero i z =
-    ap (λ (y : ℕ). y ∷ []) (sym (plus_apart (c (suc i)) (times x (divided c x (suc i))) (ap (divided c x) (ap suc (sym (add-zero (suc i)))) ∙ z)))
+    ap (λ (y : ℕ). y ∷ []) (sym (plus_apart (c (suc i)) (times x (divided c x (suc i)))
+    (ap (divided c x) (ap suc (sym (add-zero (suc i)))) ∙ z)))
 quotient_listing c x (suc n) i z =
     let same : suc (suc (suc i) + n) ≡ suc (suc i + suc n) = omega arith in
-    ap (λ (y : ℕ). y ∷ carry x (quotient_at c x (suc i)) (listing (quotient_at c x) (suc (suc i)) n)) (cancel (c (suc i)) (times x (divided c x (suc i))))
+    ap (λ (y : ℕ). y ∷ carry x (quotient_at c x (suc i)) (listing (quotient_at c x) (suc (suc i)) n))
+    (cancel (c (suc i)) (times x (divided c x (suc i))))
     ∙ ap (λ (ys : List ℕ). c (suc i) ∷ ys) (quotient_listing c x n (suc i) (ap (divided c x) same ∙ z))
 
 -- ---- the product's roots
@@ -61,17 +64,20 @@ AreRoots-carry r qs (s ∷ ss) h =
 pub AreRoots-product : (rs : List ℕ) → AreRoots (product_of rs) rs
 AreRoots-product [] = tt
 AreRoots-product (r ∷ rs) = (
-  value_at-carry r 1 (product_of rs) r ∙ ap (λ (y : ℕ). times y (value_at (1 ∷ product_of rs) r)) (xor_self r) ∙ zero-times (value_at (1 ∷ product_of rs) r),
+  value_at-carry r 1 (product_of rs) r ∙ ap (λ (y : ℕ). times y (value_at (1 ∷ product_of rs) r)) (xor_self r)
+      ∙ zero-times (value_at (1 ∷ product_of rs) r),
   AreRoots-carry r (product_of rs) rs (AreRoots-product rs),
 )
 
 -- a quotient with the root once more has all roots
-AreRoots-again : (r : ℕ) (qs rs : List ℕ) → r < 256 → AreElements rs → value_at (1 ∷ qs) r ≡ 0 → AreRoots (carry r 1 qs) rs → AreRoots qs rs
+AreRoots-again : (r : ℕ) (qs rs : List ℕ) → r < 256 → AreElements rs → value_at (1 ∷ qs) r ≡ 0
+    → AreRoots (carry r 1 qs) rs → AreRoots qs rs
 AreRoots-again r qs [] h el z a = tt
 AreRoots-again r qs (s ∷ ss) h el z a = (
   elim (cases_eq s r) [
     | inl e ↦ ap (value_at (1 ∷ qs)) e ∙ z
-    | inr ne ↦ times-cancel (bit_xor s r) (value_at (1 ∷ qs) s) (plus-lt s r el.0 h) (value_at-lt (1 ∷ qs) s) (λ e. ne (plus_apart s r e))
+    | inr ne ↦ times-cancel (bit_xor s r) (value_at (1 ∷ qs) s) (plus-lt s r el.0 h) (value_at-lt (1 ∷ qs) s)
+        (λ e. ne (plus_apart s r e))
         (sym (value_at-carry r 1 qs s) ∙ a.0)
   ],
   AreRoots-again r qs ss h el.1 z a.1,
@@ -80,19 +86,23 @@ AreRoots-again r qs (s ∷ ss) h el z a = (
 -- ---- the value at a root
 
 pub record IsValue (c s : ℕ → ℕ) (e l x v : ℕ) : Type 0 where
-  pub value : discrepancy (quotient_at c x) s (l - 1) l ≡ times v (times (value_at (listing (quotient_at c x) 0 l) x) (power x (128 - e)))
+  pub value : discrepancy (quotient_at c x) s (l - 1) l ≡ times v
+      (times (value_at (listing (quotient_at c x) 0 l) x) (power x (128 - e)))
   pub slope : value_at (listing (quotient_at c x) 0 l) x ≢ 0
 
 -- c is the product over the places of the terms ts, whose power sums begin as s does
-pub value_at_root : (e : ℕ) (s : ℕ → ℕ) (ts : List Term) → AreTerms ts → AreApart ts → (c : ℕ → ℕ) → ((i : ℕ) → c i < 256)
+pub value_at_root : (e : ℕ) (s : ℕ → ℕ) (ts : List Term) → AreTerms ts → AreApart ts → (c : ℕ → ℕ)
+    → ((i : ℕ) → c i < 256)
     → (l : ℕ) → length ts ≡ suc l → listing c 0 (suc (suc l)) ≡ 1 ∷ product_of (places_of ts)
     → ((k : ℕ) → k < suc l → sums_from (128 - e) ts k ≡ s k) → (x : ℕ) → x < 256
     → value_at (listing c 0 (suc (suc l))) x ≡ 0 → IsValue c s e (suc l) x (value_of x ts)
 value_at_root e s ts terms apart c elements l same whole begins x xl root_is =
     let one : c 0 ≡ 1 = head_is (c 0) 1 (listing c 1 (suc l)) (product_of (places_of ts)) whole in
-    let tail : listing c 1 (suc l) ≡ product_of (places_of ts) = tail_is (c 0) 1 (listing c 1 (suc l)) (product_of (places_of ts)) whole in
+    let tail : listing c 1 (suc l) ≡ product_of (places_of ts) =
+    tail_is (c 0) 1 (listing c 1 (suc l)) (product_of (places_of ts)) whole in
     let rest : divided c x (suc (suc 0 + l)) ≡ 0 =
-    let j : suc (suc 0 + l) ≡ suc (suc l) = omega arith in ap (divided c x) j ∙ sym (divided_is_value c elements x (suc (suc l))) ∙ root_is in
+    let j : suc (suc 0 + l) ≡ suc (suc l) = omega arith in ap (divided c x) j
+    ∙ sym (divided_is_value c elements x (suc (suc l))) ∙ root_is in
     let first : divided c x 1 ≡ 1 = ap (bit_xor (c 0)) (times-zero x) ∙ xor_zero_r (c 0) ∙ one in
     let qs : List ℕ = listing (quotient_at c x) 1 l in
     let carried : carry x 1 qs ≡ product_of (places_of ts) =
@@ -127,7 +137,8 @@ value_at_root e s ts terms apart c elements l same whole begins x xl root_is =
 
 -- ---- a place that is no root has no value
 
-not_root : (cs : List ℕ) (ts : List Term) (x : ℕ) → AreRoots cs (places_of ts) → value_at (1 ∷ cs) x ≢ 0 → value_of x ts ≡ 0
+not_root : (cs : List ℕ) (ts : List Term) (x : ℕ) → AreRoots cs (places_of ts) → value_at (1 ∷ cs) x ≢ 0
+    → value_of x ts ≡ 0
 not_root cs [] x r ne = refl
 not_root cs (t ∷ ts) x r ne =
     elim (eqb_tells t.place x) [
@@ -135,6 +146,8 @@ not_root cs (t ∷ ts) x r ne =
       | inr s ↦ rw s.0 (not_root cs ts x r.1 ne)
     ]
 
-pub no_value_there : (ls : List ℕ) (ts : List Term) (x : ℕ) → ls ≡ 1 ∷ product_of (places_of ts) → value_at ls x ≢ 0 → value_of x ts ≡ 0
+pub no_value_there : (ls : List ℕ) (ts : List Term) (x : ℕ) → ls ≡ 1 ∷ product_of (places_of ts) → value_at ls x ≢ 0
+    → value_of x ts ≡ 0
 no_value_there ls ts x e ne =
-    not_root (product_of (places_of ts)) ts x (AreRoots-product (places_of ts)) (λ z. ne (ap (λ (ys : List ℕ). value_at ys x) e ∙ z))
+    not_root (product_of (places_of ts)) ts x (AreRoots-product (places_of ts))
+    (λ z. ne (ap (λ (ys : List ℕ). value_at ys x) e ∙ z))

@@ -23,7 +23,8 @@ use Rattle.tm_rs_code.proofs.Division.{AreRoots-product, no_value_there}
 
 -- ---- roots and symbols
 
-apart_of_place : (u : List ℕ) (p : ℕ) → length u ≤ 255 → p < 255 → symbol_at u p ≡ 0 → ApartFrom (place_of p) (terms_of u)
+apart_of_place : (u : List ℕ) (p : ℕ) → length u ≤ 255 → p < 255 → symbol_at u p ≡ 0
+    → ApartFrom (place_of p) (terms_of u)
 apart_of_place [] p s l z = tt
 apart_of_place (c ∷ cs) p s l z =
     elim (eqb_tells (length cs) p) [
@@ -35,7 +36,11 @@ apart_of_place (c ∷ cs) p s l z =
       | inr t ↦ let z' = rw t.0 at z in
           elim (eqb_tells c 0) [
             | inl y ↦ rw y.0 (apart_of_place cs p (omega arith) l z')
-            | inr y ↦ rw y.0 ((λ e. t.1 (place_apart (length cs) p (omega arith) l (sym (place_is (length cs)) ∙ e ∙ place_is p))), apart_of_place cs p (omega arith) l z')
+            | inr y ↦ rw y.0 (
+              (λ e. t.1 (place_apart (length cs) p (omega arith) l
+                  (sym (place_is (length cs)) ∙ e ∙ place_is p))),
+              apart_of_place cs p (omega arith) l z',
+            )
           ]
     ]
 
@@ -48,22 +53,30 @@ AreElements-product [] = tt
 AreElements-product (r ∷ rs) = AreElements-carry r 1 (product_of rs) (AreElements-product rs)
 
 -- a root of the locator is the place of a symbol that is not 0
-pub root_has_symbol : (u : List ℕ) (p : ℕ) → AreElements u → length u ≤ 255 → p < 255 → value_at (locator_of u) (place_of p) ≡ 0 → symbol_at u p ≢ 0
+pub root_has_symbol : (u : List ℕ) (p : ℕ) → AreElements u → length u ≤ 255 → p < 255
+    → value_at (locator_of u) (place_of p) ≡ 0 → symbol_at u p ≢ 0
 root_has_symbol u p el s l r z =
     let small : place_of p < 256 = rw (place_is p) (power-lt 2 (11 * p)) in
     let most = at_most_degree (place_of p ∷ places_of (terms_of u)) (product_of (places_of (terms_of u)))
-    (small, AreElements-places_of (terms_of u) (AreTerms-terms_of u el))
-    (AllOther-places_of (place_of p) (terms_of u) (apart_of_place u p s l z), AllDifferent-places_of (terms_of u) (AreApart-terms_of u s))
-    (AreElements-product (places_of (terms_of u)))
-    (sym (ap (λ (ys : List ℕ). value_at ys (place_of p)) (locator-terms_of u)) ∙ r, AreRoots-product (places_of (terms_of u))) in
+    (small, AreElements-places_of (terms_of u) (AreTerms-terms_of u el)) (
+      AllOther-places_of (place_of p) (terms_of u) (apart_of_place u p s l z),
+      AllDifferent-places_of (terms_of u) (AreApart-terms_of u s),
+    )
+    (AreElements-product (places_of (terms_of u))) (
+      sym (ap (λ (ys : List ℕ). value_at ys (place_of p)) (locator-terms_of u))
+          ∙ r,
+      AreRoots-product (places_of (terms_of u)),
+    ) in
     omega (arith, most.0, length-product_of (places_of (terms_of u)))
 
 -- the place of a symbol that is not 0 is a root
-pub symbol_has_root : (u : List ℕ) (p : ℕ) → length u ≤ 255 → p < 255 → symbol_at u p ≢ 0 → value_at (locator_of u) (place_of p) ≡ 0
+pub symbol_has_root : (u : List ℕ) (p : ℕ) → length u ≤ 255 → p < 255 → symbol_at u p ≢ 0
+    → value_at (locator_of u) (place_of p) ≡ 0
 symbol_has_root u p s l h =
     elim (cases_eq (value_at (locator_of u) (place_of p)) 0) [
       | inl z ↦ z
-      | inr ne ↦ absurd (h (sym (value_of-terms_of u p s l) ∙ no_value_there (locator_of u) (terms_of u) (place_of p) (locator-terms_of u) ne))
+      | inr ne ↦ absurd (h (sym (value_of-terms_of u p s l)
+          ∙ no_value_there (locator_of u) (terms_of u) (place_of p) (locator-terms_of u) ne))
     ]
 
 pub symbol_at-head : (c : ℕ) (cs : List ℕ) (p : ℕ) → length cs ≡ p → symbol_at (c ∷ cs) p ≡ c
@@ -91,7 +104,8 @@ AreElements-marks (false ∷ fs) = (omega arith, AreElements-marks fs)
 abbrev pub VanishesAt : List ℕ → List Bool → Type 0
 VanishesAt g [] = Unit {0}
 VanishesAt g (f ∷ fs) =
-    (f ≡ true → value_at g (place_of (length fs)) ≡ 0) × (f ≡ false → value_at g (place_of (length fs)) ≢ 0) × VanishesAt g fs
+    (f ≡ true → value_at g (place_of (length fs)) ≡ 0) × (f ≡ false → value_at g (place_of (length fs)) ≢ 0)
+    × VanishesAt g fs
 
 not_true : false ≡ true → ⊥
 not_true e = cc
@@ -102,21 +116,25 @@ not_false e = cc
 one_not_zero : (n : ℕ) → n ≡ 1 → n ≢ 0
 one_not_zero n e z = omega arith
 
-vanishes_at : (g : List ℕ) (fs : List Bool) → ((p : ℕ) → p < length fs → symbol_at (marks fs) p ≢ 0 → value_at g (place_of p) ≡ 0)
+vanishes_at : (g : List ℕ) (fs : List Bool) → ((p : ℕ) → p < length fs → symbol_at (marks fs) p ≢ 0
+    → value_at g (place_of p) ≡ 0)
     → ((p : ℕ) → p < length fs → value_at g (place_of p) ≡ 0 → symbol_at (marks fs) p ≢ 0) → VanishesAt g fs
 vanishes_at g [] to from = tt
 vanishes_at g (true ∷ fs) to from = (
-  (λ e. to (length fs) (omega arith) (one_not_zero (symbol_at (1 ∷ marks fs) (length fs)) (symbol_at-head 1 (marks fs) (length fs) (length-marks fs)))),
+  (λ e. to (length fs) (omega arith) (one_not_zero (symbol_at (1 ∷ marks fs) (length fs))
+      (symbol_at-head 1 (marks fs) (length fs) (length-marks fs)))),
   (λ e. absurd (not_false e)),
   vanishes_at g fs
-      (λ p l ne. to p (omega arith) (λ z. ne (sym (symbol_at-tail 1 (marks fs) p (omega (arith, length-marks fs))) ∙ z)))
+      (λ p l ne. to p (omega arith) (λ z. ne (sym (symbol_at-tail 1 (marks fs) p (omega (arith, length-marks fs)))
+      ∙ z)))
       (λ p l r z. from p (omega arith) r (symbol_at-tail 1 (marks fs) p (omega (arith, length-marks fs)) ∙ z)),
 )
 vanishes_at g (false ∷ fs) to from = (
   (λ e. absurd (not_true e)),
   (λ e r. from (length fs) (omega arith) r (symbol_at-head 0 (marks fs) (length fs) (length-marks fs))),
   vanishes_at g fs
-      (λ p l ne. to p (omega arith) (λ z. ne (sym (symbol_at-tail 0 (marks fs) p (omega (arith, length-marks fs))) ∙ z)))
+      (λ p l ne. to p (omega arith) (λ z. ne (sym (symbol_at-tail 0 (marks fs) p (omega (arith, length-marks fs)))
+      ∙ z)))
       (λ p l r z. from p (omega arith) r (symbol_at-tail 0 (marks fs) p (omega (arith, length-marks fs)) ∙ z)),
 )
 
@@ -166,29 +184,42 @@ pub AreElements-scaled_word : (f : ℕ → ℕ) (w : List ℕ) → AreElements (
 AreElements-scaled_word f [] = tt
 AreElements-scaled_word f (c ∷ cs) = (times-lt c (f (place_of (length cs))), AreElements-scaled_word f cs)
 
-power_sum-scaled_word : (f : ℕ → ℕ) (j : ℕ) (w : List ℕ) → power_sum j (weighted f (terms_of w)) ≡ value_at (scaled_word f w) (power 2 (11 * j))
+power_sum-scaled_word : (f : ℕ → ℕ) (j : ℕ) (w : List ℕ) → power_sum j (weighted f (terms_of w))
+    ≡ value_at (scaled_word f w) (power 2 (11 * j))
 power_sum-scaled_word f j [] = refl
 power_sum-scaled_word f j (c ∷ cs) =
     elim (eqb_tells c 0) [
       | inl t ↦ rw t.0 (power_sum-scaled_word f j cs
-          ∙ sym (ap (λ (z : ℕ). bit_xor (times (times z (f (place_of (length cs)))) (power (power 2 (11 * j)) (length (scaled_word f cs)))) (value_at (scaled_word f cs) (power 2 (11 * j)))) t.1
-          ∙ ap (λ (z : ℕ). bit_xor (times z (power (power 2 (11 * j)) (length (scaled_word f cs)))) (value_at (scaled_word f cs) (power 2 (11 * j)))) (zero-times (f (place_of (length cs))))
-          ∙ ap (λ (z : ℕ). bit_xor z (value_at (scaled_word f cs) (power 2 (11 * j)))) (zero-times (power (power 2 (11 * j)) (length (scaled_word f cs))))))
-      | inr t ↦ rw t.0 (ap (λ (z : ℕ). bit_xor (times (times c (f (place_of (length cs)))) (power z j)) (power_sum j (weighted f (terms_of cs)))) (place_is (length cs))
-          ∙ ap (λ (z : ℕ). bit_xor (times (times c (f (place_of (length cs)))) z) (power_sum j (weighted f (terms_of cs)))) (sym (exchanged (length cs) j))
-          ∙ ap (bit_xor (times (times c (f (place_of (length cs)))) (power (power 2 (11 * j)) (length cs)))) (power_sum-scaled_word f j cs)
-          ∙ ap (λ (n : ℕ). bit_xor (times (times c (f (place_of (length cs)))) (power (power 2 (11 * j)) n)) (value_at (scaled_word f cs) (power 2 (11 * j)))) (sym (length-scaled_word f cs)))
+          ∙ sym (ap (λ (z : ℕ). bit_xor (times (times z (f (place_of (length cs))))
+          (power (power 2 (11 * j)) (length (scaled_word f cs))))
+          (value_at (scaled_word f cs) (power 2 (11 * j)))) t.1
+          ∙ ap (λ (z : ℕ). bit_xor (times z (power (power 2 (11 * j)) (length (scaled_word f cs))))
+          (value_at (scaled_word f cs) (power 2 (11 * j)))) (zero-times (f (place_of (length cs))))
+          ∙ ap (λ (z : ℕ). bit_xor z (value_at (scaled_word f cs) (power 2 (11 * j))))
+          (zero-times (power (power 2 (11 * j)) (length (scaled_word f cs))))))
+      | inr t ↦ rw t.0 (ap (λ (z : ℕ). bit_xor (times (times c (f (place_of (length cs)))) (power z j))
+          (power_sum j (weighted f (terms_of cs)))) (place_is (length cs))
+          ∙ ap (λ (z : ℕ). bit_xor (times (times c (f (place_of (length cs)))) z)
+          (power_sum j (weighted f (terms_of cs)))) (sym (exchanged (length cs) j))
+          ∙ ap (bit_xor (times (times c (f (place_of (length cs)))) (power (power 2 (11 * j)) (length cs))))
+          (power_sum-scaled_word f j cs)
+          ∙ ap (λ (n : ℕ). bit_xor (times (times c (f (place_of (length cs)))) (power (power 2 (11 * j)) n))
+          (value_at (scaled_word f cs) (power 2 (11 * j)))) (sym (length-scaled_word f cs)))
     ]
 
 -- the syndromes of a word, combined by a polynomial, are those of the word times its values
-pub window-word : (e : ℕ) (g w : List ℕ) (m : ℕ) → window g (λ k. value_at w (root e k)) m ≡ value_at (scaled_word (value_at g) w) (root e m)
+pub window-word : (e : ℕ) (g w : List ℕ) (m : ℕ) → window g (λ k. value_at w (root e k)) m
+    ≡ value_at (scaled_word (value_at g) w) (root e m)
 window-word e g w m =
-    window-same g (λ k. value_at w (root e k)) (sums_from (128 - e) (terms_of w)) m (λ j lt. sym (power_sum-terms_of (128 - e + j) w))
+    window-same g (λ k. value_at w (root e k)) (sums_from (128 - e) (terms_of w)) m
+    (λ j lt. sym (power_sum-terms_of (128 - e + j) w))
     ∙ window-sums g (128 - e) m (terms_of w) ∙ power_sum-scaled_word (value_at g) (128 - e + m) w
 
-pub window-sum : (cs : List ℕ) (s t : ℕ → ℕ) (m : ℕ) → window cs (λ k. bit_xor (s k) (t k)) m ≡ bit_xor (window cs s m) (window cs t m)
+pub window-sum : (cs : List ℕ) (s t : ℕ → ℕ) (m : ℕ) → window cs (λ k. bit_xor (s k) (t k)) m
+    ≡ bit_xor (window cs s m) (window cs t m)
 window-sum [] s t m = refl
 window-sum (c ∷ cs) s t m =
-    ap (λ (y : ℕ). bit_xor y (window cs (λ k. bit_xor (s k) (t k)) m)) (times-plus c (s (m + length cs)) (t (m + length cs)))
+    ap (λ (y : ℕ). bit_xor y (window cs (λ k. bit_xor (s k) (t k)) m))
+    (times-plus c (s (m + length cs)) (t (m + length cs)))
     ∙ ap (bit_xor (bit_xor (times c (s (m + length cs))) (times c (t (m + length cs))))) (window-sum cs s t m)
     ∙ middle (times c (s (m + length cs))) (times c (t (m + length cs))) (window cs s m) (window cs t m)

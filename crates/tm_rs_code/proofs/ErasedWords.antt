@@ -20,21 +20,25 @@ use Rattle.tm_rs_code.proofs.ErasedPlaces.{root_has_symbol, symbol_has_root, sym
 
 -- ---- parts of sums
 
-outside-sum : (fs : List Bool) (us vs : List ℕ) → length us ≡ length vs → outside fs (sums us vs) ≡ sums (outside fs us) (outside fs vs)
+outside-sum : (fs : List Bool) (us vs : List ℕ) → length us ≡ length vs
+    → outside fs (sums us vs) ≡ sums (outside fs us) (outside fs vs)
 outside-sum [] us vs e = refl
 outside-sum (f ∷ fs) [] vs e = refl
 outside-sum (f ∷ fs) (u ∷ us) [] e = absurd (omega arith)
 outside-sum (true ∷ fs) (u ∷ us) (v ∷ vs) e = ap (λ (ys : List ℕ). 0 ∷ ys) (outside-sum fs us vs (omega arith))
-outside-sum (false ∷ fs) (u ∷ us) (v ∷ vs) e = ap (λ (ys : List ℕ). bit_xor u v ∷ ys) (outside-sum fs us vs (omega arith))
+outside-sum (false ∷ fs) (u ∷ us) (v ∷ vs) e =
+    ap (λ (ys : List ℕ). bit_xor u v ∷ ys) (outside-sum fs us vs (omega arith))
 
-inside-sum : (fs : List Bool) (us vs : List ℕ) → length us ≡ length vs → inside fs (sums us vs) ≡ sums (inside fs us) (inside fs vs)
+inside-sum : (fs : List Bool) (us vs : List ℕ) → length us ≡ length vs
+    → inside fs (sums us vs) ≡ sums (inside fs us) (inside fs vs)
 inside-sum [] us vs e = refl
 inside-sum (f ∷ fs) [] vs e = refl
 inside-sum (f ∷ fs) (u ∷ us) [] e = absurd (omega arith)
 inside-sum (true ∷ fs) (u ∷ us) (v ∷ vs) e = ap (λ (ys : List ℕ). bit_xor u v ∷ ys) (inside-sum fs us vs (omega arith))
 inside-sum (false ∷ fs) (u ∷ us) (v ∷ vs) e = ap (λ (ys : List ℕ). 0 ∷ ys) (inside-sum fs us vs (omega arith))
 
-length-inside : (fs : List Bool) (us vs : List ℕ) → length us ≡ length vs → length (inside fs us) ≡ length (inside fs vs)
+length-inside : (fs : List Bool) (us vs : List ℕ) → length us ≡ length vs
+    → length (inside fs us) ≡ length (inside fs vs)
 length-inside [] us vs e = refl
 length-inside (f ∷ fs) [] [] e = refl
 length-inside (f ∷ fs) [] (v ∷ vs) e = absurd (omega arith)
@@ -47,12 +51,14 @@ AreElements-outside (f ∷ fs) [] h = tt
 AreElements-outside (true ∷ fs) (u ∷ us) h = (omega arith, AreElements-outside fs us h.1)
 AreElements-outside (false ∷ fs) (u ∷ us) h = (h.0, AreElements-outside fs us h.1)
 
-same_length : (fs : List Bool) (us vs : List ℕ) → length us ≡ length vs → length (outside fs us) ≡ length (outside fs vs)
+same_length : (fs : List Bool) (us vs : List ℕ) → length us ≡ length vs
+    → length (outside fs us) ≡ length (outside fs vs)
 same_length fs us vs e = length-outside fs us ∙ e ∙ sym (length-outside fs vs)
 
 -- ---- patterns and codewords
 
-pub erased_pattern_unique : (e : ℕ) (fs : List Bool) (s : ℕ → ℕ) (v w : List ℕ) → length fs ≤ 255 → IsErasedPattern e fs s v → IsErasedPattern e fs s w → v ≡ w
+pub erased_pattern_unique : (e : ℕ) (fs : List Bool) (s : ℕ → ℕ) (v w : List ℕ) → length fs ≤ 255
+    → IsErasedPattern e fs s v → IsErasedPattern e fs s w → v ≡ w
 erased_pattern_unique e fs s v w short pv pw =
     let same : length v ≡ length w = pv.size ∙ sym pw.size in
     elim (cases_eq (distance v w) 0) [
@@ -64,44 +70,58 @@ erased_pattern_unique e fs s v w short pv pw =
         pv.few,
         pw.few,
         weight-sums v w,
-        weight_law e (sums v w) (AreElements-sums v w pv.elements pw.elements) (omega (arith, length-sums v w same, pv.size))
-            (λ k lt. value_at-sums v w (root e k) same ∙ ap (λ (y : ℕ). bit_xor y (value_at w (root e k))) (pv.meets k lt) ∙ ap (bit_xor (s k)) (pw.meets k lt) ∙ xor_self (s k))
+        weight_law e (sums v w) (AreElements-sums v w pv.elements pw.elements)
+            (omega (arith, length-sums v w same, pv.size))
+            (λ k lt. value_at-sums v w (root e k) same ∙ ap (λ (y : ℕ). bit_xor y (value_at w (root e k)))
+            (pv.meets k lt) ∙ ap (bit_xor (s k)) (pw.meets k lt) ∙ xor_self (s k))
             (λ z. ne (sym (weight-sums v w) ∙ z)),
       ))
     ]
 
-outside_weight : (fs : List Bool) (u c : List ℕ) → length u ≡ length c → weight (outside fs (sums u c)) ≡ distance (outside fs c) (outside fs u)
+outside_weight : (fs : List Bool) (u c : List ℕ) → length u ≡ length c
+    → weight (outside fs (sums u c)) ≡ distance (outside fs c) (outside fs u)
 outside_weight fs u c e =
-    ap weight (outside-sum fs u c e) ∙ weight-sums (outside fs u) (outside fs c) ∙ distance-comm (outside fs u) (outside fs c) (same_length fs u c e)
+    ap weight (outside-sum fs u c e) ∙ weight-sums (outside fs u) (outside fs c)
+    ∙ distance-comm (outside fs u) (outside fs c) (same_length fs u c e)
 
-pub erased_pattern_of_codeword : (e bound : ℕ) (fs : List Bool) (s : ℕ → ℕ) (u c : List ℕ) → length u ≡ length fs → AreElements u
-    → ((k : ℕ) → k < 2 * e → value_at u (root e k) ≡ s k) → IsCodewordOf e (length u) c → IsWithin e bound fs u c → IsErasedPattern e fs s (sums u c)
+pub erased_pattern_of_codeword : (e bound : ℕ) (fs : List Bool) (s : ℕ → ℕ) (u c : List ℕ) → length u ≡ length fs
+    → AreElements u
+    → ((k : ℕ) → k < 2 * e → value_at u (root e k) ≡ s k) → IsCodewordOf e (length u) c → IsWithin e bound fs u c
+    → IsErasedPattern e fs s (sums u c)
 erased_pattern_of_codeword e bound fs s u c lu eu su hc near =
     let same : length u ≡ length c = sym hc.size in
     record {
       size = length-sums u c same ∙ lu;
       elements = AreElements-sums u c eu hc.elements;
       few = omega (arith, near.few, outside_weight fs u c same);
-      meets = λ k lt. value_at-sums u c (root e k) same ∙ ap (bit_xor (value_at u (root e k))) (hc.codeword k lt) ∙ xor_zero_r (value_at u (root e k)) ∙ su k lt;
+      meets =
+          λ k lt. value_at-sums u c (root e k) same ∙ ap (bit_xor (value_at u (root e k))) (hc.codeword k lt)
+          ∙ xor_zero_r (value_at u (root e k)) ∙ su k lt;
     }
 
 -- ---- the answers
 
-pub fixed_erased : (e bound a b : ℕ) (fs : List Bool) (s : ℕ → ℕ) (old new w : List ℕ) → length old ≡ length fs → AreElements old
-    → ((k : ℕ) → k < 2 * e → value_at old (root e k) ≡ s k) → IsErasedPattern e fs s w → a ≡ weight (outside fs w) → b ≡ weight (inside fs w) → a ≤ bound
+pub fixed_erased : (e bound a b : ℕ) (fs : List Bool) (s : ℕ → ℕ) (old new w : List ℕ) → length old ≡ length fs
+    → AreElements old
+    → ((k : ℕ) → k < 2 * e → value_at old (root e k) ≡ s k) → IsErasedPattern e fs s w → a ≡ weight (outside fs w)
+    → b ≡ weight (inside fs w) → a ≤ bound
     → new ≡ sums old w → IsNearestErased e bound fs old (Fixed new a b)
 fixed_erased e bound a b fs s old new w len el values pat ea eb few is =
     let same : length old ≡ length w = len ∙ sym pat.size in
     let outer : distance (outside fs new) (outside fs old) ≡ a =
     ap (λ (y : List ℕ). distance (outside fs y) (outside fs old)) is
-    ∙ ap (λ (y : List ℕ). distance y (outside fs old)) (outside-sum fs old w same) ∙ distance-sums (outside fs old) (outside fs w) (same_length fs old w same) ∙ sym ea in
+    ∙ ap (λ (y : List ℕ). distance y (outside fs old)) (outside-sum fs old w same)
+    ∙ distance-sums (outside fs old) (outside fs w) (same_length fs old w same) ∙ sym ea in
     let inner : distance (inside fs new) (inside fs old) ≡ b =
     ap (λ (y : List ℕ). distance (inside fs y) (inside fs old)) is
-    ∙ ap (λ (y : List ℕ). distance y (inside fs old)) (inside-sum fs old w same) ∙ distance-sums (inside fs old) (inside fs w) (length-inside fs old w same) ∙ sym eb in (
+    ∙ ap (λ (y : List ℕ). distance y (inside fs old)) (inside-sum fs old w same)
+    ∙ distance-sums (inside fs old) (inside fs w) (length-inside fs old w same) ∙ sym eb in (
       record {
         size = ap length is ∙ length-sums old w same;
         elements = rw is (AreElements-sums old w el pat.elements);
-        codeword = rw is (λ k lt. value_at-sums old w (root e k) same ∙ ap (λ (y : ℕ). bit_xor y (value_at w (root e k))) (values k lt)
+        codeword =
+            rw is (λ k lt. value_at-sums old w (root e k) same
+            ∙ ap (λ (y : ℕ). bit_xor y (value_at w (root e k))) (values k lt)
             ∙ ap (bit_xor (s k)) (pat.meets k lt) ∙ xor_self (s k));
       },
       record { bounded = omega (arith, outer); few = omega (arith, outer, pat.few) },
@@ -109,15 +129,25 @@ fixed_erased e bound a b fs s old new w len el values pat ea eb few is =
       inner,
     )
 
-pub beyond_erased_far : (e bound a : ℕ) (fs : List Bool) (s : ℕ → ℕ) (old w : List ℕ) → length fs ≤ 255 → length old ≡ length fs → AreElements old
-    → ((k : ℕ) → k < 2 * e → value_at old (root e k) ≡ s k) → IsErasedPattern e fs s w → a ≡ weight (outside fs w) → bound < a → IsNearestErased e bound fs old Beyond
+pub beyond_erased_far : (e bound a : ℕ) (fs : List Bool) (s : ℕ → ℕ) (old w : List ℕ) → length fs ≤ 255
+    → length old ≡ length fs → AreElements old
+    → ((k : ℕ) → k < 2 * e → value_at old (root e k) ≡ s k) → IsErasedPattern e fs s w → a ≡ weight (outside fs w)
+    → bound < a → IsNearestErased e bound fs old Beyond
 beyond_erased_far e bound a fs s old w short len el values pat ea many c code near =
-    let mine : IsErasedPattern e fs s (sums old c) = erased_pattern_of_codeword e bound fs s old c len el values code near in
+    let mine : IsErasedPattern e fs s (sums old c) = erased_pattern_of_codeword e bound fs s old c len el values code
+    near in
     let same : sums old c ≡ w = erased_pattern_unique e fs s (sums old c) w short mine pat in
-    omega (arith, near.bounded, outside_weight fs old c (sym code.size), ap (λ (y : List ℕ). weight (outside fs y)) same)
+    omega (
+      arith,
+      near.bounded,
+      outside_weight fs old c (sym code.size),
+      ap (λ (y : List ℕ). weight (outside fs y)) same,
+    )
 
-pub beyond_erased_none : (e bound : ℕ) (fs : List Bool) (s : ℕ → ℕ) (old : List ℕ) → length old ≡ length fs → AreElements old
-    → ((k : ℕ) → k < 2 * e → value_at old (root e k) ≡ s k) → ((w : List ℕ) → IsErasedPattern e fs s w → ⊥) → IsNearestErased e bound fs old Beyond
+pub beyond_erased_none : (e bound : ℕ) (fs : List Bool) (s : ℕ → ℕ) (old : List ℕ) → length old ≡ length fs
+    → AreElements old
+    → ((k : ℕ) → k < 2 * e → value_at old (root e k) ≡ s k) → ((w : List ℕ) → IsErasedPattern e fs s w → ⊥)
+    → IsNearestErased e bound fs old Beyond
 beyond_erased_none e bound fs s old len el values none c code near =
     none (sums old c) (erased_pattern_of_codeword e bound fs s old c len el values code near)
 
@@ -136,14 +166,16 @@ one_not n e z = omega arith
 
 -- where the other places are named by g, no symbol stands elsewhere
 covers_named : (g : List ℕ) (fs : List Bool) (ws : List ℕ) → length ws ≡ length fs
-    → ((p : ℕ) → p < length fs → symbol_at (outside fs ws) p ≢ 0 → value_at g (place_of p) ≡ 0) → Covers (places_named g fs) ws
+    → ((p : ℕ) → p < length fs → symbol_at (outside fs ws) p ≢ 0 → value_at g (place_of p) ≡ 0)
+    → Covers (places_named g fs) ws
 covers_named g [] ws e h = tt
 covers_named g (f ∷ fs) [] e h = tt
 covers_named g (true ∷ fs) (w ∷ ws) e h =
     let same : length ws ≡ length fs = omega arith in (
       (λ z. absurd (one_not 1 refl z)),
       covers_named g fs ws same
-          (λ p lt ne. h p (omega arith) (λ z. ne (sym (symbol_at-tail 0 (outside fs ws) p (omega (arith, length-outside fs ws))) ∙ z))),
+          (λ p lt ne. h p (omega arith) (λ z. ne (sym (symbol_at-tail 0 (outside fs ws) p
+          (omega (arith, length-outside fs ws))) ∙ z))),
     )
 covers_named g (false ∷ fs) (w ∷ ws) e h =
     let same : length ws ≡ length fs = omega arith in (
@@ -151,23 +183,27 @@ covers_named g (false ∷ fs) (w ∷ ws) e h =
         | inl t ↦ let z' = rw t.0 at z in absurd (omega arith)
         | inr t ↦ elim (cases_eq w 0) [
           | inl y ↦ y
-          | inr ne ↦ absurd (t.1 (h (length fs) (omega arith) (λ y. ne (sym (symbol_at-head w (outside fs ws) (length fs) (length-outside fs ws ∙ same)) ∙ y))))
+          | inr ne ↦ absurd (t.1 (h (length fs) (omega arith)
+              (λ y. ne (sym (symbol_at-head w (outside fs ws) (length fs) (length-outside fs ws ∙ same)) ∙ y))))
         ]
       ]),
       covers_named g fs ws same
-          (λ p lt ne. h p (omega arith) (λ z. ne (sym (symbol_at-tail w (outside fs ws) p (omega (arith, length-outside fs ws))) ∙ z))),
+          (λ p lt ne. h p (omega arith) (λ z. ne (sym (symbol_at-tail w (outside fs ws) p
+          (omega (arith, length-outside fs ws))) ∙ z))),
     )
 
 -- and the named places are no more than the erased ones and the others
 weight_named : (g : List ℕ) (fs : List Bool) (ws : List ℕ) → length ws ≡ length fs
-    → ((p : ℕ) → p < length fs → value_at g (place_of p) ≡ 0 → symbol_at (outside fs ws) p ≢ 0) → weight (places_named g fs) ≤ weight (outside fs ws) + count_erased fs
+    → ((p : ℕ) → p < length fs → value_at g (place_of p) ≡ 0 → symbol_at (outside fs ws) p ≢ 0)
+    → weight (places_named g fs) ≤ weight (outside fs ws) + count_erased fs
 weight_named g [] ws e h = omega arith
 weight_named g (f ∷ fs) [] e h = absurd (omega arith)
 weight_named g (true ∷ fs) (w ∷ ws) e h =
     omega (
       arith,
       weight_named g fs ws (omega arith)
-          (λ p lt r z. h p (omega arith) r (symbol_at-tail 0 (outside fs ws) p (omega (arith, length-outside fs ws)) ∙ z)),
+          (λ p lt r z. h p (omega arith) r (symbol_at-tail 0 (outside fs ws) p (omega (arith, length-outside fs ws))
+          ∙ z)),
     )
 weight_named g (false ∷ fs) (w ∷ ws) e h =
     let same : length ws ≡ length fs = omega arith in
@@ -175,14 +211,16 @@ weight_named g (false ∷ fs) (w ∷ ws) e h =
     (λ p lt r z. h p (omega arith) r (symbol_at-tail w (outside fs ws) p (omega (arith, length-outside fs ws)) ∙ z)) in
     elim (eqb_tells (value_at g (place_of (length fs))) 0) [
       | inl t ↦ elim (eqb_tells w 0) [
-        | inl y ↦ absurd (h (length fs) (omega arith) t.1 (symbol_at-head w (outside fs ws) (length fs) (length-outside fs ws ∙ same) ∙ y.1))
+        | inl y ↦ absurd (h (length fs) (omega arith) t.1 (symbol_at-head w (outside fs ws) (length fs)
+            (length-outside fs ws ∙ same) ∙ y.1))
         | inr y ↦ rw (t.0, y.0) (omega (arith, rest))
       ]
       | inr t ↦ rw t.0 (omega (arith, rest))
     ]
 
 -- the locator of the named places finds the whole pattern
-pub located_erased : (e : ℕ) (fs : List Bool) (s : ℕ → ℕ) (g : List ℕ) (w : List ℕ) → length fs ≤ 255 → IsErasedPattern e fs s w
+pub located_erased : (e : ℕ) (fs : List Bool) (s : ℕ → ℕ) (g : List ℕ) (w : List ℕ) → length fs ≤ 255
+    → IsErasedPattern e fs s w
     → g ≡ locator_of (outside fs w) → IsLocated e s (locator_of (places_named g fs)) (places_named g fs) w
 located_erased e fs s g w short p is =
     let lo : length (outside fs w) ≡ length fs = length-outside fs w ∙ p.size in
@@ -192,12 +230,14 @@ located_erased e fs s g w short p is =
       short = omega (arith, length-places_named g fs);
       elements = p.elements;
       covered = covers_named g fs w p.size
-          (λ q lt ne. ap (λ (y : List ℕ). value_at y (place_of q)) is ∙ symbol_has_root (outside fs w) q (omega arith) (omega arith) ne);
+          (λ q lt ne. ap (λ (y : List ℕ). value_at y (place_of q)) is
+          ∙ symbol_has_root (outside fs w) q (omega arith) (omega arith) ne);
       few = omega (
         arith,
         p.few,
         weight_named g fs w p.size
-            (λ q lt r. root_has_symbol (outside fs w) q (AreElements-outside fs w p.elements) (omega arith) (omega arith) (ap (λ (y : List ℕ). value_at y (place_of q)) (sym is) ∙ r)),
+            (λ q lt r. root_has_symbol (outside fs w) q (AreElements-outside fs w p.elements) (omega arith)
+            (omega arith) (ap (λ (y : List ℕ). value_at y (place_of q)) (sym is) ∙ r)),
       );
       meets = p.meets;
     }

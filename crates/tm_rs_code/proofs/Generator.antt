@@ -27,7 +27,8 @@ product_vanishes : (e n k : ℕ) → k < n → value_at (1 ∷ product_of (roots
 product_vanishes e zero k lt = absurd (omega arith)
 product_vanishes e (suc n) k lt =
     let q : List ℕ = product_of (roots e n) in
-    let factors : value_at (1 ∷ carry (root e n) 1 q) (root e k) ≡ times (bit_xor (root e k) (root e n)) (value_at (1 ∷ q) (root e k)) =
+    let factors : value_at (1 ∷ carry (root e n) 1 q) (root e k)
+    ≡ times (bit_xor (root e k) (root e n)) (value_at (1 ∷ q) (root e k)) =
     value_at-carry (root e n) 1 q (root e k) in
     elim (cases_eq k n) [
       | inl same ↦

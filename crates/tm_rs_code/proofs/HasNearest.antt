@@ -12,15 +12,23 @@ use Rattle.tm_rs_code.proofs.Systematic.{PassesOrNone, search_words, codeword_by
 abbrev is_near : ℕ → ℕ → List ℕ → List ℕ → Bool
 is_near e bound w c = is_codeword e c && leb (distance c w) bound
 
-nearest_of : (e bound : ℕ) (w : List ℕ) → PassesOrNone (length w) (is_near e bound w) → (a : Nearest) × IsNearest e bound w a
+nearest_of : (e bound : ℕ) (w : List ℕ) → PassesOrNone (length w) (is_near e bound w) → (a : Nearest)
+    × IsNearest e bound w a
 nearest_of e bound w (inl (c, long, elements, passes)) =
-    let both = and_parts (is_codeword e c) (leb (distance c w) bound) passes in
-    (Fixed c (distance c w), (record { size = long; elements = elements; codeword = codeword_by_test e c both.0 }, refl, leb-true (distance c w) bound both.1))
+    let both = and_parts (is_codeword e c) (leb (distance c w) bound) passes in (
+      Fixed c (distance c w),
+      (
+        record { size = long; elements = elements; codeword = codeword_by_test e c both.0 },
+        refl,
+        leb-true (distance c w) bound both.1,
+      ),
+    )
 nearest_of e bound w (inr none) = (
   Beyond,
   λ c code. elim (cases_lt bound (distance c w)) [
     | inl far ↦ far
-    | inr near ↦ absurd (none c code.size code.elements (and_from (is_codeword e c) (leb (distance c w) bound) (is_codeword_holds e c code.codeword) (le-leb (distance c w) bound near)))
+    | inr near ↦ absurd (none c code.size code.elements (and_from (is_codeword e c) (leb (distance c w) bound)
+        (is_codeword_holds e c code.codeword) (le-leb (distance c w) bound near)))
   ],
 )
 
@@ -34,17 +42,23 @@ abbrev differing : List Bool → List ℕ → List ℕ → ℕ
 differing erased w c = distance (outside erased c) (outside erased w)
 
 abbrev is_few : ℕ → ℕ → List Bool → List ℕ → List ℕ → Bool
-is_few e bound erased w c = leb (differing erased w c) bound && leb (2 * differing erased w c + count_erased erased) (2 * e)
+is_few e bound erased w c =
+    leb (differing erased w c) bound && leb (2 * differing erased w c + count_erased erased) (2 * e)
 
-nearest_erased_of : (e bound : ℕ) (erased : List Bool) (w : List ℕ) → PassesOrNone (length w) (λ c. is_codeword e c && is_few e bound erased w c)
+nearest_erased_of : (e bound : ℕ) (erased : List Bool) (w : List ℕ)
+    → PassesOrNone (length w) (λ c. is_codeword e c && is_few e bound erased w c)
     → (a : NearestErased) × IsNearestErased e bound erased w a
 nearest_erased_of e bound erased w (inl (c, long, elements, passes)) =
     let code = and_parts (is_codeword e c) (is_few e bound erased w c) passes in
-    let few = and_parts (leb (differing erased w c) bound) (leb (2 * differing erased w c + count_erased erased) (2 * e)) code.1 in (
+    let few = and_parts (leb (differing erased w c) bound) (leb (2 * differing erased w c + count_erased erased)
+    (2 * e)) code.1 in (
       FixedErased c (differing erased w c) (distance (inside erased c) (inside erased w)),
       (
         record { size = long; elements = elements; codeword = codeword_by_test e c code.0 },
-        record { bounded = leb-true (differing erased w c) bound few.0; few = leb-true (2 * differing erased w c + count_erased erased) (2 * e) few.1 },
+        record {
+          bounded = leb-true (differing erased w c) bound few.0;
+          few = leb-true (2 * differing erased w c + count_erased erased) (2 * e) few.1;
+        },
         refl,
         refl,
       ),
@@ -53,9 +67,12 @@ nearest_erased_of e bound erased w (inr none) = (
   BeyondErased,
   λ c code within. none c code.size code.elements
       (and_from (is_codeword e c) (is_few e bound erased w c) (is_codeword_holds e c code.codeword)
-      (and_from (leb (differing erased w c) bound) (leb (2 * differing erased w c + count_erased erased) (2 * e)) (le-leb (differing erased w c) bound within.bounded)
+      (and_from (leb (differing erased w c) bound) (leb (2 * differing erased w c + count_erased erased) (2 * e))
+      (le-leb (differing erased w c) bound within.bounded)
       (le-leb (2 * differing erased w c + count_erased erased) (2 * e) within.few))),
 )
 
-pub has_nearest_erased : (e bound : ℕ) (erased : List Bool) (w : List ℕ) → (a : NearestErased) × IsNearestErased e bound erased w a
-has_nearest_erased e bound erased w = nearest_erased_of e bound erased w (search_words (length w) (λ c. is_codeword e c && is_few e bound erased w c))
+pub has_nearest_erased : (e bound : ℕ) (erased : List Bool) (w : List ℕ) → (a : NearestErased)
+    × IsNearestErased e bound erased w a
+has_nearest_erased e bound erased w =
+    nearest_erased_of e bound erased w (search_words (length w) (λ c. is_codeword e c && is_few e bound erased w c))

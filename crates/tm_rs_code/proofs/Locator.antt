@@ -29,11 +29,13 @@ locator-terms_of (c ∷ cs) =
       | inr t ↦ rw t.0 (ap (times_linear (place_of (length cs))) (locator-terms_of cs))
     ]
 
-pub sequence_is : (e count n : ℕ) (s : ℕ → ℕ) (w : List ℕ) → Explains e count n s w → (k : ℕ) → k < count → sums_from (128 - e) (terms_of w) k ≡ s k
+pub sequence_is : (e count n : ℕ) (s : ℕ → ℕ) (w : List ℕ) → Explains e count n s w → (k : ℕ) → k < count
+    → sums_from (128 - e) (terms_of w) k ≡ s k
 sequence_is e count n s w p k h = power_sum-terms_of (128 - e + k) w ∙ p.meets k h
 
 -- a window of the pattern's sequence
-pub window_is : (e count n : ℕ) (s : ℕ → ℕ) (w : List ℕ) → Explains e count n s w → (c : ℕ → ℕ) (l m : ℕ) → m + l < count
+pub window_is : (e count n : ℕ) (s : ℕ → ℕ) (w : List ℕ) → Explains e count n s w → (c : ℕ → ℕ) (l m : ℕ)
+    → m + l < count
     → window (listing c 0 (suc l)) (sums_from (128 - e) (terms_of w)) m ≡ discrepancy c s (m + l) (suc l)
 window_is e count n s w p c l m h =
     window-same (listing c 0 (suc l)) (sums_from (128 - e) (terms_of w)) s m
@@ -43,7 +45,8 @@ window_is e count n s w p c l m h =
 -- ---- while the recurrence grows
 
 -- where a recurrence that held so far fails, its length and the pattern's weight are more than the number of terms
-pub bound : (e count n : ℕ) (s : ℕ → ℕ) (w : List ℕ) → Explains e count n s w → n ≤ 255 → (c : ℕ → ℕ) (l k : ℕ) → Generates c l s k → k < count
+pub bound : (e count n : ℕ) (s : ℕ → ℕ) (w : List ℕ) → Explains e count n s w → n ≤ 255 → (c : ℕ → ℕ) (l k : ℕ)
+    → Generates c l s k → k < count
     → discrepancy c s k (suc l) ≢ 0 → k + 1 ≤ l + weight w
 bound e count n s w p small c l k g below ne =
     elim (cases_lt k (l + weight w)) [
@@ -54,16 +57,20 @@ bound e count n s w p small c l k g below ne =
           absurd (ne (
           ap (λ (y : ℕ). discrepancy c s y (suc l)) (sym back)
           ∙ sym (window_is e count n s w p c l (k - l) (omega arith))
-          ∙ holds_on (listing c 0 (suc l)) (128 - e) (terms_of w) (AreTerms-terms_of w p.elements) (AreApart-terms_of w len)
-          (λ m lt. window_is e count n s w p c l m (omega (arith, length-terms_of w)) ∙ g.meets (m + l) (omega arith) (omega (arith, length-terms_of w)))
+          ∙ holds_on (listing c 0 (suc l)) (128 - e) (terms_of w) (AreTerms-terms_of w p.elements)
+          (AreApart-terms_of w len)
+          (λ m lt. window_is e count n s w p c l m (omega (arith, length-terms_of w))
+          ∙ g.meets (m + l) (omega arith) (omega (arith, length-terms_of w)))
           (k - l)))
     ]
 
 -- ---- at the end
 
 -- a recurrence of all terms that is no longer than the pattern's weight is its locator
-pub is_locator : (e count n : ℕ) (s : ℕ → ℕ) (w : List ℕ) → Explains e count n s w → n ≤ 255 → (c : ℕ → ℕ) → ((i : ℕ) → c i < 256)
-    → (l : ℕ) → Generates c l s (count) → 2 * l ≤ count → l ≤ weight w → (weight w ≡ l) × (listing c 0 (suc l) ≡ locator_of w)
+pub is_locator : (e count n : ℕ) (s : ℕ → ℕ) (w : List ℕ) → Explains e count n s w → n ≤ 255 → (c : ℕ → ℕ)
+    → ((i : ℕ) → c i < 256)
+    → (l : ℕ) → Generates c l s (count) → 2 * l ≤ count → l ≤ weight w → (weight w ≡ l)
+    × (listing c 0 (suc l) ≡ locator_of w)
 is_locator e count n s w p small c elements l g few le =
     let len : length w ≤ 255 = omega (arith, p.size) in
     let monic : listing c 0 (suc l) ≡ 1 ∷ listing c 1 l = ap (λ (y : ℕ). y ∷ listing c 1 l) g.first in
@@ -72,5 +79,8 @@ is_locator e count n s w p small c elements l g few le =
     (λ m lt. ap (λ (ys : List ℕ). window ys (sums_from (128 - e) (terms_of w)) m) (sym monic)
     ∙ window_is e count n s w p c l m (omega (arith, length-terms_of w, p.few))
     ∙ g.meets (m + l) (omega arith) (omega (arith, length-terms_of w, p.few))) in
-    let same : weight w ≡ l = omega (arith, found.0, length-terms_of w, length-listing c 1 l) in
-    (same, monic ∙ ap (λ (ys : List ℕ). 1 ∷ ys) (found.1 (omega (arith, same, length-terms_of w, length-listing c 1 l))) ∙ sym (locator-terms_of w))
+    let same : weight w ≡ l = omega (arith, found.0, length-terms_of w, length-listing c 1 l) in (
+      same,
+      monic ∙ ap (λ (ys : List ℕ). 1 ∷ ys) (found.1 (omega
+          (arith, same, length-terms_of w, length-listing c 1 l))) ∙ sym (locator-terms_of w),
+    )

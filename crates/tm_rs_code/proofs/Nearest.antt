@@ -16,11 +16,13 @@ triangle_at a b c =
     at_most true = omega arith
     at_most false = omega arith
 
-pub triangle : (us vs ws : List ℕ) → length us ≡ length vs → length vs ≡ length ws → distance us ws ≤ distance us vs + distance vs ws
+pub triangle : (us vs ws : List ℕ) → length us ≡ length vs → length vs ≡ length ws
+    → distance us ws ≤ distance us vs + distance vs ws
 triangle [] vs ws e f = omega arith
 triangle (u ∷ us) [] ws e f = absurd (omega arith)
 triangle (u ∷ us) (v ∷ vs) [] e f = absurd (omega arith)
-triangle (u ∷ us) (v ∷ vs) (w ∷ ws) e f = omega (arith, triangle us vs ws (omega arith) (omega arith), triangle_at u v w)
+triangle (u ∷ us) (v ∷ vs) (w ∷ ws) e f =
+    omega (arith, triangle us vs ws (omega arith) (omega arith), triangle_at u v w)
 
 pub distance-comm : (us vs : List ℕ) → length us ≡ length vs → distance us vs ≡ distance vs us
 distance-comm [] [] e = refl
@@ -28,22 +30,33 @@ distance-comm [] (v ∷ vs) e = absurd (omega arith)
 distance-comm (u ∷ us) [] e = absurd (omega arith)
 distance-comm (u ∷ us) (v ∷ vs) e =
     elim (eqb_tells u v) [
-      | inl s ↦ elim (eqb_tells v u) [ inl t ↦ rw (s.0, t.0) (ap (λ (n : ℕ). 0 + n) (distance-comm us vs (omega arith))) | inr t ↦ absurd (t.1 (sym s.1)) ]
-      | inr s ↦ elim (eqb_tells v u) [ inl t ↦ absurd (s.1 (sym t.1)) | inr t ↦ rw (s.0, t.0) (ap (λ (n : ℕ). 1 + n) (distance-comm us vs (omega arith))) ]
+      | inl s ↦ elim (eqb_tells v u) [
+        | inl t ↦ rw (s.0, t.0)
+            (ap (λ (n : ℕ). 0 + n) (distance-comm us vs (omega arith)))
+        | inr t ↦ absurd (t.1 (sym s.1))
+      ]
+      | inr s ↦ elim (eqb_tells v u) [
+        | inl t ↦ absurd (s.1 (sym t.1))
+        | inr t ↦
+            rw (s.0, t.0) (ap (λ (n : ℕ). 1 + n) (distance-comm us vs (omega arith)))
+      ]
     ]
 
 pub distance-self : (us : List ℕ) → distance us us ≡ 0
 distance-self [] = refl
-distance-self (u ∷ us) = elim (eqb_tells u u) [ inl t ↦ rw t.0 (omega (arith, distance-self us)) | inr t ↦ absurd (t.1 refl) ]
+distance-self (u ∷ us) =
+    elim (eqb_tells u u) [ inl t ↦ rw t.0 (omega (arith, distance-self us)) | inr t ↦ absurd (t.1 refl) ]
 
-pub nearest_unique : (e n : ℕ) (w c d : List ℕ) → n ≤ 255 → length w ≡ n → length c ≡ n → length d ≡ n → AreElements c → AreElements d
+pub nearest_unique : (e n : ℕ) (w c d : List ℕ) → n ≤ 255 → length w ≡ n → length c ≡ n → length d ≡ n → AreElements c
+    → AreElements d
     → IsCodeword e c → IsCodeword e d → distance c w ≤ e → distance d w ≤ e → c ≡ d
 nearest_unique e n w c d small lw lc ld ec ed hc hd nc nd =
     elim (cases_eq (distance c d) 0) [
       | inl z ↦ same_of_distance c d (omega arith) z
       | inr ne ↦ absurd (omega (
         arith,
-        distance_law e c d ec ed (omega arith) (omega arith) hc hd (λ same. ne (ap (distance c) (sym same) ∙ distance-self c)),
+        distance_law e c d ec ed (omega arith) (omega arith) hc hd
+            (λ same. ne (ap (distance c) (sym same) ∙ distance-self c)),
         triangle c w d (omega arith) (omega arith),
         distance-comm w d (omega arith),
       ))

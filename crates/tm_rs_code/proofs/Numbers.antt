@@ -35,7 +35,8 @@ AreElements-after (x ∷ xs) ys h = AreElements-after xs ys h.1
 
 -- one more place
 distance_more : (xs ys : List Gf) (i : ℕ) → i < length xs → length xs ≡ length ys
-    → distance (numbers (take (suc i) xs)) (numbers (take (suc i) ys)) ≡ distance (numbers (take i xs)) (numbers (take i ys)) + cond (eqb (entry xs i) (entry ys i)) 0 1
+    → distance (numbers (take (suc i) xs)) (numbers (take (suc i) ys))
+    ≡ distance (numbers (take i xs)) (numbers (take i ys)) + cond (eqb (entry xs i) (entry ys i)) 0 1
 distance_more [] ys i lt same = absurd (omega arith)
 distance_more (x ∷ xs) [] i lt same = absurd (omega arith)
 distance_more (x ∷ xs) (y ∷ ys) zero lt same = omega arith
@@ -45,18 +46,23 @@ distance_more (x ∷ xs) (y ∷ ys) (suc i) lt same = omega (arith, distance_mor
 prefix : (xs ys : List Gf) (n : ℕ) → ℕ
 prefix xs ys n = distance (numbers (take n xs)) (numbers (take n ys))
 
-pub distance_same : (xs ys : List Gf) (i x y : ℕ) → i < length xs → length xs ≡ length ys → x ≡ entry xs i → y ≡ entry ys i → x ≡ y
-    → distance (numbers (take i xs)) (numbers (take i ys)) ≡ distance (numbers (take (i + 1) xs)) (numbers (take (i + 1) ys))
+pub distance_same : (xs ys : List Gf) (i x y : ℕ) → i < length xs → length xs ≡ length ys → x ≡ entry xs i
+    → y ≡ entry ys i → x ≡ y
+    → distance (numbers (take i xs)) (numbers (take i ys)) ≡ distance (numbers (take (i + 1) xs))
+    (numbers (take (i + 1) ys))
 unfolding prefix
 distance_same xs ys i x y lt same ex ey e =
     let next : suc i ≡ i + 1 = omega arith in
     elim (eqb_tells (entry xs i) (entry ys i)) [
-      | inl t ↦ let more = rw t.0 at (distance_more xs ys i lt same) in sym (more ∙ (omega arith)) ∙ ap (prefix xs ys) next
+      | inl t ↦ let more =
+          rw t.0 at (distance_more xs ys i lt same) in sym (more ∙ (omega arith)) ∙ ap (prefix xs ys) next
       | inr t ↦ absurd (t.1 (sym ex ∙ e ∙ ey))
     ]
 
-pub distance_differs : (xs ys : List Gf) (i x y : ℕ) → i < length xs → length xs ≡ length ys → x ≡ entry xs i → y ≡ entry ys i → x ≢ y
-    → distance (numbers (take i xs)) (numbers (take i ys)) + 1 ≡ distance (numbers (take (i + 1) xs)) (numbers (take (i + 1) ys))
+pub distance_differs : (xs ys : List Gf) (i x y : ℕ) → i < length xs → length xs ≡ length ys → x ≡ entry xs i
+    → y ≡ entry ys i → x ≢ y
+    → distance (numbers (take i xs)) (numbers (take i ys)) + 1
+    ≡ distance (numbers (take (i + 1) xs)) (numbers (take (i + 1) ys))
 unfolding prefix
 distance_differs xs ys i x y lt same ex ey ne =
     let next : suc i ≡ i + 1 = omega arith in

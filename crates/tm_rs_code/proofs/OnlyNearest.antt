@@ -12,9 +12,11 @@ use Rattle.tm_rs_code.proofs.Nearest.{triangle, distance-comm, distance-self, ne
 same_fixed : (c c' : List ℕ) (d d' : ℕ) → c ≡ c' → d ≡ d' → Fixed c d ≡ Fixed c' d'
 same_fixed c c' d d' e f = ap (λ (y : List ℕ). Fixed y d) e ∙ ap (λ (y : ℕ). Fixed c' y) f
 
-pub nearest_only : (e bound : ℕ) (w : List ℕ) (a b : Nearest) → bound ≤ e → length w ≤ 255 → IsNearest e bound w a → IsNearest e bound w b → a ≡ b
+pub nearest_only : (e bound : ℕ) (w : List ℕ) (a b : Nearest) → bound ≤ e → length w ≤ 255 → IsNearest e bound w a
+    → IsNearest e bound w b → a ≡ b
 nearest_only e bound w (Fixed c d) (Fixed c' d') within short h l =
-    let same : c ≡ c' = nearest_unique e (length w) w c c' short refl h.0.size l.0.size h.0.elements l.0.elements h.0.codeword l.0.codeword
+    let same : c ≡ c' = nearest_unique e (length w) w c c' short refl h.0.size l.0.size h.0.elements l.0.elements
+    h.0.codeword l.0.codeword
     (omega (arith, h.1, h.2)) (omega (arith, l.1, l.2)) in
     same_fixed c c' d d' same (sym h.1 ∙ ap (λ (y : List ℕ). distance y w) same ∙ l.1)
 nearest_only e bound w (Fixed c d) Beyond within short h l = absurd (omega (arith, l c h.0, h.1, h.2))
@@ -45,7 +47,8 @@ length-outside (b ∷ bs) [] = refl
 length-outside (b ∷ bs) (x ∷ xs) = ap suc (length-outside bs xs)
 
 within_only : (e bound : ℕ) (flags : List Bool) (w c d : List ℕ) → length flags ≡ length w → length w ≤ 255
-    → IsCodewordOf e (length w) c → IsCodewordOf e (length w) d → IsWithin e bound flags w c → IsWithin e bound flags w d → c ≡ d
+    → IsCodewordOf e (length w) c → IsCodewordOf e (length w) d → IsWithin e bound flags w c
+    → IsWithin e bound flags w d → c ≡ d
 within_only e bound flags w c d lf short hc hd nc nd =
     let oc = length-outside flags c in
     let od = length-outside flags d in
@@ -54,10 +57,12 @@ within_only e bound flags w c d lf short hc hd nc nd =
       | inl z ↦ same_of_distance c d (hc.size ∙ sym hd.size) z
       | inr ne ↦ absurd (omega (
         arith,
-        distance_law e c d hc.elements hd.elements (hc.size ∙ sym hd.size) (omega (arith, hc.size)) hc.codeword hd.codeword
+        distance_law e c d hc.elements hd.elements (hc.size ∙ sym hd.size)
+            (omega (arith, hc.size)) hc.codeword hd.codeword
             (λ same. ne (ap (distance c) (sym same) ∙ distance-self c)),
         distance_outside flags c d (hc.size ∙ sym hd.size) (lf ∙ sym hc.size),
-        triangle (outside flags c) (outside flags w) (outside flags d) (oc ∙ hc.size ∙ sym ow) (ow ∙ sym hd.size ∙ sym od),
+        triangle (outside flags c) (outside flags w) (outside flags d) (oc ∙ hc.size ∙ sym ow)
+            (ow ∙ sym hd.size ∙ sym od),
         distance-comm (outside flags w) (outside flags d) (ow ∙ sym hd.size ∙ sym od),
         nc.few,
         nd.few,
@@ -66,9 +71,11 @@ within_only e bound flags w c d lf short hc hd nc nd =
 
 same_erased : (c c' : List ℕ) (a a' b b' : ℕ) → c ≡ c' → a ≡ a' → b ≡ b' → FixedErased c a b ≡ FixedErased c' a' b'
 same_erased c c' a a' b b' e f g =
-    ap (λ (y : List ℕ). FixedErased y a b) e ∙ ap (λ (y : ℕ). FixedErased c' y b) f ∙ ap (λ (y : ℕ). FixedErased c' a' y) g
+    ap (λ (y : List ℕ). FixedErased y a b) e ∙ ap (λ (y : ℕ). FixedErased c' y b) f
+    ∙ ap (λ (y : ℕ). FixedErased c' a' y) g
 
-pub nearest_erased_only : (e bound : ℕ) (flags : List Bool) (w : List ℕ) (p q : NearestErased) → length flags ≡ length w → length w ≤ 255
+pub nearest_erased_only : (e bound : ℕ) (flags : List Bool) (w : List ℕ) (p q : NearestErased)
+    → length flags ≡ length w → length w ≤ 255
     → IsNearestErased e bound flags w p → IsNearestErased e bound flags w q → p ≡ q
 nearest_erased_only e bound flags w (FixedErased c a b) (FixedErased c' a' b') lf short h l =
     let same : c ≡ c' = within_only e bound flags w c c' lf short h.0 l.0 h.1 l.1 in

@@ -27,9 +27,11 @@ products_are f [] (c ∷ cs) e = absurd cc
 products_are f (x ∷ xs) [] e = absurd cc
 products_are f (x ∷ xs) (c ∷ cs) e =
     let both = and_parts (eqb x (times f c)) (are_products f xs cs) e in
-    ap (λ (v : ℕ). v ∷ xs) (eqb-true x (times f c) both.0) ∙ ap (λ (vs : List ℕ). times f c ∷ vs) (products_are f xs cs both.1)
+    ap (λ (v : ℕ). v ∷ xs) (eqb-true x (times f c) both.0) ∙ ap (λ (vs : List ℕ). times f c ∷ vs)
+    (products_are f xs cs both.1)
 
-pub row_at : (f : ℕ) (g : List ℕ) (rs : List (List ℕ)) (i : ℕ) → are_rows f g rs ≡ true → i < length rs → get_or rs i [] ≡ multiple (f + i) g
+pub row_at : (f : ℕ) (g : List ℕ) (rs : List (List ℕ)) (i : ℕ) → are_rows f g rs ≡ true → i < length rs
+    → get_or rs i [] ≡ multiple (f + i) g
 unfolding are_rows
 row_at f g [] i e lt = absurd (omega arith)
 row_at f g (r ∷ rs) zero e lt =
@@ -37,4 +39,5 @@ row_at f g (r ∷ rs) zero e lt =
     products_are f r g (and_parts (are_products f r g) (are_rows (suc f) g rs) e).0 ∙ ap (λ (v : ℕ). multiple v g) same
 row_at f g (r ∷ rs) (suc i) e lt =
     let same : suc f + i ≡ f + suc i = omega arith in
-    row_at (suc f) g rs i (and_parts (are_products f r g) (are_rows (suc f) g rs) e).1 (omega arith) ∙ ap (λ (v : ℕ). multiple v g) same
+    row_at (suc f) g rs i (and_parts (are_products f r g) (are_rows (suc f) g rs) e).1 (omega arith)
+    ∙ ap (λ (v : ℕ). multiple v g) same

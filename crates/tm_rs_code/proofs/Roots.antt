@@ -41,7 +41,10 @@ unfolding place_of
 AllOther-roots p l zero h m = tt
 AllOther-roots p l (suc n) h m =
     elim (eqb_tells (value_at p (power 2 (11 * n))) 0) [
-      | inl t ↦ rw t.0 ((λ e. let same : n ≡ l = place_apart n l (omega arith) m e in omega arith), AllOther-roots p l n (omega arith) m)
+      | inl t ↦ rw t.0 (
+        (λ e. let same : n ≡ l = place_apart n l (omega arith) m e in omega arith),
+        AllOther-roots p l n (omega arith) m,
+      )
       | inr t ↦ rw t.0 (AllOther-roots p l n (omega arith) m)
     ]
 
@@ -63,7 +66,8 @@ AreRoots-roots cs (suc n) =
 
 -- ---- a pattern's places are roots
 
-pub weight_le_roots : (cs w : List ℕ) → AreRoots cs (places_of (terms_of w)) → weight w ≤ length (roots_below (1 ∷ cs) (length w))
+pub weight_le_roots : (cs w : List ℕ) → AreRoots cs (places_of (terms_of w))
+    → weight w ≤ length (roots_below (1 ∷ cs) (length w))
 weight_le_roots cs [] h = omega arith
 weight_le_roots cs (c ∷ ds) h =
     elim (eqb_tells c 0) [
@@ -80,8 +84,10 @@ weight_le_roots cs (c ∷ ds) h =
     ]
 
 -- where there is a pattern, its recurrence has as many roots below n as its length
-pub count_of_roots : (e count n : ℕ) (s : ℕ → ℕ) (w : List ℕ) → Explains e count n s w → n ≤ 255 → (c : ℕ → ℕ) → ((i : ℕ) → c i < 256)
-    → (l : ℕ) → Generates c l s (count) → 2 * l ≤ count → l ≤ weight w → length (roots_below (listing c 0 (suc l)) n) ≡ l
+pub count_of_roots : (e count n : ℕ) (s : ℕ → ℕ) (w : List ℕ) → Explains e count n s w → n ≤ 255 → (c : ℕ → ℕ)
+    → ((i : ℕ) → c i < 256)
+    → (l : ℕ) → Generates c l s (count) → 2 * l ≤ count → l ≤ weight w
+    → length (roots_below (listing c 0 (suc l)) n) ≡ l
 count_of_roots e count n s w p small c elements l g few le =
     let len : length w ≤ 255 = omega (arith, p.size) in
     let monic : listing c 0 (suc l) ≡ 1 ∷ listing c 1 l = ap (λ (y : ℕ). y ∷ listing c 1 l) g.first in
@@ -92,9 +98,12 @@ count_of_roots e count n s w p small c elements l g few le =
     ∙ window_is e count n s w p c l m (omega (arith, length-terms_of w, p.few))
     ∙ g.meets (m + l) (omega arith) (omega (arith, length-terms_of w, p.few)))) in
     let enough : weight w ≤ length (roots_below (1 ∷ listing c 1 l) n) =
-    subst (λ (k : ℕ). weight w ≤ length (roots_below (1 ∷ listing c 1 l) k)) p.size (weight_le_roots (listing c 1 l) w roots) in
-    let most = at_most_degree (roots_below (1 ∷ listing c 1 l) n) (listing c 1 l) (AreElements-roots (1 ∷ listing c 1 l) n)
-    (AllDifferent-roots (1 ∷ listing c 1 l) n small) (AreElements-listing c elements 1 l) (AreRoots-roots (listing c 1 l) n) in
+    subst (λ (k : ℕ). weight w ≤ length (roots_below (1 ∷ listing c 1 l) k)) p.size
+    (weight_le_roots (listing c 1 l) w roots) in
+    let most = at_most_degree (roots_below (1 ∷ listing c 1 l) n) (listing c 1 l)
+    (AreElements-roots (1 ∷ listing c 1 l) n)
+    (AllDifferent-roots (1 ∷ listing c 1 l) n small) (AreElements-listing c elements 1 l)
+    (AreRoots-roots (listing c 1 l) n) in
     ap (λ (ys : List ℕ). length (roots_below ys n)) monic ∙ omega (arith, enough, most.0, length-listing c 1 l)
 
 -- ---- the word of terms at the roots
@@ -118,7 +127,8 @@ head_is x y xs ys e = cc
 tail_is : (x y : ℕ) (xs ys : List ℕ) → x ∷ xs ≡ y ∷ ys → xs ≡ ys
 tail_is x y xs ys e = cc
 
-put-length : (n : ℕ) (f : List Term → List ℕ) → ((ts : List Term) → length (f ts) ≡ n) → (b : Bool) (ts : List Term) → length (put b ts f) ≡ suc n
+put-length : (n : ℕ) (f : List Term → List ℕ) → ((ts : List Term) → length (f ts) ≡ n) → (b : Bool) (ts : List Term)
+    → length (put b ts f) ≡ suc n
 put-length n f h false ts = ap suc (h ts)
 put-length n f h true [] = ap suc (h [])
 put-length n f h true (t ∷ ts) = ap suc (h ts)
@@ -127,20 +137,23 @@ pub length-spread : (p : List ℕ) (n : ℕ) (ts : List Term) → length (spread
 length-spread p zero ts = refl
 length-spread p (suc n) ts = put-length n (spread p n) (length-spread p n) (eqb (value_at p (place_of n)) 0) ts
 
-put-elements : (f : List Term → List ℕ) → ((ts : List Term) → AreTerms ts → AreElements (f ts)) → (b : Bool) (ts : List Term) → AreTerms ts → AreElements (put b ts f)
+put-elements : (f : List Term → List ℕ) → ((ts : List Term) → AreTerms ts → AreElements (f ts))
+    → (b : Bool) (ts : List Term) → AreTerms ts → AreElements (put b ts f)
 put-elements f h false ts a = (omega arith, h ts a)
 put-elements f h true [] a = (omega arith, h [] a)
 put-elements f h true (t ∷ ts) a = (a.0, h ts a.3)
 
 pub AreElements-spread : (p : List ℕ) (n : ℕ) (ts : List Term) → AreTerms ts → AreElements (spread p n ts)
 AreElements-spread p zero ts a = tt
-AreElements-spread p (suc n) ts a = put-elements (spread p n) (AreElements-spread p n) (eqb (value_at p (place_of n)) 0) ts a
+AreElements-spread p (suc n) ts a =
+    put-elements (spread p n) (AreElements-spread p n) (eqb (value_at p (place_of n)) 0) ts a
 
 one_more : (b : Bool) → cond b 0 1 ≤ 1
 one_more true = omega arith
 one_more false = omega arith
 
-put-weight : (f : List Term → List ℕ) → ((ts : List Term) → weight (f ts) ≤ length ts) → (b : Bool) (ts : List Term) → weight (put b ts f) ≤ length ts
+put-weight : (f : List Term → List ℕ) → ((ts : List Term) → weight (f ts) ≤ length ts) → (b : Bool) (ts : List Term)
+    → weight (put b ts f) ≤ length ts
 put-weight f h false ts = omega (arith, h ts)
 put-weight f h true [] = omega (arith, h [])
 put-weight f h true (t ∷ ts) = omega (arith, h ts, one_more (eqb t.value 0))
@@ -149,16 +162,20 @@ weight-spread : (p : List ℕ) (n : ℕ) (ts : List Term) → weight (spread p n
 weight-spread p zero ts = omega arith
 weight-spread p (suc n) ts = put-weight (spread p n) (weight-spread p n) (eqb (value_at p (place_of n)) 0) ts
 
-put-value : (j n x : ℕ) (f : List Term → List ℕ) (xs : List ℕ) → x ≡ power 2 (11 * n) → ((ts : List Term) → length (f ts) ≡ n)
+put-value : (j n x : ℕ) (f : List Term → List ℕ) (xs : List ℕ) → x ≡ power 2 (11 * n)
+    → ((ts : List Term) → length (f ts) ≡ n)
     → ((ts : List Term) → places_of ts ≡ xs → value_at (f ts) (power 2 (11 * j)) ≡ power_sum j ts)
-    → (b : Bool) (ts : List Term) → places_of ts ≡ add_place b x xs → value_at (put b ts f) (power 2 (11 * j)) ≡ power_sum j ts
+    → (b : Bool) (ts : List Term) → places_of ts ≡ add_place b x xs
+    → value_at (put b ts f) (power 2 (11 * j)) ≡ power_sum j ts
 put-value j n x f xs at len h false ts e =
-    ap (λ (y : ℕ). bit_xor y (value_at (f ts) (power 2 (11 * j)))) (zero-times (power (power 2 (11 * j)) (length (f ts)))) ∙ h ts e
+    ap (λ (y : ℕ). bit_xor y (value_at (f ts) (power 2 (11 * j))))
+    (zero-times (power (power 2 (11 * j)) (length (f ts)))) ∙ h ts e
 put-value j n x f xs at len h true [] e = no_cons _ x xs e
 put-value j n x f xs at len h true (t ∷ ts) e =
     ap (λ (y : ℕ). bit_xor (times t.value (power (power 2 (11 * j)) y)) (value_at (f ts) (power 2 (11 * j)))) (len ts)
     ∙ ap (λ (y : ℕ). bit_xor (times t.value y) (value_at (f ts) (power 2 (11 * j)))) (exchanged n j)
-    ∙ ap (λ (y : ℕ). bit_xor (times t.value (power y j)) (value_at (f ts) (power 2 (11 * j)))) (sym (head_is t.place x (places_of ts) xs e ∙ at))
+    ∙ ap (λ (y : ℕ). bit_xor (times t.value (power y j)) (value_at (f ts) (power 2 (11 * j))))
+    (sym (head_is t.place x (places_of ts) xs e ∙ at))
     ∙ ap (bit_xor (times t.value (power t.place j))) (h ts (tail_is t.place x (places_of ts) xs e))
 
 place_is : (n : ℕ) → place_of n ≡ power 2 (11 * n)
@@ -175,20 +192,25 @@ value_at-spread j p (suc n) ts e =
 
 -- ---- the pattern
 
-pub AreZero-roots : (cs : List ℕ) (ts : List Term) → AreRoots cs (places_of ts) → AreZero (weighted (value_at (1 ∷ cs)) ts)
+pub AreZero-roots : (cs : List ℕ) (ts : List Term) → AreRoots cs (places_of ts)
+    → AreZero (weighted (value_at (1 ∷ cs)) ts)
 AreZero-roots cs [] h = tt
 AreZero-roots cs (t ∷ ts) h = (ap (times t.value) h.0 ∙ times-zero t.value, AreZero-roots cs ts h.1)
 
 pub pattern_exists : (e count n : ℕ) (s : ℕ → ℕ) → ((k : ℕ) → s k < 256) → n ≤ 255 → (c : ℕ → ℕ) → ((i : ℕ) → c i < 256)
-    → (l : ℕ) → Generates c l s (count) → 2 * l ≤ count → length (roots_below (listing c 0 (suc l)) n) ≡ l → (w : List ℕ) × Explains e count n s w
+    → (l : ℕ) → Generates c l s (count) → 2 * l ≤ count → length (roots_below (listing c 0 (suc l)) n) ≡ l
+    → (w : List ℕ) × Explains e count n s w
 pattern_exists e count n s sl small c elements l g few counted =
     let p : List ℕ = 1 ∷ listing c 1 l in
     let monic : listing c 0 (suc l) ≡ p = ap (λ (y : ℕ). y ∷ listing c 1 l) g.first in
-    let counted' : length (roots_below p n) ≡ l = ap (λ (ys : List ℕ). length (roots_below ys n)) (sym monic) ∙ counted in
+    let counted' : length (roots_below p n) ≡ l = ap (λ (ys : List ℕ). length (roots_below ys n)) (sym monic)
+    ∙ counted in
     let sol : Solution (128 - e) (roots_below p n) s =
-    solution (128 - e) (roots_below p n) s sl (AreElements-roots p n) (NoZero-roots p n) (AllDifferent-roots p n small) in
+    solution (128 - e) (roots_below p n) s sl (AreElements-roots p n) (NoZero-roots p n)
+    (AllDifferent-roots p n small) in
     let zeros : AreZero (weighted (value_at p) sol.terms) =
-    AreZero-roots (listing c 1 l) sol.terms (subst (AreRoots (listing c 1 l)) (sym sol.at) (AreRoots-roots (listing c 1 l) n)) in
+    AreZero-roots (listing c 1 l) sol.terms (subst (AreRoots (listing c 1 l)) (sym sol.at)
+    (AreRoots-roots (listing c 1 l) n)) in
     let lc : length (listing c 1 l) ≡ l = length-listing c 1 l in
     let same : (j : ℕ) → j < count → sums_from (128 - e) sol.terms j ≡ s j =
     same_below (count) (listing c 1 l) (sums_from (128 - e) sol.terms) s (λ k. power_sum-lt (128 - e + k) sol.terms) sl

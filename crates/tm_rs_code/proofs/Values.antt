@@ -87,19 +87,24 @@ meets_all b v x n us s step here (suc k) l =
 
 pub power_sum-lt : (j : ℕ) (ts : List Term) → power_sum j ts < 256
 power_sum-lt j [] = omega arith
-power_sum-lt j (t ∷ ts) = plus-lt (times t.value (power t.place j)) (power_sum j ts) (times-lt t.value (power t.place j)) (power_sum-lt j ts)
+power_sum-lt j (t ∷ ts) =
+    plus-lt (times t.value (power t.place j)) (power_sum j ts) (times-lt t.value (power t.place j))
+    (power_sum-lt j ts)
 
 -- the head's value
-head_value : (b x p s : ℕ) → x < 256 → x ≢ 0 → p < 256 → s < 256 → bit_xor (times (times (bit_xor s p) (inverse (power x b))) (power x b)) p ≡ s
+head_value : (b x p s : ℕ) → x < 256 → x ≢ 0 → p < 256 → s < 256
+    → bit_xor (times (times (bit_xor s p) (inverse (power x b))) (power x b)) p ≡ s
 head_value b x p s l nz pl sl =
     ap (λ (y : ℕ). bit_xor y p)
     (times-assoc (bit_xor s p) (inverse (power x b)) (power x b)
-    ∙ ap (times (bit_xor s p)) (times-comm (inverse (power x b)) (power x b) ∙ times-inverse (power x b) (power-lt x b) (power-nonzero x b l nz))
+    ∙ ap (times (bit_xor s p)) (times-comm (inverse (power x b)) (power x b)
+    ∙ times-inverse (power x b) (power-lt x b) (power-nonzero x b l nz))
     ∙ times-one (bit_xor s p) (plus-lt s p sl pl))
     ∙ xor_assoc s p p ∙ ap (bit_xor s) (xor_self p) ∙ xor_zero_r s
 
 -- the values exist
-pub solution : (b : ℕ) (places : List ℕ) (s : ℕ → ℕ) → ((k : ℕ) → s k < 256) → AreElements places → NoZero places → AllDifferent places → Solution b places s
+pub solution : (b : ℕ) (places : List ℕ) (s : ℕ → ℕ) → ((k : ℕ) → s k < 256) → AreElements places → NoZero places
+    → AllDifferent places → Solution b places s
 solution b [] s sl el nz d = record { terms = []; at = refl; fit = tt; meets = λ k l. absurd (omega arith) }
 solution b (x ∷ xs) s sl el nz d =
     let rest : Solution b xs (λ k. bit_xor (s (suc k)) (times x (s k))) =
@@ -120,7 +125,8 @@ solution b (x ∷ xs) s sl el nz d =
 
 -- ---- a sequence from its recurrence
 
-pub window-same : (cs : List ℕ) (s s' : ℕ → ℕ) (m : ℕ) → ((j : ℕ) → j < m + length cs → s j ≡ s' j) → window cs s m ≡ window cs s' m
+pub window-same : (cs : List ℕ) (s s' : ℕ → ℕ) (m : ℕ) → ((j : ℕ) → j < m + length cs → s j ≡ s' j)
+    → window cs s m ≡ window cs s' m
 window-same [] s s' m h = refl
 window-same (c ∷ cs) s s' m h =
     ap (λ (y : ℕ). bit_xor (times c y) (window cs s m)) (h (m + length cs) (omega arith))
@@ -128,7 +134,8 @@ window-same (c ∷ cs) s s' m h =
 
 -- what comes next is what the recurrence gives from those before
 next_is : (cs : List ℕ) (s s' : ℕ → ℕ) (m : ℕ) → ((k : ℕ) → s k < 256) → ((k : ℕ) → s' k < 256)
-    → window (1 ∷ cs) s m ≡ 0 → window (1 ∷ cs) s' m ≡ 0 → ((j : ℕ) → j < m + length cs → s j ≡ s' j) → s (m + length cs) ≡ s' (m + length cs)
+    → window (1 ∷ cs) s m ≡ 0 → window (1 ∷ cs) s' m ≡ 0 → ((j : ℕ) → j < m + length cs → s j ≡ s' j)
+    → s (m + length cs) ≡ s' (m + length cs)
 next_is cs s s' m sl sl' w w' h =
     sym (one-times (s (m + length cs)) (sl (m + length cs)))
     ∙ plus_apart (times 1 (s (m + length cs))) (window cs s m) w
@@ -146,11 +153,13 @@ same_below (suc n) cs s s' sl sl' first w w' j l =
     elim (cases_lt j (length cs)) [
       | inl lt ↦ first j lt
       | inr le ↦ elim (cases_eq j n) [
-        | inr ne ↦ same_below n cs s s' sl sl' first (λ m lm. w m (omega arith)) (λ m lm. w' m (omega arith)) j (omega arith)
+        | inr ne ↦ same_below n cs s s' sl sl' first (λ m lm. w m (omega arith)) (λ m lm. w' m (omega arith)) j
+            (omega arith)
         | inl e ↦
             let back_ : (j - length cs) + length cs ≡ j = omega arith in
             subst (λ (i : ℕ). s i ≡ s' i) back_
             (next_is cs s s' (j - length cs) sl sl' (w (j - length cs) (omega arith)) (w' (j - length cs) (omega arith))
-            (λ i li. same_below n cs s s' sl sl' first (λ m lm. w m (omega arith)) (λ m lm. w' m (omega arith)) i (omega arith)))
+            (λ i li. same_below n cs s s' sl sl' first (λ m lm. w m (omega arith)) (λ m lm. w' m (omega arith)) i
+            (omega arith)))
       ]
     ]

@@ -54,13 +54,16 @@ split_factor v p x q =
     ∙ ap (λ (y : ℕ). bit_xor (times v y) (times v (times x q))) (times-comm p q)
     ∙ ap (bit_xor (times v (times q p))) (swap_factors v x q)
 
-pub power_sum-scaled : (x : ℕ) (ts : List Term) (j : ℕ) → power_sum j (scaled x ts) ≡ bit_xor (power_sum (suc j) ts) (times x (power_sum j ts))
+pub power_sum-scaled : (x : ℕ) (ts : List Term) (j : ℕ) → power_sum j (scaled x ts)
+    ≡ bit_xor (power_sum (suc j) ts) (times x (power_sum j ts))
 unfolding power
 power_sum-scaled x [] j = sym (times-zero x)
 power_sum-scaled x (t ∷ ts) j =
     ap (λ (y : ℕ). bit_xor y (power_sum j (scaled x ts))) (split_factor t.value t.place x (power t.place j))
-    ∙ ap (bit_xor (bit_xor (times t.value (times (power t.place j) t.place)) (times x (times t.value (power t.place j))))) (power_sum-scaled x ts j)
-    ∙ middle (times t.value (times (power t.place j) t.place)) (times x (times t.value (power t.place j))) (power_sum (suc j) ts) (times x (power_sum j ts))
+    ∙ ap (bit_xor (bit_xor (times t.value (times (power t.place j) t.place))
+    (times x (times t.value (power t.place j))))) (power_sum-scaled x ts j)
+    ∙ middle (times t.value (times (power t.place j) t.place)) (times x (times t.value (power t.place j)))
+    (power_sum (suc j) ts) (times x (power_sum j ts))
     ∙ ap (bit_xor (bit_xor (times t.value (times (power t.place j) t.place)) (power_sum (suc j) ts)))
     (sym (times-plus x (times t.value (power t.place j)) (power_sum j ts)))
 
@@ -88,7 +91,8 @@ AreApart-scaled : (x : ℕ) (ts : List Term) → AreApart ts → AreApart (scale
 AreApart-scaled x [] h = tt
 AreApart-scaled x (t ∷ ts) h = (ApartFrom-scaled x t.place ts h.0, AreApart-scaled x ts h.1)
 
-AreZero_of_scaled : (x : ℕ) (ts : List Term) → x < 256 → AreTerms ts → ApartFrom x ts → AreZero (scaled x ts) → AreZero ts
+AreZero_of_scaled : (x : ℕ) (ts : List Term) → x < 256 → AreTerms ts → ApartFrom x ts → AreZero (scaled x ts)
+    → AreZero ts
 AreZero_of_scaled x [] l h a z = tt
 AreZero_of_scaled x (t ∷ ts) l h a z = (
   times-cancel (bit_xor t.place x) t.value (plus-lt t.place x h.1 l) h.0 (λ e. a.0 (plus_apart t.place x e))
@@ -108,7 +112,8 @@ unfolding power
 step_vanishes v x j s s' e e' =
     ap (λ (y : ℕ). bit_xor y (times x s)) (rest_of (times v (times (power x j) x)) s' e')
     ∙ ap (λ (y : ℕ). bit_xor (times v (times (power x j) x)) (times x y)) (rest_of (times v (power x j)) s e)
-    ∙ ap (λ (y : ℕ). bit_xor y (times x (times v (power x j)))) (ap (times v) (times-comm (power x j) x) ∙ swap_factors v x (power x j))
+    ∙ ap (λ (y : ℕ). bit_xor y (times x (times v (power x j))))
+    (ap (times v) (times-comm (power x j) x) ∙ swap_factors v x (power x j))
     ∙ xor_self (times x (times v (power x j)))
 
 pub vanish : (n : ℕ) (ts : List Term) → length ts ≡ n → AreTerms ts → AreApart ts
@@ -119,7 +124,8 @@ vanish (suc n) [] len h a b s = absurd (omega arith)
 vanish (suc n) (t ∷ ts) len h a b s =
     let rest : AreZero ts =
     AreZero_of_scaled t.place ts h.1 h.3 a.0
-    (vanish n (scaled t.place ts) (length-scaled t.place ts ∙ (omega arith)) (AreTerms-scaled t.place ts h.3) (AreApart-scaled t.place ts a.1) b
+    (vanish n (scaled t.place ts) (length-scaled t.place ts ∙ (omega arith)) (AreTerms-scaled t.place ts h.3)
+    (AreApart-scaled t.place ts a.1) b
     (λ k l. power_sum-scaled t.place ts (b + k)
     ∙ step_vanishes t.value t.place (b + k) (power_sum (b + k) ts) (power_sum (suc (b + k)) ts)
     (s k (omega arith)) (ap (λ (y : ℕ). power_sum y (t ∷ ts)) (omega arith) ∙ s (suc k) (omega arith)))) in (

@@ -19,19 +19,26 @@ weighted f [] = []
 weighted f (t ∷ ts) = record { value = times t.value (f t.place); place = t.place } ∷ weighted f ts
 
 power_sum-sum : (f g : ℕ → ℕ) (j : ℕ) (ts : List Term)
-    → power_sum j (weighted (λ x. bit_xor (f x) (g x)) ts) ≡ bit_xor (power_sum j (weighted f ts)) (power_sum j (weighted g ts))
+    → power_sum j (weighted (λ x. bit_xor (f x) (g x)) ts) ≡ bit_xor (power_sum j (weighted f ts))
+    (power_sum j (weighted g ts))
 power_sum-sum f g j [] = refl
 power_sum-sum f g j (t ∷ ts) =
-    ap (λ (y : ℕ). bit_xor (times y (power t.place j)) (power_sum j (weighted (λ x. bit_xor (f x) (g x)) ts))) (times-plus t.value (f t.place) (g t.place))
-    ∙ ap (λ (y : ℕ). bit_xor y (power_sum j (weighted (λ x. bit_xor (f x) (g x)) ts))) (plus-times (times t.value (f t.place)) (times t.value (g t.place)) (power t.place j))
-    ∙ ap (bit_xor (bit_xor (times (times t.value (f t.place)) (power t.place j)) (times (times t.value (g t.place)) (power t.place j)))) (power_sum-sum f g j ts)
-    ∙ middle (times (times t.value (f t.place)) (power t.place j)) (times (times t.value (g t.place)) (power t.place j)) (power_sum j (weighted f ts)) (power_sum j (weighted g ts))
+    ap (λ (y : ℕ). bit_xor (times y (power t.place j)) (power_sum j (weighted (λ x. bit_xor (f x) (g x)) ts)))
+    (times-plus t.value (f t.place) (g t.place))
+    ∙ ap (λ (y : ℕ). bit_xor y (power_sum j (weighted (λ x. bit_xor (f x) (g x)) ts)))
+    (plus-times (times t.value (f t.place)) (times t.value (g t.place)) (power t.place j))
+    ∙ ap (bit_xor (bit_xor (times (times t.value (f t.place)) (power t.place j))
+    (times (times t.value (g t.place)) (power t.place j)))) (power_sum-sum f g j ts)
+    ∙ middle (times (times t.value (f t.place)) (power t.place j))
+    (times (times t.value (g t.place)) (power t.place j)) (power_sum j (weighted f ts))
+    (power_sum j (weighted g ts))
 
 power_sum-none : (j : ℕ) (ts : List Term) → power_sum j (weighted (λ x. 0) ts) ≡ 0
 power_sum-none j [] = refl
 power_sum-none j (t ∷ ts) =
     ap (λ (y : ℕ). bit_xor (times y (power t.place j)) (power_sum j (weighted (λ x. 0) ts))) (times-zero t.value)
-    ∙ ap (λ (y : ℕ). bit_xor y (power_sum j (weighted (λ x. 0) ts))) (zero-times (power t.place j)) ∙ power_sum-none j ts
+    ∙ ap (λ (y : ℕ). bit_xor y (power_sum j (weighted (λ x. 0) ts))) (zero-times (power t.place j))
+    ∙ power_sum-none j ts
 
 -- (v (c p)) q is c (v (q p))
 gather : (v c p q : ℕ) → times (times v (times c p)) q ≡ times c (times v (times q p))
@@ -39,11 +46,13 @@ gather v c p q =
     ap (λ (y : ℕ). times y q) (swap_factors v c p) ∙ times-assoc c (times v p) q
     ∙ ap (times c) (times-assoc v p q ∙ ap (times v) (times-comm p q))
 
-power_sum-power : (c l j : ℕ) (ts : List Term) → power_sum j (weighted (λ x. times c (power x l)) ts) ≡ times c (power_sum (j + l) ts)
+power_sum-power : (c l j : ℕ) (ts : List Term) → power_sum j (weighted (λ x. times c (power x l)) ts)
+    ≡ times c (power_sum (j + l) ts)
 power_sum-power c l j [] = sym (times-zero c)
 power_sum-power c l j (t ∷ ts) =
     ap (λ (y : ℕ). bit_xor y (power_sum j (weighted (λ x. times c (power x l)) ts)))
-    (gather t.value c (power t.place l) (power t.place j) ∙ ap (λ (y : ℕ). times c (times t.value y)) (sym (power-add t.place j l)))
+    (gather t.value c (power t.place l) (power t.place j) ∙ ap (λ (y : ℕ). times c (times t.value y))
+    (sym (power-add t.place j l)))
     ∙ ap (bit_xor (times c (times t.value (power t.place (j + l))))) (power_sum-power c l j ts)
     ∙ sym (times-plus c (times t.value (power t.place (j + l))) (power_sum (j + l) ts))
 
@@ -52,7 +61,8 @@ abbrev pub sums_from : ℕ → List Term → ℕ → ℕ
 sums_from b ts j = power_sum (b + j) ts
 
 -- a window of power sums is the power sum of the values times the polynomial's
-pub window-sums : (cs : List ℕ) (b m : ℕ) (ts : List Term) → window cs (sums_from b ts) m ≡ power_sum (b + m) (weighted (value_at cs) ts)
+pub window-sums : (cs : List ℕ) (b m : ℕ) (ts : List Term) → window cs (sums_from b ts) m
+    ≡ power_sum (b + m) (weighted (value_at cs) ts)
 window-sums [] b m ts = sym (power_sum-none (b + m) ts)
 window-sums (c ∷ cs) b m ts =
     ap (λ (y : ℕ). bit_xor (times c (power_sum y ts)) (window cs (sums_from b ts) m)) (sym (add_assoc b m (length cs)))
@@ -80,13 +90,15 @@ AreApart-weighted f (t ∷ ts) h = (ApartFrom-weighted f t.place ts h.0, AreApar
 pub each_vanishes : (cs : List ℕ) (b : ℕ) (ts : List Term) → AreTerms ts → AreApart ts
     → ((m : ℕ) → m < length ts → window cs (sums_from b ts) m ≡ 0) → AreZero (weighted (value_at cs) ts)
 each_vanishes cs b ts h a z =
-    vanish (length ts) (weighted (value_at cs) ts) (length-weighted (value_at cs) ts) (AreTerms-weighted (value_at cs) ts h) (AreApart-weighted (value_at cs) ts a) b
+    vanish (length ts) (weighted (value_at cs) ts) (length-weighted (value_at cs) ts)
+    (AreTerms-weighted (value_at cs) ts h) (AreApart-weighted (value_at cs) ts a) b
     (λ m l. sym (window-sums cs b m ts) ∙ z m l)
 
 -- and so it holds everywhere
 pub holds_on : (cs : List ℕ) (b : ℕ) (ts : List Term) → AreTerms ts → AreApart ts
     → ((m : ℕ) → m < length ts → window cs (sums_from b ts) m ≡ 0) → (m : ℕ) → window cs (sums_from b ts) m ≡ 0
-holds_on cs b ts h a z m = window-sums cs b m ts ∙ power_sum-zero (b + m) (weighted (value_at cs) ts) (each_vanishes cs b ts h a z)
+holds_on cs b ts h a z m =
+    window-sums cs b m ts ∙ power_sum-zero (b + m) (weighted (value_at cs) ts) (each_vanishes cs b ts h a z)
 
 -- ---- roots
 
@@ -114,10 +126,13 @@ pub AllDifferent-places_of : (ts : List Term) → AreApart ts → AllDifferent (
 AllDifferent-places_of [] h = tt
 AllDifferent-places_of (t ∷ ts) h = (AllOther-places_of t.place ts h.0, AllDifferent-places_of ts h.1)
 
-pub AreRoots-places_of : (cs : List ℕ) (ts : List Term) → AreTerms ts → HaveValues ts → AreZero (weighted (value_at (1 ∷ cs)) ts) → AreRoots cs (places_of ts)
+pub AreRoots-places_of : (cs : List ℕ) (ts : List Term) → AreTerms ts → HaveValues ts
+    → AreZero (weighted (value_at (1 ∷ cs)) ts) → AreRoots cs (places_of ts)
 AreRoots-places_of cs [] h v z = tt
-AreRoots-places_of cs (t ∷ ts) h v z =
-    (times-cancel t.value (value_at (1 ∷ cs) t.place) h.0 (value_at-lt (1 ∷ cs) t.place) v.0 z.0, AreRoots-places_of cs ts h.3 v.1 z.1)
+AreRoots-places_of cs (t ∷ ts) h v z = (
+  times-cancel t.value (value_at (1 ∷ cs) t.place) h.0 (value_at-lt (1 ∷ cs) t.place) v.0 z.0,
+  AreRoots-places_of cs ts h.3 v.1 z.1,
+)
 
 -- a monic recurrence has at least as many places as there are terms, and with that many it is their locator
 pub shortest : (cs : List ℕ) (b : ℕ) (ts : List Term) → AreElements cs → AreTerms ts → AreApart ts → HaveValues ts

@@ -17,6 +17,7 @@ unfolding place_of
 at_place poly p x v e f = ap (value_at poly) (sym e) ∙ sym f
 
 -- a root is the element of a place
-pub at_root : (poly : List ℕ) (e k p v : ℕ) → p ≡ 128 - e + k → v ≡ value_at poly (place_of p) → v ≡ value_at poly (root e k)
+pub at_root : (poly : List ℕ) (e k p v : ℕ) → p ≡ 128 - e + k → v ≡ value_at poly (place_of p)
+    → v ≡ value_at poly (root e k)
 unfolding place_of
 at_root poly e k p v is h = h ∙ ap (λ (i : ℕ). value_at poly (power 2 (11 * i))) is

@@ -17,7 +17,12 @@ unfolding times power bit_product remainder
 roots_pass_16 = refl
 
 pub generator_16 : IsGenerator 16 GENERATOR_16
-generator_16 = record { degree = refl; roots = same_below 32 (λ k. value_at (1 ∷ GENERATOR_16) (root 16 k)) (λ k. 0) roots_pass_16 }
+generator_16 =
+    record {
+      degree = refl;
+      roots = same_below 32 (λ k. value_at (1 ∷ GENERATOR_16) (root 16 k))
+          (λ k. 0) roots_pass_16;
+    }
 
 rows_pass_16 : are_rows 0 GENERATOR_16 ROWS_16 ≡ true
 unfolding are_rows are_products times bit_product remainder
@@ -33,7 +38,8 @@ unfolding times power bit_product remainder
 roots_pass_8 = refl
 
 pub generator_8 : IsGenerator 8 GENERATOR_8
-generator_8 = record { degree = refl; roots = same_below 16 (λ k. value_at (1 ∷ GENERATOR_8) (root 8 k)) (λ k. 0) roots_pass_8 }
+generator_8 =
+    record { degree = refl; roots = same_below 16 (λ k. value_at (1 ∷ GENERATOR_8) (root 8 k)) (λ k. 0) roots_pass_8 }
 
 rows_pass_8 : are_rows 0 GENERATOR_8 ROWS_8 ≡ true
 unfolding are_rows are_products times bit_product remainder

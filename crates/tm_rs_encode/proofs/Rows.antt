@@ -13,14 +13,16 @@ zip2_sums (x ∷ xs) [] = refl
 zip2_sums (x ∷ xs) (y ∷ ys) = ap (λ (vs : List ℕ). bit_xor x y ∷ vs) (zip2_sums xs ys)
 
 -- each lane from the one above, and the first of the zeros into the last
-taken_up : (width r : ℕ) (rs zeros : List ℕ) → length (r ∷ rs) ≡ width → pick_l 0 ((r ∷ rs) ++ (0 ∷ zeros)) (range_with_len 1 width) ≡ rs ++ 0 ∷ []
+taken_up : (width r : ℕ) (rs zeros : List ℕ) → length (r ∷ rs) ≡ width
+    → pick_l 0 ((r ∷ rs) ++ (0 ∷ zeros)) (range_with_len 1 width) ≡ rs ++ 0 ∷ []
 taken_up width r rs zeros size =
     pick_l-range_with_len 0 ((r ∷ rs) ++ (0 ∷ zeros)) 1 width (omega (arith, length-append rs (0 ∷ zeros)))
     ∙ ap (λ (vs : List ℕ). take width vs) (sym (append_assoc rs (0 ∷ []) zeros))
     ∙ take_at (rs ++ 0 ∷ []) zeros width (omega (arith, length-append rs (0 ∷ [])))
 
 -- a step of the vector register is a step of the shift register
-pub stepped : (width : ℕ) (g : List ℕ) (d : ℕ) (xs row zeros : List ℕ) → 0 < width → length xs ≡ width → row ≡ multiple (bit_xor d (get_or xs 0 0)) g
+pub stepped : (width : ℕ) (g : List ℕ) (d : ℕ) (xs row zeros : List ℕ) → 0 < width → length xs ≡ width
+    → row ≡ multiple (bit_xor d (get_or xs 0 0)) g
     → zip2 bit_xor (pick_l 0 (xs ++ 0 ∷ zeros) (range_with_len 1 width)) row ≡ shift g d xs
 stepped width g d [] row zeros some size is = absurd (omega arith)
 stepped width g d (r ∷ rs) row zeros some size is =

@@ -23,15 +23,18 @@ listing-cons y ys i (suc n) = ap (λ (zs : List ℕ). entry ys i ∷ zs) (listin
 pub listing-take : (ys : List Gf) (n : ℕ) → n ≤ length ys → listing (entry ys) 0 n ≡ numbers (take n ys)
 listing-take ys zero h = refl
 listing-take [] (suc n) h = absurd (omega arith)
-listing-take (y ∷ ys) (suc n) h = ap (λ (zs : List ℕ). y.0 ∷ zs) (listing-cons y ys 0 n ∙ listing-take ys n (omega arith))
+listing-take (y ∷ ys) (suc n) h =
+    ap (λ (zs : List ℕ). y.0 ∷ zs) (listing-cons y ys 0 n ∙ listing-take ys n (omega arith))
 
 pub elements_of : (ys : List Gf) → ((k : ℕ) → k < length ys → entry ys k < 256) → (k : ℕ) → entry ys k < 256
 elements_of ys h k = elim (cases_lt k (length ys)) [ inl lt ↦ h k lt | inr ge ↦ rw (entry_past ys k ge) (omega arith) ]
 
-pub one_more_root : (p : List ℕ) (n : ℕ) → value_at p (place_of n) ≡ 0 → length (roots_below p (suc n)) ≡ suc (length (roots_below p n))
+pub one_more_root : (p : List ℕ) (n : ℕ) → value_at p (place_of n) ≡ 0
+    → length (roots_below p (suc n)) ≡ suc (length (roots_below p n))
 one_more_root p n h = elim (eqb_tells (value_at p (place_of n)) 0) [ inl t ↦ rw t.0 refl | inr t ↦ absurd (t.1 h) ]
 
-pub no_more_root : (p : List ℕ) (n : ℕ) → value_at p (place_of n) ≢ 0 → length (roots_below p (suc n)) ≡ length (roots_below p n)
+pub no_more_root : (p : List ℕ) (n : ℕ) → value_at p (place_of n) ≢ 0
+    → length (roots_below p (suc n)) ≡ length (roots_below p n)
 no_more_root p n h = elim (eqb_tells (value_at p (place_of n)) 0) [ inl t ↦ absurd (h t.1) | inr t ↦ rw t.0 refl ]
 
 -- ---- the end
@@ -40,19 +43,23 @@ pub listed : (cs : List Gf) (l : ℕ) → l < length cs → listing (entry cs) 0
 listed cs l h = ap (listing (entry cs) 0) (sym (add-one l)) ∙ listing-take cs (l + 1) (omega arith)
 
 -- too few roots below n
-pub none_at_end : (e count n : ℕ) (s : ℕ → ℕ) (cs : List Gf) (l : ℕ) → IsShortest count s (entry cs) l → n ≤ 255 → length cs ≡ 17 → count ≤ 32
+pub none_at_end : (e count n : ℕ) (s : ℕ → ℕ) (cs : List Gf) (l : ℕ) → IsShortest count s (entry cs) l → n ≤ 255
+    → length cs ≡ 17 → count ≤ 32
     → length (roots_below (numbers (take (l + 1) cs)) n) ≢ l → (w : List ℕ) → Explains e count n s w → ⊥
 none_at_end e count n s cs l h small len most ne w p =
     ne (ap (λ (ys : List ℕ). length (roots_below ys n)) (sym (listed cs l (omega (arith, h.few))))
     ∙ count_of_roots e count n s w p small (entry cs) h.elements l h.generates h.few (h.least e n small w p))
 
-pub exists_at_end : (e count n : ℕ) (s : ℕ → ℕ) (cs : List Gf) (l : ℕ) → IsShortest count s (entry cs) l → n ≤ 255 → length cs ≡ 17 → count ≤ 32
-    → ((k : ℕ) → s k < 256) → length (roots_below (numbers (take (l + 1) cs)) n) ≡ l → (w : List ℕ) × Explains e count n s w
+pub exists_at_end : (e count n : ℕ) (s : ℕ → ℕ) (cs : List Gf) (l : ℕ) → IsShortest count s (entry cs) l → n ≤ 255
+    → length cs ≡ 17 → count ≤ 32
+    → ((k : ℕ) → s k < 256) → length (roots_below (numbers (take (l + 1) cs)) n) ≡ l → (w : List ℕ)
+    × Explains e count n s w
 exists_at_end e count n s cs l h small len most elements counted =
     pattern_exists e count n s elements small (entry cs) h.elements l h.generates h.few
     (ap (λ (ys : List ℕ). length (roots_below ys n)) (listed cs l (omega (arith, h.few))) ∙ counted)
 
-pub located_at_end : (e count n : ℕ) (s : ℕ → ℕ) (cs : List Gf) (l : ℕ) → IsShortest count s (entry cs) l → n ≤ 255 → length cs ≡ 17 → count ≤ 32
+pub located_at_end : (e count n : ℕ) (s : ℕ → ℕ) (cs : List Gf) (l : ℕ) → IsShortest count s (entry cs) l → n ≤ 255
+    → length cs ≡ 17 → count ≤ 32
     → (w : List ℕ) → Explains e count n s w → IsLocatorOf cs l w
 located_at_end e count n s cs l h small len most w p =
     let is = is_locator e count n s w p small (entry cs) h.elements l h.generates h.few (h.least e n small w p) in
@@ -69,13 +76,19 @@ located_at_end e count n s cs l h small len most w p =
 pub no_pattern : (e n : ℕ) (s : ℕ → ℕ) → Unexplained (2 * e) s → n ≤ 255 → (w : List ℕ) → IsPattern e n s w → ⊥
 no_pattern e n s none small w p = none e n small w (explains e n s w p)
 
-pub no_pattern_at_end : (e n : ℕ) (s : ℕ → ℕ) (cs : List Gf) (l : ℕ) → IsShortest (2 * e) s (entry cs) l → n ≤ 255 → length cs ≡ 17 → e ≤ 16
+pub no_pattern_at_end : (e n : ℕ) (s : ℕ → ℕ) (cs : List Gf) (l : ℕ) → IsShortest (2 * e) s (entry cs) l → n ≤ 255
+    → length cs ≡ 17 → e ≤ 16
     → length (roots_below (numbers (take (l + 1) cs)) n) ≢ l → (w : List ℕ) → IsPattern e n s w → ⊥
 no_pattern_at_end e n s cs l h small len most ne w p =
     none_at_end e (2 * e) n s cs l h small len (omega arith) ne w (explains e n s w p)
 
-pub locates_at_end : (e n : ℕ) (s : ℕ → ℕ) (cs : List Gf) (l : ℕ) → IsShortest (2 * e) s (entry cs) l → n ≤ 255 → length cs ≡ 17 → e ≤ 16
+pub locates_at_end : (e n : ℕ) (s : ℕ → ℕ) (cs : List Gf) (l : ℕ) → IsShortest (2 * e) s (entry cs) l → n ≤ 255
+    → length cs ≡ 17 → e ≤ 16
     → ((k : ℕ) → s k < 256) → length (roots_below (numbers (take (l + 1) cs)) n) ≡ l → Locates e n s cs l
 locates_at_end e n s cs l h small len most elements counted =
-    let found = exists_at_end e (2 * e) n s cs l h small len (omega arith) elements counted in
-    (found.0, explained e n s found.0 found.1, located_at_end e (2 * e) n s cs l h small len (omega arith) found.0 found.1)
+    let found = exists_at_end e (2 * e) n s cs l h small len (omega arith) elements counted in (
+      found.0,
+      explained e n s found.0 found.1,
+      located_at_end e (2 * e) n s cs l h small len
+          (omega arith) found.0 found.1,
+    )

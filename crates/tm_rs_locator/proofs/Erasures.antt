@@ -33,21 +33,27 @@ count_drop fs zero = omega arith
 count_drop [] (suc j) = omega arith
 count_drop (f ∷ fs) (suc j) = omega (arith, count_drop fs j)
 
-pub count_step : (fs : List Bool) (j : ℕ) (b : Bool) → j < length fs → get_or fs j false ≡ b → count_erased (drop j fs) ≡ cond b 1 0 + count_erased (drop (suc j) fs)
-count_step fs j b h e = ap count_erased (drop_step fs j h) ∙ ap (λ (f : Bool). cond f 1 0 + count_erased (drop (suc j) fs)) e
+pub count_step : (fs : List Bool) (j : ℕ) (b : Bool) → j < length fs → get_or fs j false ≡ b
+    → count_erased (drop j fs) ≡ cond b 1 0 + count_erased (drop (suc j) fs)
+count_step fs j b h e =
+    ap count_erased (drop_step fs j h) ∙ ap (λ (f : Bool). cond f 1 0 + count_erased (drop (suc j) fs)) e
 
-pub marks_step : (fs : List Bool) (j : ℕ) (b : Bool) → j < length fs → get_or fs j false ≡ b → marks (drop j fs) ≡ cond b 1 0 ∷ marks (drop (suc j) fs)
+pub marks_step : (fs : List Bool) (j : ℕ) (b : Bool) → j < length fs → get_or fs j false ≡ b
+    → marks (drop j fs) ≡ cond b 1 0 ∷ marks (drop (suc j) fs)
 marks_step fs j b h e = ap marks (drop_step fs j h) ∙ ap (λ (f : Bool). cond f 1 0 ∷ marks (drop (suc j) fs)) e
 
 -- ---- one factor more
 
-listing-carry : (c : ℕ → ℕ) (x n i : ℕ) → c (suc i + n) ≡ 0 → carry x (c i) (listing c (suc i) n) ≡ listing (patched c x 1 c) (suc i) (suc n)
+listing-carry : (c : ℕ → ℕ) (x n i : ℕ) → c (suc i + n) ≡ 0
+    → carry x (c i) (listing c (suc i) n) ≡ listing (patched c x 1 c) (suc i) (suc n)
 listing-carry c x zero i z =
     let at : suc i + 0 ≡ suc i = omega arith in
     let before : suc i - 1 ≡ i = omega arith in
     ap (λ (y : ℕ). y ∷ [])
-    (sym (patched_high c c x 1 (suc i) (omega arith) ∙ ap (λ (y : ℕ). bit_xor y (times x (c (suc i - 1)))) (sym (ap c at) ∙ z)
-    ∙ xor_comm 0 (times x (c (suc i - 1))) ∙ xor_zero_r (times x (c (suc i - 1))) ∙ ap (λ (k : ℕ). times x (c k)) before))
+    (sym (patched_high c c x 1 (suc i) (omega arith) ∙ ap (λ (y : ℕ). bit_xor y (times x (c (suc i - 1))))
+    (sym (ap c at) ∙ z)
+    ∙ xor_comm 0 (times x (c (suc i - 1))) ∙ xor_zero_r (times x (c (suc i - 1)))
+    ∙ ap (λ (k : ℕ). times x (c k)) before))
 listing-carry c x (suc n) i z =
     let at : suc (suc i) + n ≡ suc i + suc n = omega arith in
     let before : suc i - 1 ≡ i = omega arith in
@@ -55,7 +61,8 @@ listing-carry c x (suc n) i z =
     (sym (patched_high c c x 1 (suc i) (omega arith) ∙ ap (λ (k : ℕ). bit_xor (c (suc i)) (times x (c k))) before))
     ∙ ap (λ (ys : List ℕ). patched c x 1 c (suc i) ∷ ys) (listing-carry c x n (suc i) (ap c at ∙ z))
 
-pub listing-linear : (c : ℕ → ℕ) (x d : ℕ) → c (suc d) ≡ 0 → times_linear x (listing c 0 (suc d)) ≡ listing (patched c x 1 c) 0 (suc (suc d))
+pub listing-linear : (c : ℕ → ℕ) (x d : ℕ) → c (suc d) ≡ 0 → times_linear x (listing c 0 (suc d))
+    ≡ listing (patched c x 1 c) 0 (suc (suc d))
 listing-linear c x d z =
     let at : suc 0 + d ≡ suc d = omega arith in
     ap (λ (y : ℕ). y ∷ carry x (c 0) (listing c 1 d)) (sym (patched_low c c x 1 0 (omega arith)))
@@ -72,8 +79,10 @@ pub record IsProduct (c : ℕ → ℕ) (degree : ℕ) (u : List ℕ) : Type 0 wh
   pub listed : listing c 0 (suc degree) ≡ locator_of u
   pub beyond : (i : ℕ) → suc degree ≤ i → c i ≡ 0
 
-pub product_more : (c d : ℕ → ℕ) (degree x p : ℕ) (u v : List ℕ) → IsProduct c degree u → x ≡ power 2 (11 * p) → length u ≡ p → v ≡ 1 ∷ u
-    → ((i : ℕ) → i < degree + 2 → d i ≡ patched c x 1 c i) → ((i : ℕ) → degree + 2 ≤ i → d i ≡ c i) → IsProduct d (degree + 1) v
+pub product_more : (c d : ℕ → ℕ) (degree x p : ℕ) (u v : List ℕ) → IsProduct c degree u → x ≡ power 2 (11 * p)
+    → length u ≡ p → v ≡ 1 ∷ u
+    → ((i : ℕ) → i < degree + 2 → d i ≡ patched c x 1 c i) → ((i : ℕ) → degree + 2 ≤ i → d i ≡ c i)
+    → IsProduct d (degree + 1) v
 unfolding place_of
 product_more c d degree x p u v h at len is changed rest =
     let e : suc (degree + 1) ≡ suc (suc degree) = omega arith in
@@ -121,7 +130,8 @@ count_next fs p b h e =
 pub length_next : (fs : List Bool) (p : ℕ) → p ≤ length fs → length (marks (drop (length fs - p) fs)) ≡ p
 length_next fs p h = omega (arith, length-marks (drop (length fs - p) fs), length-drop fs (length fs - p) (omega arith))
 
-pub degree_below : (fs : List Bool) (p d count : ℕ) → p < length fs → d ≡ count_erased (drop (length fs - p) fs) → count ≡ count_erased fs
+pub degree_below : (fs : List Bool) (p d count : ℕ) → p < length fs → d ≡ count_erased (drop (length fs - p) fs)
+    → count ≡ count_erased fs
     → get_or fs (length fs - 1 - p) false ≡ true → d + 1 ≤ count
 degree_below fs p d count h e f g = omega (arith, count_next fs p true h g, count_drop fs (length fs - (p + 1)))
 
@@ -129,8 +139,11 @@ degree_below fs p d count h e f g = omega (arith, count_next fs p true h g, coun
 pub cost_more : (a b i d : ℕ) → 2 * a ≡ 2 * i + d * (d + 1) → b ≡ a + (d + 1) → 2 * b ≡ 2 * i + (d + 1) * (d + 1 + 1)
 cost_more a b i d h l = grind arith
 
-pub product_as : (xs ys : List Gf) (d d' : ℕ) (u : List ℕ) → xs ≡ ys → d ≡ d' → IsProduct (entry ys) d' u → IsProduct (entry xs) d u
-product_as xs ys d d' u e f h = subst (λ (k : ℕ). IsProduct (entry xs) k u) (sym f) (subst (λ (zs : List Gf). IsProduct (entry zs) d' u) (sym e) h)
+pub product_as : (xs ys : List Gf) (d d' : ℕ) (u : List ℕ) → xs ≡ ys → d ≡ d' → IsProduct (entry ys) d' u
+    → IsProduct (entry xs) d u
+product_as xs ys d d' u e f h =
+    subst (λ (k : ℕ). IsProduct (entry xs) k u) (sym f)
+    (subst (λ (zs : List Gf). IsProduct (entry zs) d' u) (sym e) h)
 
 pub cost_as : (a b i d d' : ℕ) → a ≡ b → d ≡ d' → 2 * b ≡ 2 * i + d' * (d' + 1) → 2 * a ≡ 2 * i + d * (d + 1)
 cost_as a b i d d' e f h = rw (e, f) h

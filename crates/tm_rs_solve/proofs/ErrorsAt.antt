@@ -24,7 +24,8 @@ listing-all (y ∷ ys) = ap (λ (zs : List ℕ). y.0 ∷ zs) (listing-cons y ys 
 
 pub symbol_at-lt : (w : List ℕ) (p : ℕ) → AreElements w → symbol_at w p < 256
 symbol_at-lt [] p h = omega arith
-symbol_at-lt (c ∷ cs) p h = elim (eqb_tells (length cs) p) [ inl t ↦ rw t.0 h.0 | inr t ↦ rw t.0 (symbol_at-lt cs p h.1) ]
+symbol_at-lt (c ∷ cs) p h =
+    elim (eqb_tells (length cs) p) [ inl t ↦ rw t.0 h.0 | inr t ↦ rw t.0 (symbol_at-lt cs p h.1) ]
 
 -- where no place is named there are no symbols
 pub no_symbols : (u w : List ℕ) (p : ℕ) → length w ≡ length u → Covers u w → weight u ≡ 0 → symbol_at w p ≡ 0
@@ -40,24 +41,30 @@ no_symbols (u ∷ us) (w ∷ ws) p e z h =
       | inr y ↦ let h' = rw y.0 at h in absurd (omega arith)
     ]
 
-pub weight_of_locator : (e : ℕ) (s : ℕ → ℕ) (locator : List Gf) (u w : List ℕ) → IsLocated e s (numbers locator) u w → length locator ≡ suc (weight u)
+pub weight_of_locator : (e : ℕ) (s : ℕ → ℕ) (locator : List Gf) (u w : List ℕ) → IsLocated e s (numbers locator) u w
+    → length locator ≡ suc (weight u)
 weight_of_locator e s locator u w h = sym (length-numbers locator) ∙ ap length h.locator_is ∙ length-locator u
 
-pub error_is : (e : ℕ) (s : ℕ → ℕ) (locator : List Gf) (u w : List ℕ) (degree : ℕ) → ((k : ℕ) → k < length locator → entry locator k < 256)
+pub error_is : (e : ℕ) (s : ℕ → ℕ) (locator : List Gf) (u w : List ℕ) (degree : ℕ)
+    → ((k : ℕ) → k < length locator → entry locator k < 256)
     → length locator ≡ degree + 1 → degree ≢ 0 → IsLocated e s (numbers locator) u w → (p : ℕ) → p < 255
     → value_at (numbers locator) (place_of p) ≡ 0 → IsValue (entry locator) s e degree (place_of p) (symbol_at w p)
 error_is e s locator u w zero elements size ne h p inside z = absurd (ne refl)
 error_is e s locator u w (suc l) elements size ne h p inside z =
     let same : length locator ≡ suc (suc l) = omega arith in
-    let listed : numbers locator ≡ listing (entry locator) 0 (suc (suc l)) = sym (listing-all locator) ∙ ap (listing (entry locator) 0) same in
-    symbol_is e s u w (entry locator) (elements_of locator elements) l (omega (arith, weight_of_locator e s locator u w h))
-    (subst (λ (ls : List ℕ). IsLocated e s ls u w) listed h) p inside (subst (λ (ls : List ℕ). value_at ls (place_of p) ≡ 0) listed z)
+    let listed : numbers locator ≡ listing (entry locator) 0 (suc (suc l)) = sym (listing-all locator)
+    ∙ ap (listing (entry locator) 0) same in
+    symbol_is e s u w (entry locator) (elements_of locator elements) l
+    (omega (arith, weight_of_locator e s locator u w h))
+    (subst (λ (ls : List ℕ). IsLocated e s ls u w) listed h) p inside
+    (subst (λ (ls : List ℕ). value_at ls (place_of p) ≡ 0) listed z)
 
 pub scale_is : (p m x a b : ℕ) → a < 256 → a ≢ 0 → x ≡ power 2 (11 * p) → m ≡ power x b → times a m ≢ 0
 scale_is p m x a b l ne f g =
     let xl : x < 256 = subst (λ (y : ℕ). y < 256) (sym f) (power-lt 2 (11 * p)) in
     let xn : x ≢ 0 = λ z. power-nonzero 2 (11 * p) (omega arith) (omega arith) (sym f ∙ z) in
-    times-nonzero a m l (subst (λ (y : ℕ). y < 256) (sym g) (power-lt x b)) ne (λ z. power-nonzero x b xl xn (sym g ∙ z))
+    times-nonzero a m l (subst (λ (y : ℕ). y < 256) (sym g) (power-lt x b)) ne
+    (λ z. power-nonzero x b xl xn (sym g ∙ z))
 
 -- the quotient of the sum by the scale
 pub divided_out : (v sum scale i r : ℕ) → v < 256 → sum ≡ times v scale → times scale i ≡ 1 → r ≡ times sum i → r ≡ v

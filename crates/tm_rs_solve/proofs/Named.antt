@@ -20,24 +20,30 @@ use Rattle.tm_rs_locator.proofs.Endings.{listed}
 -- a polynomial times a factor for each place that is not erased and a root of g
 pub with_roots : List ℕ → List Bool → List ℕ → List ℕ
 with_roots g [] q = q
-with_roots g (f ∷ fs) q = cond (not f && eqb (value_at g (place_of (length fs))) 0) (times_linear (place_of (length fs)) (with_roots g fs q)) (with_roots g fs q)
+with_roots g (f ∷ fs) q =
+    cond (not f && eqb (value_at g (place_of (length fs))) 0)
+    (times_linear (place_of (length fs)) (with_roots g fs q)) (with_roots g fs q)
 
 -- the number of these
 pub roots : List ℕ → List Bool → ℕ
 roots g [] = 0
 roots g (f ∷ fs) = cond (not f && eqb (value_at g (place_of (length fs))) 0) 1 0 + roots g fs
 
-roots-swap : (x : ℕ) (g : List ℕ) (fs : List Bool) (q : List ℕ) → with_roots g fs (times_linear x q) ≡ times_linear x (with_roots g fs q)
+roots-swap : (x : ℕ) (g : List ℕ) (fs : List Bool) (q : List ℕ)
+    → with_roots g fs (times_linear x q) ≡ times_linear x (with_roots g fs q)
 unfolding with_roots
 roots-swap x g [] q = refl
-roots-swap x g (f ∷ fs) q = by_root (not f && eqb (value_at g (place_of (length fs))) 0) (place_of (length fs)) (roots-swap x g fs q)
+roots-swap x g (f ∷ fs) q =
+    by_root (not f && eqb (value_at g (place_of (length fs))) 0) (place_of (length fs)) (roots-swap x g fs q)
   where
     by_root : (b : Bool) (y : ℕ) → with_roots g fs (times_linear x q) ≡ times_linear x (with_roots g fs q)
-        → cond b (times_linear y (with_roots g fs (times_linear x q))) (with_roots g fs (times_linear x q)) ≡ times_linear x (cond b (times_linear y (with_roots g fs q)) (with_roots g fs q))
+        → cond b (times_linear y (with_roots g fs (times_linear x q))) (with_roots g fs (times_linear x q))
+        ≡ times_linear x (cond b (times_linear y (with_roots g fs q)) (with_roots g fs q))
     by_root true y h = ap (times_linear y) h ∙ linear-swap y x (with_roots g fs q)
     by_root false y h = h
 
-pub named-with : (g : List ℕ) (fs : List Bool) → locator_of (places_named g fs) ≡ with_roots g fs (locator_of (marks fs))
+pub named-with : (g : List ℕ) (fs : List Bool) → locator_of (places_named g fs)
+    ≡ with_roots g fs (locator_of (marks fs))
 unfolding with_roots
 named-with g [] = refl
 named-with g (true ∷ fs) =
@@ -48,8 +54,12 @@ named-with g (true ∷ fs) =
 named-with g (false ∷ fs) = by_root (eqb (value_at g (place_of (length fs))) 0) (named-with g fs)
   where
     by_root : (b : Bool) → locator_of (places_named g fs) ≡ with_roots g fs (locator_of (marks fs))
-        → locator_of (cond b 1 0 ∷ places_named g fs) ≡ cond b (times_linear (place_of (length fs)) (with_roots g fs (locator_of (marks fs)))) (with_roots g fs (locator_of (marks fs)))
-    by_root true h = ap (λ n. times_linear (place_of n) (locator_of (places_named g fs))) (length-places_named g fs) ∙ ap (times_linear (place_of (length fs))) h
+        → locator_of (cond b 1 0 ∷ places_named g fs) ≡ cond b
+        (times_linear (place_of (length fs)) (with_roots g fs (locator_of (marks fs))))
+        (with_roots g fs (locator_of (marks fs)))
+    by_root true h =
+        ap (λ n. times_linear (place_of n) (locator_of (places_named g fs))) (length-places_named g fs)
+        ∙ ap (times_linear (place_of (length fs))) h
     by_root false h = h
 
 pub weight-named : (g : List ℕ) (fs : List Bool) → weight (places_named g fs) ≡ count_erased fs + roots g fs
@@ -58,7 +68,8 @@ weight-named g [] = refl
 weight-named g (true ∷ fs) = omega (arith, weight-named g fs)
 weight-named g (false ∷ fs) = by_root (eqb (value_at g (place_of (length fs))) 0) (weight-named g fs)
   where
-    by_root : (b : Bool) → weight (places_named g fs) ≡ count_erased fs + roots g fs → cond (eqb (cond b 1 0) 0) 0 1 + weight (places_named g fs) ≡ 0 + count_erased fs + (cond b 1 0 + roots g fs)
+    by_root : (b : Bool) → weight (places_named g fs) ≡ count_erased fs + roots g fs
+        → cond (eqb (cond b 1 0) 0) 0 1 + weight (places_named g fs) ≡ 0 + count_erased fs + (cond b 1 0 + roots g fs)
     by_root true h = omega (arith, h)
     by_root false h = omega (arith, h)
 
@@ -66,28 +77,35 @@ weight-named g (false ∷ fs) = by_root (eqb (value_at g (place_of (length fs)))
 abbrev pub is_other : List ℕ → List Bool → ℕ → Bool
 is_other g fs p = not (get_or fs (length fs - 1 - p) false) && eqb (value_at g (place_of p)) 0
 
-after_next : (fs : List Bool) (p : ℕ) → p < length fs → drop (length fs - (p + 1)) fs ≡ get_or fs (length fs - 1 - p) false ∷ drop (length fs - p) fs
+after_next : (fs : List Bool) (p : ℕ) → p < length fs → drop (length fs - (p + 1)) fs
+    ≡ get_or fs (length fs - 1 - p) false ∷ drop (length fs - p) fs
 after_next fs p h =
     let at : length fs - (p + 1) ≡ length fs - 1 - p = omega arith in
     let after : suc (length fs - 1 - p) ≡ length fs - p = omega arith in
-    ap (λ (j : ℕ). drop j fs) at ∙ drop_step fs (length fs - 1 - p) (omega arith) ∙ ap (λ (j : ℕ). get_or fs (length fs - 1 - p) false ∷ drop j fs) after
+    ap (λ (j : ℕ). drop j fs) at ∙ drop_step fs (length fs - 1 - p) (omega arith)
+    ∙ ap (λ (j : ℕ). get_or fs (length fs - 1 - p) false ∷ drop j fs) after
 
-pub roots_next : (g : List ℕ) (fs : List Bool) (p : ℕ) (b : Bool) → p < length fs → is_other g fs p ≡ b → roots g (drop (length fs - (p + 1)) fs) ≡ cond b 1 0 + roots g (drop (length fs - p) fs)
+pub roots_next : (g : List ℕ) (fs : List Bool) (p : ℕ) (b : Bool) → p < length fs → is_other g fs p ≡ b
+    → roots g (drop (length fs - (p + 1)) fs) ≡ cond b 1 0 + roots g (drop (length fs - p) fs)
 unfolding roots
 roots_next g fs p b h e =
     let left : length (drop (length fs - p) fs) ≡ p = omega (arith, length-drop fs (length fs - p) (omega arith)) in
     ap (roots g) (after_next fs p h)
-    ∙ ap (λ (n : ℕ). cond (not (get_or fs (length fs - 1 - p) false) && eqb (value_at g (place_of n)) 0) 1 0 + roots g (drop (length fs - p) fs)) left
+    ∙ ap (λ (n : ℕ). cond (not (get_or fs (length fs - 1 - p) false) && eqb (value_at g (place_of n)) 0) 1 0 + roots g
+    (drop (length fs - p) fs)) left
     ∙ ap (λ (c : Bool). cond c 1 0 + roots g (drop (length fs - p) fs)) e
 
 pub with_next : (g : List ℕ) (fs : List Bool) (p : ℕ) (b : Bool) (q : List ℕ) → p < length fs → is_other g fs p ≡ b
-    → with_roots g (drop (length fs - (p + 1)) fs) q ≡ cond b (times_linear (place_of p) (with_roots g (drop (length fs - p) fs) q)) (with_roots g (drop (length fs - p) fs) q)
+    → with_roots g (drop (length fs - (p + 1)) fs) q ≡ cond b
+    (times_linear (place_of p) (with_roots g (drop (length fs - p) fs) q))
+    (with_roots g (drop (length fs - p) fs) q)
 unfolding with_roots
 with_next g fs p b q h e =
     let left : length (drop (length fs - p) fs) ≡ p = omega (arith, length-drop fs (length fs - p) (omega arith)) in
     let rest : List ℕ = with_roots g (drop (length fs - p) fs) q in
     ap (λ l. with_roots g l q) (after_next fs p h)
-    ∙ ap (λ (n : ℕ). cond (not (get_or fs (length fs - 1 - p) false) && eqb (value_at g (place_of n)) 0) (times_linear (place_of n) rest) rest) left
+    ∙ ap (λ (n : ℕ). cond (not (get_or fs (length fs - 1 - p) false) && eqb (value_at g (place_of n)) 0)
+    (times_linear (place_of n) rest) rest) left
     ∙ ap (λ (c : Bool). cond c (times_linear (place_of p) rest) rest) e
 
 roots_drop : (g : List ℕ) (fs : List Bool) (j : ℕ) → roots g (drop j fs) ≤ roots g fs
@@ -96,9 +114,11 @@ roots_drop g fs zero = omega arith
 roots_drop g [] (suc j) = omega arith
 roots_drop g (f ∷ fs) (suc j) = omega (arith, roots_drop g fs j)
 
-pub degree_other : (g : List ℕ) (fs : List Bool) (p d count : ℕ) → p < length fs → count ≡ count_erased fs → d ≡ count + roots g (drop (length fs - p) fs)
+pub degree_other : (g : List ℕ) (fs : List Bool) (p d count : ℕ) → p < length fs → count ≡ count_erased fs
+    → d ≡ count + roots g (drop (length fs - p) fs)
     → is_other g fs p ≡ true → d + 1 ≤ weight (places_named g fs)
-degree_other g fs p d count h c e is = omega (arith, c, e, weight-named g fs, roots_next g fs p true h is, roots_drop g fs (length fs - (p + 1)))
+degree_other g fs p d count h c e is =
+    omega (arith, c, e, weight-named g fs, roots_next g fs p true h is, roots_drop g fs (length fs - (p + 1)))
 
 pub no_roots : (g : List ℕ) (fs : List Bool) → roots g (drop (length fs - 0) fs) ≡ 0
 unfolding roots
@@ -111,7 +131,8 @@ with_none g fs q = ap (λ l. with_roots g l q) (none_dropped fs)
 -- ---- errors at erased places
 
 pub inside_step : (fs : List Bool) (ws : List ℕ) (j : ℕ) → j < length fs → length ws ≡ length fs
-    → weight (inside (drop j fs) (drop j ws)) ≡ cond (eqb (cond (get_or fs j false) (get_or ws j 0) 0) 0) 0 1 + weight (inside (drop (suc j) fs) (drop (suc j) ws))
+    → weight (inside (drop j fs) (drop j ws)) ≡ cond (eqb (cond (get_or fs j false) (get_or ws j 0) 0) 0) 0 1 + weight
+    (inside (drop (suc j) fs) (drop (suc j) ws))
 inside_step [] ws j h e = absurd (omega arith)
 inside_step (f ∷ fs) [] j h e = absurd (omega arith)
 inside_step (f ∷ fs) (w ∷ ws) zero h e = refl
@@ -125,7 +146,14 @@ inside_next fs ws j r a t h e is sum =
     ap (λ (n : ℕ). symbol_at ws (n - 1 - j)) (sym e) ∙ symbol-index ws j (omega arith) in
     let one : r ≡ cond (eqb (cond (get_or fs j false) (get_or ws j 0) 0) 0) 0 1 =
     is ∙ ap (λ (y : ℕ). cond (eqb (cond (get_or fs j false) y 0) 0) 0 1) same in
-    omega (arith, one, sum, inside_step fs ws j h e, ap (λ (k : ℕ). weight (inside (drop k fs) (drop k ws))) (add-one j))
+    omega (
+      arith,
+      one,
+      sum,
+      inside_step fs ws j h e,
+      ap (λ (k : ℕ). weight (inside (drop k fs) (drop k ws)))
+          (add-one j),
+    )
 
 pub one_at_most : (r x : ℕ) → r ≡ cond (eqb x 0) 0 1 → r ≤ 1
 one_at_most r x e = go (eqb x 0) e
@@ -136,30 +164,37 @@ one_at_most r x e = go (eqb x 0) e
 
 -- ---- the pattern
 
-pub located_for : (e e' : ℕ) (fs : List Bool) (s : ℕ → ℕ) (g : List ℕ) (coefs : List Gf) (degree : ℕ) (w : List ℕ) → length fs ≤ 255 → IsErasedPattern e fs s w
-    → g ≡ locator_of (outside fs w) → e' ≡ e → degree < length coefs → listing (entry coefs) 0 (suc degree) ≡ locator_of (places_named g fs)
+pub located_for : (e e' : ℕ) (fs : List Bool) (s : ℕ → ℕ) (g : List ℕ) (coefs : List Gf) (degree : ℕ) (w : List ℕ)
+    → length fs ≤ 255 → IsErasedPattern e fs s w
+    → g ≡ locator_of (outside fs w) → e' ≡ e → degree < length coefs
+    → listing (entry coefs) 0 (suc degree) ≡ locator_of (places_named g fs)
     → IsLocated e' s (numbers (take (degree + 1) coefs)) (places_named g fs) w
 located_for e e' fs s g coefs degree w short p is same inside_ full =
     subst (λ (k : ℕ). IsLocated k s (numbers (take (degree + 1) coefs)) (places_named g fs) w) (sym same)
-    (subst (λ (ls : List ℕ). IsLocated e s ls (places_named g fs) w) (sym full ∙ listed coefs degree inside_) (located_erased e fs s g w short p is))
+    (subst (λ (ls : List ℕ). IsLocated e s ls (places_named g fs) w) (sym full ∙ listed coefs degree inside_)
+    (located_erased e fs s g w short p is))
 
-pub named_few : (e : ℕ) (fs : List Bool) (s : ℕ → ℕ) (g : List ℕ) (w : List ℕ) → length fs ≤ 255 → IsErasedPattern e fs s w
+pub named_few : (e : ℕ) (fs : List Bool) (s : ℕ → ℕ) (g : List ℕ) (w : List ℕ) → length fs ≤ 255
+    → IsErasedPattern e fs s w
     → g ≡ locator_of (outside fs w) → weight (places_named g fs) ≤ 2 * e
 named_few e fs s g w short p is = located_few (located_erased e fs s g w short p is)
   where
-    located_few : IsLocated e s (locator_of (places_named g fs)) (places_named g fs) w → weight (places_named g fs) ≤ 2 * e
+    located_few : IsLocated e s (locator_of (places_named g fs)) (places_named g fs) w
+        → weight (places_named g fs) ≤ 2 * e
     located_few h = h.few
 
 -- ---- how many steps
 
-pub cost_more : (a b i k d : ℕ) → 2 * a + k ≡ 2 * i + d * (d + 1) → b ≡ a + (d + 1) → 2 * b + k ≡ 2 * i + (d + 1) * (d + 1 + 1)
+pub cost_more : (a b i k d : ℕ) → 2 * a + k ≡ 2 * i + d * (d + 1) → b ≡ a + (d + 1)
+    → 2 * b + k ≡ 2 * i + (d + 1) * (d + 1 + 1)
 cost_more a b i k d h l = grind arith
 
 pub cost_as : (a b i k d d' : ℕ) → a ≡ b → d ≡ d' → 2 * b + k ≡ 2 * i + d' * (d' + 1) → 2 * a + k ≡ 2 * i + d * (d + 1)
 cost_as a b i k d d' e f h = rw (e, f) h
 
 -- with so many products for s erased places, and for the locator of d places from theirs, all at most t
-most : (t s d a b c : ℕ) → s ≤ t → d ≤ t → b ≤ a + (s * (s + 1) + (t - s) * (t + 4)) → 2 * c + s * (s + 1) ≡ 2 * b + d * (d + 1)
+most : (t s d a b c : ℕ) → s ≤ t → d ≤ t → b ≤ a + (s * (s + 1) + (t - s) * (t + 4))
+    → 2 * c + s * (s + 1) ≡ 2 * b + d * (d + 1)
     → 2 * c ≤ 2 * a + (2 * (t * (t + 1)) + 2 * (t * (t + 4)) + t * (t + 1))
 most t s d a b c few places before whole =
     let erased : s * (s + 1) ≤ t * (t + 1) = mul-le-mul few (omega (arith, few)) in
@@ -167,7 +202,8 @@ most t s d a b c few places before whole =
     let all : d * (d + 1) ≤ t * (t + 1) = mul-le-mul places (omega (arith, places)) in
     omega (arith, erased, left, all, before, whole)
 
-pub most_steps : (e s d a b c : ℕ) → IsStrength e → s ≤ 2 * e → d ≤ 2 * e → b ≤ a + (s * (s + 1) + (2 * e - s) * (2 * e + 4)) → 2 * c + s * (s + 1) ≡ 2 * b + d * (d + 1)
+pub most_steps : (e s d a b c : ℕ) → IsStrength e → s ≤ 2 * e → d ≤ 2 * e
+    → b ≤ a + (s * (s + 1) + (2 * e - s) * (2 * e + 4)) → 2 * c + s * (s + 1) ≡ 2 * b + d * (d + 1)
     → c ≤ a + (2 * e * (4 * e + 3) + 8 * e * e)
 most_steps e s d a b c strength few places before whole = elim strength [
   | inl is ↦ at 16 is (λ h. omega (arith, h))
@@ -175,7 +211,8 @@ most_steps e s d a b c strength few places before whole = elim strength [
 ]
   where
     at : (n : ℕ) → e ≡ n
-        → (2 * c ≤ 2 * a + (2 * (2 * n * (2 * n + 1)) + 2 * (2 * n * (2 * n + 4)) + 2 * n * (2 * n + 1)) → c ≤ a + (2 * n * (4 * n + 3) + 8 * n * n))
+        → (2 * c ≤ 2 * a + (2 * (2 * n * (2 * n + 1)) + 2 * (2 * n * (2 * n + 4)) + 2 * n * (2 * n + 1))
+        → c ≤ a + (2 * n * (4 * n + 3) + 8 * n * n))
         → c ≤ a + (2 * e * (4 * e + 3) + 8 * e * e)
     at n is enough =
         subst (λ m. c ≤ a + (2 * m * (4 * m + 3) + 8 * m * m)) (sym is)
@@ -183,4 +220,5 @@ most_steps e s d a b c strength few places before whole = elim strength [
         (subst (λ m. b ≤ a + (s * (s + 1) + (2 * m - s) * (2 * m + 4))) is before) whole))
 
 pub least_steps : (s d b c m : ℕ) → s ≤ d → 2 * c + s * (s + 1) ≡ 2 * b + d * (d + 1) → m ≤ 2 * b → m ≤ 2 * c
-least_steps s d b c m some whole before = let more : s * (s + 1) ≤ d * (d + 1) = mul-le-mul some (omega (arith, some)) in omega (arith, more, whole, before)
+least_steps s d b c m some whole before =
+    let more : s * (s + 1) ≤ d * (d + 1) = mul-le-mul some (omega (arith, some)) in omega (arith, more, whole, before)

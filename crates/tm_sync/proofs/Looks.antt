@@ -18,43 +18,53 @@ use Rattle.tm_sync.proofs.Recent.{word-last}
 
 -- ---- the word that ends so many bits before the last
 -- the last 32 bits
-pub word-now : (s : Searching) (room : List ℕ) (bits : List Bool) (from back : ℕ) → Recalls s room bits from → back ≡ 0 → from + 32 + back ≤ length bits
+pub word-now : (s : Searching) (room : List ℕ) (bits : List Bool) (from back : ℕ) → Recalls s room bits from
+    → back ≡ 0 → from + 32 + back ≤ length bits
     → s.word ≡ number_of (take 32 (drop (length bits - (32 + back)) bits))
 word-now s room bits from back r none there =
     let left = length-drop (length bits - 32) bits in
     let at : length bits - 32 ≡ length bits - (32 + back) = omega arith in
-    word-last s.word bits (omega arith) r.word ∙ ap number_of (sym (take_all 32 (drop (length bits - 32) bits) (omega arith)))
+    word-last s.word bits (omega arith) r.word ∙ ap number_of
+    (sym (take_all 32 (drop (length bits - 32) bits) (omega arith)))
     ∙ ap (λ n. number_of (take 32 (drop n bits))) at
 
 -- where the room is empty no bits are looked back
-pub word-empty : (s : Searching) (room : List ℕ) (bits : List Bool) (from back : ℕ) → Recalls s room bits from → length room ≡ 0
+pub word-empty : (s : Searching) (room : List ℕ) (bits : List Bool) (from back : ℕ) → Recalls s room bits from
+    → length room ≡ 0
     → (back ≡ 0) ⊎ ((32 ≤ back) × (back ≤ verify_bits s.rules)) → back ≡ 0
 word-empty s room bits from back r empty (inl none) = none
 word-empty s room bits from back r empty (inr (long, few)) = let size = r.sized in absurd (omega arith)
 
 -- one bit more is read from the room
-pub word-more : (s : Searching) (room : List ℕ) (bits : List Bool) (from back k at word : ℕ) → Recalls s room bits from → 32 ≤ back → back ≤ verify_bits s.rules → from + 32 + back ≤ length bits
+pub word-more : (s : Searching) (room : List ℕ) (bits : List Bool) (from back k at word : ℕ)
+    → Recalls s room bits from → 32 ≤ back → back ≤ verify_bits s.rules → from + 32 + back ≤ length bits
     → k < 32 → at ≡ (length bits - (32 + back) + k) % length room
     → word ≡ value_from 0 (take k (drop (length bits - (32 + back)) bits)) % 2 ^ 32
-    → bit_or (word * 2 % 2 ^ 32) (get_or room at 0) ≡ value_from 0 (take (k + 1) (drop (length bits - (32 + back)) bits)) % 2 ^ 32
+    → bit_or (word * 2 % 2 ^ 32) (get_or room at 0) ≡ value_from 0
+    (take (k + 1) (drop (length bits - (32 + back)) bits)) % 2 ^ 32
 word-more s room bits from back k at word r long few there below at_is is =
     let n : ℕ = length bits - (32 + back) in
     let size = r.sized in
     let left = length-drop n bits in
     let b : Bool = get_or bits (n + k) false in
     let held : get_or room at 0 ≡ bool_byte b =
-    ap (λ j. get_or room j 0) at_is ∙ r.recent (n + k) (omega arith) (omega arith) (omega arith) ∙ sym (byte-number b) in
+    ap (λ j. get_or room j 0) at_is ∙ r.recent (n + k) (omega arith) (omega arith) (omega arith)
+    ∙ sym (byte-number b) in
     let next : take (k + 1) (drop n bits) ≡ take k (drop n bits) ++ b ∷ [] =
-    take_more (drop n bits) k false (omega arith) ∙ ap (λ (x : Bool). take k (drop n bits) ++ x ∷ []) (get_or-drop n bits k false) in
-    ap (bit_or (word * 2 % 2 ^ 32)) held ∙ word-push word b (take k (drop n bits)) is ∙ ap (λ l. value_from 0 l % 2 ^ 32) (sym next)
+    take_more (drop n bits) k false (omega arith) ∙ ap (λ (x : Bool). take k (drop n bits) ++ x ∷ [])
+    (get_or-drop n bits k false) in
+    ap (bit_or (word * 2 % 2 ^ 32)) held ∙ word-push word b (take k (drop n bits)) is
+    ∙ ap (λ l. value_from 0 l % 2 ^ 32) (sym next)
 
 -- and so 32 are
-pub word-whole : (word k : ℕ) (l : List Bool) → 32 ≤ k → k ≤ 32 → 32 ≤ length l → word ≡ value_from 0 (take k l) % 2 ^ 32 → word ≡ number_of (take 32 l)
+pub word-whole : (word k : ℕ) (l : List Bool) → 32 ≤ k → k ≤ 32 → 32 ≤ length l
+    → word ≡ value_from 0 (take k l) % 2 ^ 32 → word ≡ number_of (take 32 l)
 word-whole word k l enough most long is =
     let all : k ≡ 32 = omega arith in
     let size : length (take 32 l) ≡ 32 = length-take-le 32 l long in
     let p : 2 ^ length (take 32 l) ≡ 4294967296 = ap (λ n. 2 ^ n) size in
-    let small : value_from 0 (take 32 l) < 4294967296 = subst (λ n. value_from 0 (take 32 l) < n) p (value-lt (take 32 l)) in
+    let small : value_from 0 (take 32 l) < 4294967296 = subst (λ n. value_from 0 (take 32 l) < n) p
+    (value-lt (take 32 l)) in
     let here : word ≡ value_from 0 (take 32 l) % 2 ^ 32 = is ∙ ap (λ n. value_from 0 (take n l) % 2 ^ 32) all in
     let same : word ≡ value_from 0 (take 32 l) = omega arith in
     same ∙ sym (number-value (take 32 l))
@@ -63,19 +73,24 @@ pub zero-from-test : (n : ℕ) → (n == 0) ≡ true → n ≡ 0
 zero-from-test n test = grind (arith, nat_tests)
 
 -- how far back so many codeblocks with their markers are
-pub none-or : (count size most : ℕ) → count * (32 + size) ≤ most → (count * (32 + size) ≡ 0) ⊎ ((32 ≤ count * (32 + size)) × (count * (32 + size) ≤ most))
+pub none-or : (count size most : ℕ) → count * (32 + size) ≤ most → (count * (32 + size) ≡ 0)
+    ⊎ ((32 ≤ count * (32 + size)) × (count * (32 + size) ≤ most))
 none-or zero size most few = inl (omega arith)
 none-or (suc count) size most few = inr (omega arith, few)
 
 pub back-or : (left size most : ℕ) → 0 < left → left * (32 + size) ≤ most
-    → (((left - 1) * (32 + size) ≡ 0) ⊎ ((32 ≤ (left - 1) * (32 + size)) × ((left - 1) * (32 + size) ≤ most))) × ((left - 1) * (32 + size) ≤ most)
+    → (((left - 1) * (32 + size) ≡ 0) ⊎ ((32 ≤ (left - 1) * (32 + size)) × ((left - 1) * (32 + size) ≤ most)))
+    × ((left - 1) * (32 + size) ≤ most)
 back-or zero size most any few = absurd (omega arith)
 back-or (suc left) size most any few =
     let one : suc left - 1 ≡ left = omega arith in
-    subst (λ (n : ℕ). ((n * (32 + size) ≡ 0) ⊎ ((32 ≤ n * (32 + size)) × (n * (32 + size) ≤ most))) × (n * (32 + size) ≤ most)) (sym one) (none-or left size most (omega arith), omega arith)
+    subst (λ (n : ℕ). ((n * (32 + size) ≡ 0) ⊎ ((32 ≤ n * (32 + size)) × (n * (32 + size) ≤ most)))
+    × (n * (32 + size) ≤ most)) (sym one) (none-or left size most (omega arith), omega arith)
 
 pub lag-or : (rules : Rules) (lag : ℕ) → lag ≡ verify_bits rules → (lag ≡ 0) ⊎ ((32 ≤ lag) × (lag ≤ verify_bits rules))
-lag-or rules lag is = subst (λ (n : ℕ). (n ≡ 0) ⊎ ((32 ≤ n) × (n ≤ verify_bits rules))) (sym is) (none-or rules.verify rules.block_bits (verify_bits rules) (omega arith))
+lag-or rules lag is =
+    subst (λ (n : ℕ). (n ≡ 0) ⊎ ((32 ≤ n) × (n ≤ verify_bits rules))) (sym is)
+    (none-or rules.verify rules.block_bits (verify_bits rules) (omega arith))
 
 -- ---- whether further markers verify a place
 -- whether a match is in this polarity, as a test says
@@ -85,13 +100,16 @@ polarity-test true false c is = is
 polarity-test false true c is = is
 polarity-test false false c is = is
 
-pub match-word : (rules : Rules) (bits : List Bool) → 32 ≤ length bits → match_of rules (take 32 bits) ≡ match_of rules bits
+pub match-word : (rules : Rules) (bits : List Bool) → 32 ≤ length bits
+    → match_of rules (take 32 bits) ≡ match_of rules bits
 match-word rules bits long =
     let size : length (take 32 bits) ≡ 32 = length-take-le 32 bits long in
-    sym (ap (match_of rules) (sym (take-append-drop 32 bits)) ∙ match_of-append rules (take 32 bits) (drop 32 bits) (omega arith))
+    sym (ap (match_of rules) (sym (take-append-drop 32 bits))
+    ∙ match_of-append rules (take 32 bits) (drop 32 bits) (omega arith))
 
 -- the next of them is so many codeblocks with their markers nearer to the last 32 bits
-pub verified-step : (rules : Rules) (inverted : Bool) (left : ℕ) (bits : List Bool) → 0 < left → left * (32 + rules.block_bits) + 32 ≤ length bits
+pub verified-step : (rules : Rules) (inverted : Bool) (left : ℕ) (bits : List Bool) → 0 < left
+    → left * (32 + rules.block_bits) + 32 ≤ length bits
     → are_verified rules inverted left (drop (length bits - (32 + left * (32 + rules.block_bits))) bits)
     ≡ (matches_in (match_of rules (drop (length bits - (32 + (left - 1) * (32 + rules.block_bits))) bits)) inverted
     && are_verified rules inverted (left - 1) (drop (length bits - (32 + (left - 1) * (32 + rules.block_bits))) bits))
@@ -102,10 +120,12 @@ verified-step rules inverted (suc left) bits any room =
     let at : ℕ = length bits - (32 + suc left * u) in
     let size = length-drop at bits in
     let there : at + u ≡ length bits - (32 + left * u) = omega arith in
-    let next : drop u (drop at bits) ≡ drop (length bits - (32 + left * u)) bits = drop-drop u at bits ∙ ap (λ n. drop n bits) there in
+    let next : drop u (drop at bits) ≡ drop (length bits - (32 + left * u)) bits = drop-drop u at bits
+    ∙ ap (λ n. drop n bits) there in
     are_verified-more rules inverted left (drop at bits) (omega arith)
     ∙ (λ i. matches_in (match_of rules (next i)) inverted && are_verified rules inverted left (next i))
-    ∙ ap (λ (n : ℕ). matches_in (match_of rules (drop (length bits - (32 + n * u)) bits)) inverted && are_verified rules inverted n (drop (length bits - (32 + n * u)) bits)) one
+    ∙ ap (λ (n : ℕ). matches_in (match_of rules (drop (length bits - (32 + n * u)) bits)) inverted && are_verified
+    rules inverted n (drop (length bits - (32 + n * u)) bits)) one
 
 -- ---- the place that they verify
 -- a place that further markers verify, or none
@@ -117,7 +137,8 @@ pub kept-here : (rules : Rules) (at : ℕ) (bits : List Bool) (o : Option Awaite
     → o ≡ option_map (awaited_at None) (place_by rules at None (take 32 bits) (match_of rules (take 32 bits)))
     → kept rules bits o ≡ option_map (awaited_at None) (here rules at None bits)
 kept-here rules at bits o long is =
-    ap (kept rules bits) (is ∙ ap (option_map (awaited_at None)) (ap (place_by rules at None (take 32 bits)) (match-word rules bits long) ∙ same (match_of rules bits)))
+    ap (kept rules bits) (is ∙ ap (option_map (awaited_at None))
+    (ap (place_by rules at None (take 32 bits)) (match-word rules bits long) ∙ same (match_of rules bits)))
     ∙ go (match_of rules bits)
   where
     size : length (take 32 bits) ≡ 32
@@ -127,15 +148,20 @@ kept-here rules at bits o long is =
         → place_by rules at None (take 32 bits) polarity ≡ place_by rules at None bits polarity
     same polarity =
         let long = size in
-        sym (ap (λ l. place_by rules at None l polarity) (sym (take-append-drop 32 bits)) ∙ place_by-append rules at None (take 32 bits) (drop 32 bits) polarity (omega arith))
+        sym (ap (λ l. place_by rules at None l polarity) (sym (take-append-drop 32 bits))
+        ∙ place_by-append rules at None (take 32 bits) (drop 32 bits) polarity (omega arith))
 
-    choose : (inverted c : Bool) → cond c (Some (awaited_at None (found_at at false inverted bits))) None ≡ option_map (awaited_at None) (place_by rules at None bits (cond c (Some inverted) None))
+    choose : (inverted c : Bool) → cond c (Some (awaited_at None (found_at at false inverted bits))) None
+        ≡ option_map (awaited_at None) (place_by rules at None bits (cond c (Some inverted) None))
     choose inverted true = refl
     choose inverted false = refl
 
-    go : (polarity : Option Bool) → kept rules bits (option_map (awaited_at None) (place_by rules at None bits polarity)) ≡ option_map (awaited_at None) (place_by rules at None bits (verified rules bits polarity))
+    go : (polarity : Option Bool) → kept rules bits (option_map (awaited_at None)
+        (place_by rules at None bits polarity))
+        ≡ option_map (awaited_at None) (place_by rules at None bits (verified rules bits polarity))
     go None = refl
     go (Some inverted) = choose inverted (are_verified rules inverted rules.verify bits)
 
-pub kept-some : (rules : Rules) (bits : List Bool) (a : Awaited) (c : Bool) → are_verified rules a.found.inverted rules.verify bits ≡ c → kept rules bits (Some a) ≡ cond c (Some a) None
+pub kept-some : (rules : Rules) (bits : List Bool) (a : Awaited) (c : Bool)
+    → are_verified rules a.found.inverted rules.verify bits ≡ c → kept rules bits (Some a) ≡ cond c (Some a) None
 kept-some rules bits a c is = ap (λ (c : Bool). cond c (Some a) None) is

@@ -16,8 +16,11 @@ whole : (bits : List Bool) → length bits ≡ 32 → wrong_bits false bits ≡ 
 unfolding wrong_bits
 whole bits long = ap (λ l. differences l marker_bits) (take_all 32 bits (omega arith))
 
-pub wrong-upright : (word : ℕ) (bits : List Bool) → length bits ≡ 32 → word ≡ number_of bits → count_ones (bit_xor word 0x1ACFFC1D) ≡ wrong_bits false bits
-wrong-upright word bits long is = ap (λ w. count_ones (bit_xor w 0x1ACFFC1D)) (is ∙ number-value bits) ∙ ones-marker bits long ∙ sym (whole bits long)
+pub wrong-upright : (word : ℕ) (bits : List Bool) → length bits ≡ 32 → word ≡ number_of bits
+    → count_ones (bit_xor word 0x1ACFFC1D) ≡ wrong_bits false bits
+wrong-upright word bits long is =
+    ap (λ w. count_ones (bit_xor w 0x1ACFFC1D)) (is ∙ number-value bits) ∙ ones-marker bits long
+    ∙ sym (whole bits long)
 
 -- bits differ from others where they do not differ from the complement of these
 both : (xs ys : List Bool) → length xs ≡ length ys → differences xs ys + differences xs (complement ys) ≡ length xs
@@ -37,16 +40,20 @@ wrong-both bits long =
     let size = length-take-le 32 bits long in
     both (take 32 bits) marker_bits (size ∙ sym length-marker_bits) ∙ size
 
-pub wrong-inverted : (wrong : ℕ) (bits : List Bool) → length bits ≡ 32 → wrong ≡ wrong_bits false bits → 32 - wrong ≡ wrong_bits true bits
+pub wrong-inverted : (wrong : ℕ) (bits : List Bool) → length bits ≡ 32 → wrong ≡ wrong_bits false bits
+    → 32 - wrong ≡ wrong_bits true bits
 wrong-inverted wrong bits long is = let sum = wrong-both bits (omega arith) in omega arith
 
-pub match-upright : (rules : Rules) (bits : List Bool) (wrong : ℕ) → wrong ≡ wrong_bits false bits → wrong ≤ rules.tolerance → match_of rules bits ≡ Some false
+pub match-upright : (rules : Rules) (bits : List Bool) (wrong : ℕ) → wrong ≡ wrong_bits false bits
+    → wrong ≤ rules.tolerance → match_of rules bits ≡ Some false
 unfolding match_of
 match-upright rules bits wrong is near =
     let test : nat_le (wrong_bits false bits) rules.tolerance ≡ true = grind (arith, nat_tests) in
-    ap (λ c. cond c (Some false) (cond (rules.either && nat_le (wrong_bits true bits) rules.tolerance) (Some true) None)) test
+    ap (λ c. cond c (Some false) (cond (rules.either && nat_le (wrong_bits true bits) rules.tolerance)
+    (Some true) None)) test
 
-pub match-inverted : (rules : Rules) (bits : List Bool) (wrong other : ℕ) → wrong ≡ wrong_bits false bits → rules.tolerance < wrong → rules.either ≡ true
+pub match-inverted : (rules : Rules) (bits : List Bool) (wrong other : ℕ) → wrong ≡ wrong_bits false bits
+    → rules.tolerance < wrong → rules.either ≡ true
     → other ≡ wrong_bits true bits → other ≤ rules.tolerance → match_of rules bits ≡ Some true
 unfolding match_of
 match-inverted rules bits wrong other is far either also near =
@@ -55,13 +62,15 @@ match-inverted rules bits wrong other is far either also near =
     λ i. cond (test i) (Some false) (cond (either i && second i) (Some true) None)
 
 -- the bits match in no way
-pub match-given : (rules : Rules) (bits : List Bool) (wrong : ℕ) → wrong ≡ wrong_bits false bits → rules.tolerance < wrong → rules.either ≡ false → match_of rules bits ≡ None
+pub match-given : (rules : Rules) (bits : List Bool) (wrong : ℕ) → wrong ≡ wrong_bits false bits
+    → rules.tolerance < wrong → rules.either ≡ false → match_of rules bits ≡ None
 unfolding match_of
 match-given rules bits wrong is far given =
     let test : nat_le (wrong_bits false bits) rules.tolerance ≡ false = grind (arith, nat_tests) in
     λ i. cond (test i) (Some false) (cond (given i && nat_le (wrong_bits true bits) rules.tolerance) (Some true) None)
 
-pub match-none : (rules : Rules) (bits : List Bool) (wrong other : ℕ) → wrong ≡ wrong_bits false bits → rules.tolerance < wrong
+pub match-none : (rules : Rules) (bits : List Bool) (wrong other : ℕ) → wrong ≡ wrong_bits false bits
+    → rules.tolerance < wrong
     → other ≡ wrong_bits true bits → rules.tolerance < other → match_of rules bits ≡ None
 unfolding match_of
 match-none rules bits wrong other is far also away =
@@ -69,16 +78,20 @@ match-none rules bits wrong other is far also away =
     let second : nat_le (wrong_bits true bits) rules.tolerance ≡ false = grind (arith, nat_tests) in
     go rules.either test second
   where
-    go : (either : Bool) → nat_le (wrong_bits false bits) rules.tolerance ≡ false → nat_le (wrong_bits true bits) rules.tolerance ≡ false
-        → cond (nat_le (wrong_bits false bits) rules.tolerance) (Some false) (cond (either && nat_le (wrong_bits true bits) rules.tolerance) (Some true) None) ≡ None
+    go : (either : Bool) → nat_le (wrong_bits false bits) rules.tolerance ≡ false
+        → nat_le (wrong_bits true bits) rules.tolerance ≡ false
+        → cond (nat_le (wrong_bits false bits) rules.tolerance) (Some false)
+        (cond (either && nat_le (wrong_bits true bits) rules.tolerance) (Some true) None) ≡ None
     go true test second = λ i. cond (test i) (Some false) (cond (second i) (Some true) None)
     go false test second = λ i. cond (test i) (Some false) None
 
 -- bits that are far from the marker and from the inverted marker match in no way
-pub match-far : (rules : Rules) (bits : List Bool) (wrong : ℕ) → rules.tolerance ≤ 8 → length bits ≡ 32 → wrong ≡ wrong_bits false bits → rules.tolerance < wrong
+pub match-far : (rules : Rules) (bits : List Bool) (wrong : ℕ) → rules.tolerance ≤ 8 → length bits ≡ 32
+    → wrong ≡ wrong_bits false bits → rules.tolerance < wrong
     → wrong < rules.tolerance + 1 + far_count rules.tolerance rules.either → match_of rules bits ≡ None
 match-far rules bits wrong most long is far below = go rules.either refl below
   where
-    go : (either : Bool) → rules.either ≡ either → wrong < rules.tolerance + 1 + far_count rules.tolerance either → match_of rules bits ≡ None
+    go : (either : Bool) → rules.either ≡ either → wrong < rules.tolerance + 1 + far_count rules.tolerance either
+        → match_of rules bits ≡ None
     go true e below = match-none rules bits wrong (32 - wrong) is far (wrong-inverted wrong bits long is) (omega arith)
     go false e below = match-given rules bits wrong is far e

@@ -13,7 +13,8 @@ value_from high (b ∷ bits) = value_from (high * 2 + bit_number b) bits
 pub number-value : (bits : List Bool) → number_of bits ≡ value_from 0 bits
 number-value bits = go bits 0
   where
-    go : (bits : List Bool) (high : ℕ) → fold (λ number bit. number * 2 + bit_number bit) high bits ≡ value_from high bits
+    go : (bits : List Bool) (high : ℕ) → fold (λ number bit. number * 2 + bit_number bit) high bits
+        ≡ value_from high bits
     go [] high = refl
     go (b ∷ bits) high = go bits (high * 2 + bit_number b)
 
@@ -28,7 +29,8 @@ difference-ones true false = refl
 difference-ones false true = refl
 difference-ones false false = refl
 
-one_more : (a c : ℕ) (x y : Bool) → count_ones (bit_xor (a * 2 + bit_number x) (c * 2 + bit_number y)) ≡ count_ones (bit_xor a c) + difference x y
+one_more : (a c : ℕ) (x y : Bool) → count_ones (bit_xor (a * 2 + bit_number x) (c * 2 + bit_number y))
+    ≡ count_ones (bit_xor a c) + difference x y
 one_more a c x y =
     ap count_ones (xor_block 1 a c (bit_number x) (bit_number y) (bit_small x) (bit_small y))
     ∙ ones_cat 1 (bit_xor a c) (bit_xor (bit_number x) (bit_number y)) (small x y)
@@ -41,7 +43,8 @@ one_more a c x y =
     small false false = lit< tt
 
 -- the ones of the exclusive or are the places at which the bits differ
-pub ones-value : (xs ys : List Bool) (a c : ℕ) → length xs ≡ length ys → count_ones (bit_xor (value_from a xs) (value_from c ys)) ≡ count_ones (bit_xor a c) + differences xs ys
+pub ones-value : (xs ys : List Bool) (a c : ℕ) → length xs ≡ length ys
+    → count_ones (bit_xor (value_from a xs) (value_from c ys)) ≡ count_ones (bit_xor a c) + differences xs ys
 ones-value [] [] a c e = omega arith
 ones-value [] (y ∷ ys) a c e = absurd (omega arith)
 ones-value (x ∷ xs) [] a c e = absurd (omega arith)
@@ -84,11 +87,13 @@ value-lt (x ∷ xs) =
     within (suc (suc d)) p v one small = absurd (omega arith)
 
 -- the last 32 bits are the number's lowest ones
-pub value-last : (prefix last : List Bool) → length last ≡ 32 → value_from 0 (prefix ++ last) % 2 ^ 32 ≡ value_from 0 last
+pub value-last : (prefix last : List Bool) → length last ≡ 32
+    → value_from 0 (prefix ++ last) % 2 ^ 32 ≡ value_from 0 last
 value-last prefix last e =
     let v : ℕ = value_from 0 last in
     let a : ℕ = value_from 0 prefix in
-    let all : value_from 0 (prefix ++ last) ≡ a * 2 ^ length last + v = value-append prefix last 0 ∙ value-high last a in
+    let all : value_from 0 (prefix ++ last) ≡ a * 2 ^ length last + v = value-append prefix last 0
+    ∙ value-high last a in
     let p : 2 ^ length last ≡ 4294967296 = ap (λ n. 2 ^ n) e in
     let small : v < 2 ^ length last = value-lt last in
     rw (all, p) (omega arith)
@@ -98,9 +103,11 @@ unfolding lib.Count.ones
 no_ones = refl
 
 -- the bits in which 32 bits differ from the marker
-pub ones-marker : (bits : List Bool) → length bits ≡ 32 → count_ones (bit_xor (value_from 0 bits) 0x1ACFFC1D) ≡ differences bits marker_bits
+pub ones-marker : (bits : List Bool) → length bits ≡ 32 → count_ones (bit_xor (value_from 0 bits) 0x1ACFFC1D)
+    ≡ differences bits marker_bits
 unfolding low_bits
-ones-marker bits long = ones-value bits marker_bits 0 0 long ∙ ap (λ n. n + differences bits marker_bits) no_ones ∙ omega arith
+ones-marker bits long =
+    ones-value bits marker_bits 0 0 long ∙ ap (λ n. n + differences bits marker_bits) no_ones ∙ omega arith
 
 pub length-marker_bits : length marker_bits ≡ 32
 unfolding low_bits

@@ -21,10 +21,12 @@ slides w d small =
     let a : ℕ = w % 2147483648 in
     let even : w * 2 % 2 ^ 32 ≡ a * 2 ^ 1 + 0 = omega arith in
     let low : d ≡ 0 * 2 ^ 1 + d = omega arith in
-    let parts = (λ i. bit_or (even i) (low i)) ∙ or_block 1 a 0 0 d (lit< tt) small ∙ (λ i. or_zero_r a i * 2 ^ 1 + or_zero_l d i) in
+    let parts = (λ i. bit_or (even i) (low i)) ∙ or_block 1 a 0 0 d (lit< tt) small
+    ∙ (λ i. or_zero_r a i * 2 ^ 1 + or_zero_l d i) in
     parts ∙ ap (λ n. n + d) (omega arith)
 
-pub word-push : (w : ℕ) (b : Bool) (bits : List Bool) → w ≡ value_from 0 bits % 2 ^ 32 → bit_or (w * 2 % 2 ^ 32) (bool_byte b) ≡ value_from 0 (bits ++ b ∷ []) % 2 ^ 32
+pub word-push : (w : ℕ) (b : Bool) (bits : List Bool) → w ≡ value_from 0 bits % 2 ^ 32
+    → bit_or (w * 2 % 2 ^ 32) (bool_byte b) ≡ value_from 0 (bits ++ b ∷ []) % 2 ^ 32
 word-push w b bits e =
     let v : ℕ = value_from 0 bits in
     let d : ℕ = bit_number b in
@@ -39,17 +41,21 @@ slides-octet w x small =
     let a : ℕ = w % 16777216 in
     let even : w * 256 % 2 ^ 32 ≡ a * 2 ^ 8 + 0 = omega arith in
     let low : x ≡ 0 * 2 ^ 8 + x = omega arith in
-    let parts = (λ i. bit_or (even i) (low i)) ∙ or_block 8 a 0 0 x (lit< tt) small ∙ (λ i. or_zero_r a i * 2 ^ 8 + or_zero_l x i) in
+    let parts = (λ i. bit_or (even i) (low i)) ∙ or_block 8 a 0 0 x (lit< tt) small
+    ∙ (λ i. or_zero_r a i * 2 ^ 8 + or_zero_l x i) in
     parts ∙ ap (λ n. n + x) (omega arith)
 
-pub word-octet : (w x : ℕ) (bits : List Bool) → x < 256 → w ≡ number_of bits % 2 ^ 32 → bit_or (w * 256 % 2 ^ 32) x ≡ number_of (bits ++ bits_of_octet x) % 2 ^ 32
+pub word-octet : (w x : ℕ) (bits : List Bool) → x < 256 → w ≡ number_of bits % 2 ^ 32
+    → bit_or (w * 256 % 2 ^ 32) x ≡ number_of (bits ++ bits_of_octet x) % 2 ^ 32
 word-octet w x bits small e =
     let v : ℕ = number_of bits in
     let w_is : w ≡ v % 2 ^ 32 = e in
     let eight : value_from v (bits_of_octet x) ≡ v * 2 ^ 8 + x =
-    value-high (bits_of_octet x) v ∙ (λ i. v * 2 ^ length-low_bits 8 x i + (sym (number-value (bits_of_octet x)) ∙ number_of-octet x small) i) in
+    value-high (bits_of_octet x) v ∙ (λ i. v * 2 ^ length-low_bits 8 x i +
+    (sym (number-value (bits_of_octet x)) ∙ number_of-octet x small) i) in
     let longer : number_of (bits ++ bits_of_octet x) ≡ v * 2 ^ 8 + x =
-    number-value (bits ++ bits_of_octet x) ∙ value-append bits (bits_of_octet x) 0 ∙ ap (λ n. value_from n (bits_of_octet x)) (sym (number-value bits)) ∙ eight in
+    number-value (bits ++ bits_of_octet x) ∙ value-append bits (bits_of_octet x) 0
+    ∙ ap (λ n. value_from n (bits_of_octet x)) (sym (number-value bits)) ∙ eight in
     slides-octet w x small ∙ rw longer (omega arith)
 
 -- the word of the bits up to the last ones, so many, when one more of them is taken
@@ -82,7 +88,8 @@ word-window w x left some most small =
     go (suc (suc (suc (suc (suc (suc (suc (suc (suc n))))))))) some most = absurd (omega arith)
 
 -- the bits of one more octet
-pub bits-more : (bits : List Bool) (octets : List ℕ) (x : ℕ) → (bits ++ bits_of octets) ++ bits_of_octet x ≡ bits ++ bits_of (octets ++ x ∷ [])
+pub bits-more : (bits : List Bool) (octets : List ℕ) (x : ℕ)
+    → (bits ++ bits_of octets) ++ bits_of_octet x ≡ bits ++ bits_of (octets ++ x ∷ [])
 bits-more bits octets x =
     append_assoc bits (bits_of octets) (bits_of_octet x)
     ∙ ap (λ l. bits ++ (bits_of octets ++ l)) (sym (append-nil (bits_of_octet x)))
@@ -101,8 +108,12 @@ pub bits-bit : (prefix : List Bool) (left octet : ℕ) → 0 < left → bits_of_
 bits-bit prefix zero octet some parts = absurd (omega arith)
 bits-bit prefix (suc left) octet some parts =
     let one : suc left - 1 ≡ left = omega arith in
-    parts ∙ ap (λ l. prefix ++ l) (low_bits-first left octet) ∙ sym (append_assoc prefix (bit_of left octet ∷ []) (low_bits left octet))
+    parts ∙ ap (λ l. prefix ++ l) (low_bits-first left octet)
+    ∙ sym (append_assoc prefix (bit_of left octet ∷ []) (low_bits left octet))
     ∙ (λ i. (prefix ++ bit_of (sym one i) octet ∷ []) ++ low_bits (sym one i) octet)
 
-pub bits-all : (prefix : List Bool) (left octet : ℕ) → left ≡ 0 → bits_of_octet octet ≡ prefix ++ low_bits left octet → bits_of_octet octet ≡ prefix
-bits-all prefix left octet none parts = parts ∙ ap (λ n. prefix ++ low_bits n octet) none ∙ ap (λ l. prefix ++ l) (low_bits-zero octet) ∙ append-nil prefix
+pub bits-all : (prefix : List Bool) (left octet : ℕ) → left ≡ 0 → bits_of_octet octet ≡ prefix ++ low_bits left octet
+    → bits_of_octet octet ≡ prefix
+bits-all prefix left octet none parts =
+    parts ∙ ap (λ n. prefix ++ low_bits n octet) none ∙ ap (λ l. prefix ++ l) (low_bits-zero octet)
+    ∙ append-nil prefix

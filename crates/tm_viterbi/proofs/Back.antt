@@ -11,4 +11,6 @@ reverse_cons b past = reverse-append (b ∷ []) past
 
 pub register_after-reverse : (r : ℕ) (past : List ℕ) → register_after r (reverse past) ≡ register_back r past
 register_after-reverse r [] = refl
-register_after-reverse r (b ∷ past) = ap (register_after r) (reverse_cons b past) ∙ register_after-push r (reverse past) b ∙ ap (λ v. next_register v b) (register_after-reverse r past)
+register_after-reverse r (b ∷ past) =
+    ap (register_after r) (reverse_cons b past) ∙ register_after-push r (reverse past) b
+    ∙ ap (λ v. next_register v b) (register_after-reverse r past)

@@ -61,7 +61,8 @@ least_of first second one other f s = ap (λ v. min v other) (sym f) ∙ ap (λ 
 
 survivor_of : (first second one other : ℕ) → first ≡ one → second ≡ other
     → ◌≡◌ {A = ℕ} (cond (ltb other one) 1 0) (cond (ltb second first) 1 0)
-survivor_of first second one other f s = ap (λ v. cond (ltb v one) 1 0) (sym s) ∙ ap (λ v. cond (ltb second v) 1 0) (sym f)
+survivor_of first second one other f s =
+    ap (λ v. cond (ltb v one) 1 0) (sym s) ∙ ap (λ v. cond (ltb second v) 1 0) (sym f)
 
 pub IsNextSums-from_lanes : (sums metrics even odd near far low high : List ℕ) → AreLanes sums metrics even odd near far
     → IsEach low (λ i. min (get_or even i 0 + get_or near i 0) (get_or odd i 0 + get_or far i 0))

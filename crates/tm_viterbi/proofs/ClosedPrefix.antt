@@ -5,6 +5,8 @@ use Rattle.tm_viterbi.specs.WindowBlock.{WindowBlock}
 use Rattle.tm_viterbi.specs.Due.{AreFirst, first_place}
 use Rattle.tm_viterbi.proofs.Closing.{more_octets, Closed-append}
 
-pub first-longer : (s : Settings) (octets more : List ℕ) (first : List WindowBlock) → AreFirst s octets first → AreFirst s (octets ++ more) first
+pub first-longer : (s : Settings) (octets more : List ℕ) (first : List WindowBlock) → AreFirst s octets first
+    → AreFirst s (octets ++ more) first
 unfolding more_octets
-first-longer s octets more first h = (more_octets h.0 more, Closed-append s.rate s.invert s.keep s.ahead (first_place s octets) h.0 first more h.1)
+first-longer s octets more first h =
+    (more_octets h.0 more, Closed-append s.rate s.invert s.keep s.ahead (first_place s octets) h.0 first more h.1)

@@ -11,10 +11,16 @@ use Rattle.tm_viterbi.proofs.Closing.{Closed-append, more_octets}
 use Rattle.tm_conv.proofs.Sizes.{steps_size-le}
 
 further_closed : (s : Stream) (all whole piece : List ℕ) (done : List WindowBlock)
-    → Closed s.flow.window.rate s.flow.window.invert s.flow.window.keep s.flow.window.ahead (record { starts = first_start s.start; t = 0; octets = all }) done
+    → Closed s.flow.window.rate s.flow.window.invert s.flow.window.keep s.flow.window.ahead
+    (record { starts = first_start s.start; t = 0; octets = all }) done
     (record { starts = s.flow.window.starts; t = s.flow.window.t; octets = whole ++ (waiting_octets s.waiting ++ []) })
-    → Closed s.flow.window.rate s.flow.window.invert s.flow.window.keep s.flow.window.ahead (record { starts = first_start s.start; t = 0; octets = all ++ piece }) done
-    (record { starts = s.flow.window.starts; t = s.flow.window.t; octets = (whole ++ (waiting_octets s.waiting ++ [])) ++ piece })
+    → Closed s.flow.window.rate s.flow.window.invert s.flow.window.keep s.flow.window.ahead
+    (record { starts = first_start s.start; t = 0; octets = all ++ piece }) done
+    (record {
+      starts = s.flow.window.starts;
+      t = s.flow.window.t;
+      octets = (whole ++ (waiting_octets s.waiting ++ [])) ++ piece;
+    })
 unfolding more_octets
 further_closed s all whole piece done closed =
     let w = s.flow.window in
@@ -23,21 +29,27 @@ further_closed s all whole piece done closed =
     Closed-append w.rate w.invert w.keep w.ahead from to done piece closed
 
 -- a piece that follows is still to be taken
-pub Reaches-append : (s : Stream) (all piece : List ℕ) (done : List WindowBlock) → Reaches s all [] done → Reaches s (all ++ piece) piece done
+pub Reaches-append : (s : Stream) (all piece : List ℕ) (done : List WindowBlock) → Reaches s all [] done
+    → Reaches s (all ++ piece) piece done
 Reaches-append s all piece done r =
     let w = s.flow.window in
     let waiting = waiting_octets s.waiting in
     let place : List ℕ → Place = λ octets. record { starts = w.starts; t = w.t; octets = octets } in
-    let regrouped : (r.whole ++ (waiting ++ [])) ++ piece ≡ r.whole ++ (waiting ++ piece) = append_assoc r.whole (waiting ++ []) piece ∙ ap (λ (v : List ℕ). r.whole ++ v) (append_assoc waiting [] piece) in
+    let regrouped : (r.whole ++ (waiting ++ [])) ++ piece ≡ r.whole ++ (waiting ++ piece) =
+    append_assoc r.whole (waiting ++ []) piece
+    ∙ ap (λ (v : List ℕ). r.whole ++ v) (append_assoc waiting [] piece) in
     record {
       whole = r.whole;
       keeps = r.keeps;
-      closed = subst (λ (v : List ℕ). Closed w.rate w.invert w.keep w.ahead (record { starts = first_start s.start; t = 0; octets = all ++ piece }) done (place v)) regrouped
+      closed =
+          subst (λ (v : List ℕ). Closed w.rate w.invert w.keep w.ahead
+          (record { starts = first_start s.start; t = 0; octets = all ++ piece }) done (place v)) regrouped
           (further_closed s all r.whole piece done r.closed);
     }
 
 -- all windows but the last are closed
-pub AreDue-reached : (s : Stream) (all : List ℕ) (done : List WindowBlock) → Reaches s all [] done → IsOpenStep s → AreDue (settings_of s) all done
+pub AreDue-reached : (s : Stream) (all : List ℕ) (done : List WindowBlock) → Reaches s all [] done → IsOpenStep s
+    → AreDue (settings_of s) all done
 AreDue-reached s all done r less =
     let w = s.flow.window in
     let waiting = waiting_octets s.waiting in
@@ -59,5 +71,6 @@ AreDue-reached s all done r less =
 pub due_with : (s v : Settings) (all : List ℕ) (done : List WindowBlock) → s ≡ v → AreDue s all done → AreDue v all done
 due_with s v all done e due = subst (λ (u : Settings). AreDue u all done) e due
 
-pub first_with : (s v : Settings) (all : List ℕ) (done : List WindowBlock) → s ≡ v → AreFirst s all done → AreFirst v all done
+pub first_with : (s v : Settings) (all : List ℕ) (done : List WindowBlock) → s ≡ v → AreFirst s all done
+    → AreFirst v all done
 first_with s v all done e first = subst (λ (u : Settings). AreFirst u all done) e first

@@ -11,18 +11,26 @@ use Rattle.tm_conv.proofs.Sizes.{step_size_pos, steps_size-le}
 pub steps_le : (rate : Rate) (t a b : ℕ) → steps_size rate t a ≤ steps_size rate t b → a ≤ b
 steps_le rate t a b le = elim (cases_lt b a) as (λ _. a ≤ b) [
   | inr there ↦ there
-  | inl lt ↦ absurd (omega (arith, le, steps_size-more rate t b, step_size_pos rate (t + b), steps_size-le rate t (b + 1) a (omega arith)))
+  | inl lt ↦ absurd (omega (
+    arith,
+    le,
+    steps_size-more rate t b,
+    step_size_pos rate (t + b),
+    steps_size-le rate t (b + 1) a (omega arith),
+  ))
 ]
 
 -- where octets are left of whole steps, the next step is whole
-pub step_left : (rate : Rate) (t done n at size : ℕ) → size ≡ steps_size rate t n → at ≡ steps_size rate t done → at < size → step_size rate (t + done) ≤ size - at
+pub step_left : (rate : Rate) (t done n at size : ℕ) → size ≡ steps_size rate t n → at ≡ steps_size rate t done
+    → at < size → step_size rate (t + done) ≤ size - at
 step_left rate t done n at size is place less = elim (cases_lt done n) as (λ _. step_size rate (t + done) ≤ size - at) [
   | inl lt ↦ omega (arith, is, place, steps_size-more rate t done, steps_size-le rate t (done + 1) n (omega arith))
   | inr le ↦ absurd (omega (arith, is, place, less, steps_size-le rate t n done le))
 ]
 
 -- a piece after the octets before it
-pub prefix_and_piece : (at size : ℕ) (octets : List ℕ) → take at octets ++ take ((at + size) - at) (drop at octets) ≡ take (at + size) octets
+pub prefix_and_piece : (at size : ℕ) (octets : List ℕ) → take at octets ++ take ((at + size) - at) (drop at octets)
+    ≡ take (at + size) octets
 prefix_and_piece at size octets =
     let same : (at + size) - at ≡ size = omega arith in
     ap (λ (n : ℕ). take at octets ++ take n (drop at octets)) same ∙ sym (take-add at size octets)

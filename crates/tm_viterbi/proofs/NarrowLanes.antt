@@ -65,13 +65,15 @@ unset [] = refl
 unset (b ∷ ms) = unset_head b (mask_l (map not ms)) (mask_l ms) (2 ^ length ms) (unset ms) ∙ sym (pow-suc 2 (length ms))
 
 -- a bit of the number of those that are not set
-unset_bit : (ms : List Bool) (i : ℕ) → i < length ms → mask_l (map not ms) / 2 ^ i % 2 ≡ cond (not (get_or ms i false)) 1 0
+unset_bit : (ms : List Bool) (i : ℕ) → i < length ms → mask_l (map not ms) / 2 ^ i % 2
+    ≡ cond (not (get_or ms i false)) 1 0
 unset_bit ms i lt = bit_mask_l (map not ms) i ∙ ap (λ t. cond t 1 0) (get_or-map not ms i false false lt)
 
 same_bit : (least x y : ℕ) → least ≡ min x y → ◌≡◌ {A = ℕ} (cond (not (eqb least x)) 1 0) (cond (ltb y x) 1 0)
 same_bit least x y is = ap (λ v. cond (not (eqb v x)) 1 0) is ∙ same_by_less x y
 
-bit_of_unset : (ms : List Bool) (v i least x y : ℕ) → v ≡ mask_l (map not ms) → i < length ms → get_or ms i false ≡ eqb least x
+bit_of_unset : (ms : List Bool) (v i least x y : ℕ) → v ≡ mask_l (map not ms) → i < length ms
+    → get_or ms i false ≡ eqb least x
     → least ≡ min x y → v / 2 ^ i % 2 ≡ cond (ltb y x) 1 0
 bit_of_unset ms v i least x y is lt at each =
     ap (λ n. n / 2 ^ i % 2) is ∙ unset_bit ms i lt ∙ ap (λ t. cond (not t) 1 0) at ∙ same_bit least x y each
@@ -85,7 +87,8 @@ lesser_bit least xs ys ll lx i lt each =
     let whole : mask_l (map not ms) + mask_l ms + 1 ≡ 2 ^ 16 = unset ms ∙ ap (λ n. 2 ^ n) long in
     let is : 65535 - mask_l (same_mask least xs) % 2 ^ 64 ≡ mask_l (map not ms) =
     omega (arith, mask_bits least xs ll lx, whole) in
-    bit_of_unset ms (65535 - mask_l (same_mask least xs) % 2 ^ 64) i (get_or least i 0) (get_or xs i 0) (get_or ys i 0) is
+    bit_of_unset ms (65535 - mask_l (same_mask least xs) % 2 ^ 64) i (get_or least i 0) (get_or xs i 0)
+    (get_or ys i 0) is
     (omega (arith, long)) (get_or-zip2 eqb least xs i 0 0 false (omega arith) (omega arith)) each
 
 pub lesser_bits : (xs ys : List ℕ) → length xs ≡ 16 → length ys ≡ 16 → (i : ℕ) → i < 16

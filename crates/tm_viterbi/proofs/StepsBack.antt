@@ -133,7 +133,8 @@ past_cons c h next survivors is =
     (ap (λ v. (h % 64 / 32) ∷ past_of survivors v) (step_is c h))
 
 -- the bits that eight steps back find, by the numbers of the registers on the way
-past_eight : (a b c d e f g i h h1 h2 h3 h4 h5 h6 h7 n : ℕ) → h1 ≡ 2 * h + a / 2 ^ (h % 64) % 2 → h2 ≡ 2 * h1 + b / 2 ^ (h1 % 64) % 2
+past_eight : (a b c d e f g i h h1 h2 h3 h4 h5 h6 h7 n : ℕ) → h1 ≡ 2 * h + a / 2 ^ (h % 64) % 2
+    → h2 ≡ 2 * h1 + b / 2 ^ (h1 % 64) % 2
     → h3 ≡ 2 * h2 + c / 2 ^ (h2 % 64) % 2 → h4 ≡ 2 * h3 + d / 2 ^ (h3 % 64) % 2 → h5 ≡ 2 * h4 + e / 2 ^ (h4 % 64) % 2
     → h6 ≡ 2 * h5 + f / 2 ^ (h5 % 64) % 2 → h7 ≡ 2 * h6 + g / 2 ^ (h6 % 64) % 2 → n ≡ 2 * h7 + i / 2 ^ (h7 % 64) % 2
     → past_of (a ∷ b ∷ c ∷ d ∷ e ∷ f ∷ g ∷ i ∷ []) (h % 64)
@@ -152,11 +153,13 @@ past_eight a b c d e f g i h h1 h2 h3 h4 h5 h6 h7 n s1 s2 s3 s4 s5 s6 s7 s8 =
 found_eight : (bits : List ℕ) (n h h1 h2 h3 h4 h5 h6 h7 : ℕ)
     → bits ≡ (h % 64 / 32) ∷ (h1 % 64 / 32) ∷ (h2 % 64 / 32) ∷ (h3 % 64 / 32)
     ∷ (h4 % 64 / 32) ∷ (h5 % 64 / 32) ∷ (h6 % 64 / 32) ∷ (h7 % 64 / 32) ∷ []
-    → h % 64 / 32 ≡ n / 8192 % 2 → h1 % 64 / 32 ≡ n / 4096 % 2 → h2 % 64 / 32 ≡ n / 2048 % 2 → h3 % 64 / 32 ≡ n / 1024 % 2
+    → h % 64 / 32 ≡ n / 8192 % 2 → h1 % 64 / 32 ≡ n / 4096 % 2 → h2 % 64 / 32 ≡ n / 2048 % 2
+    → h3 % 64 / 32 ≡ n / 1024 % 2
     → h4 % 64 / 32 ≡ n / 512 % 2 → h5 % 64 / 32 ≡ n / 256 % 2 → h6 % 64 / 32 ≡ n / 128 % 2 → h7 % 64 / 32 ≡ n / 64 % 2
     → bits ≡ reverse (eight_bits (n / 64 % 256))
 found_eight bits n h h1 h2 h3 h4 h5 h6 h7 is e0 e1 e2 e3 e4 e5 e6 e7 =
-    is ∙ same_eight n (h % 64 / 32) (h1 % 64 / 32) (h2 % 64 / 32) (h3 % 64 / 32) (h4 % 64 / 32) (h5 % 64 / 32) (h6 % 64 / 32) (h7 % 64 / 32)
+    is ∙ same_eight n (h % 64 / 32) (h1 % 64 / 32) (h2 % 64 / 32) (h3 % 64 / 32) (h4 % 64 / 32) (h5 % 64 / 32)
+    (h6 % 64 / 32) (h7 % 64 / 32)
     e0 e1 e2 e3 e4 e5 e6 e7
 
 eight_past : (a b c d e f g i h : ℕ)
@@ -182,7 +185,8 @@ eight_past a b c d e f g i h =
     let e5 = at_size_8 n h5 (is_in (f ∷ g ∷ i ∷ []) h5) in
     let e6 = at_size_4 n h6 (is_in (g ∷ i ∷ []) h6) in
     let e7 = at_size_2 n h7 (is_in (i ∷ []) h7) in
-    found_eight (past_of (a ∷ b ∷ c ∷ d ∷ e ∷ f ∷ g ∷ i ∷ []) (h % 64)) n h h1 h2 h3 h4 h5 h6 h7 whole e0 e1 e2 e3 e4 e5 e6 e7
+    found_eight (past_of (a ∷ b ∷ c ∷ d ∷ e ∷ f ∷ g ∷ i ∷ []) (h % 64)) n h h1 h2 h3 h4 h5 h6 h7 whole e0 e1 e2 e3 e4
+    e5 e6 e7
 
 eight : (P : List ℕ → Type 0) (survivors : List ℕ) → length survivors ≡ 8
     → ((a b c d e f g h : ℕ) → P (a ∷ b ∷ c ∷ d ∷ e ∷ f ∷ g ∷ h ∷ [])) → P survivors
@@ -199,7 +203,8 @@ eight P (a ∷ b ∷ c ∷ d ∷ e ∷ f ∷ g ∷ h ∷ x ∷ xs) l k =
     absurd (let z : suc (suc (suc (suc (suc (suc (suc (suc (suc (length xs))))))))) ≡ 8 = l in omega arith)
 
 of_register : (survivors : List ℕ) (register : ℕ) → length survivors ≡ 8
-    → past_of (reverse survivors) (register % 64) ≡ reverse (eight_bits (history (reverse survivors) register / 64 % 256))
+    → past_of (reverse survivors) (register % 64) ≡ reverse
+    (eight_bits (history (reverse survivors) register / 64 % 256))
 of_register survivors register l =
     eight (λ v. past_of (reverse v) (register % 64) ≡ reverse (eight_bits (history (reverse v) register / 64 % 256)))
     survivors l (λ a b c d e f g h. eight_past h g f e d c b a register)

@@ -27,7 +27,8 @@ Grows-total_of rate invert t n firsts octets piece metrics long are = record {
       let here = path rate invert t q bits in
       let step = step_symbols rate invert (t + n) (register_after q bits) b in
       let p = path-push rate invert t (t + n) q bits b u in
-      let whole : cost (path rate invert t q (reverse (b ∷ past))) (octets ++ piece) ≡ cost here octets + cost step piece
+      let whole : cost (path rate invert t q (reverse (b ∷ past))) (octets ++ piece)
+      ≡ cost here octets + cost step piece
       = ap (λ v. cost (path rate invert t q v) (octets ++ piece)) (reverse_cons b past)
       ∙ ap (λ v. cost v (octets ++ piece)) p
       ∙ cost-append here octets step piece (length-path rate invert t q bits ∙ ap (steps_size rate t) lr ∙ sym long) in
@@ -44,9 +45,11 @@ unfolding value
 rank_is_value r [] lt = omega arith
 rank_is_value r (b ∷ past) lt =
     let l : length (past ++ register_bits r) ≡ length past + 6 = length-append past (register_bits r) in
-    ap (λ v. b * 2 ^ v + rank r past) (sym l) ∙ ap (λ v. b * 2 ^ length (past ++ register_bits r) + v) (rank_is_value r past lt)
+    ap (λ v. b * 2 ^ v + rank r past) (sym l) ∙ ap (λ v. b * 2 ^ length (past ++ register_bits r) + v)
+    (rank_is_value r past lt)
 
-pub IsLexLe-from_rank : (r q : ℕ) (past other : List ℕ) → r < 64 → q < 64 → All (λ b. b < 2) past → All (λ b. b < 2) other → length past ≡ length other
+pub IsLexLe-from_rank : (r q : ℕ) (past other : List ℕ) → r < 64 → q < 64 → All (λ b. b < 2) past
+    → All (λ b. b < 2) other → length past ≡ length other
     → rank r past ≤ rank q other → IsLexLe (past ++ register_bits r) (other ++ register_bits q)
 IsLexLe-from_rank r q past other rl ql a b l le =
     IsLexLe-from_value (past ++ register_bits r) (other ++ register_bits q)

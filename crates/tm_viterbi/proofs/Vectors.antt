@@ -7,12 +7,14 @@ use Rattle.std.proofs.lemmas.Bool.{eqb-true}
 use Rattle.std.proofs.lemmas.Simd.{tops_compared, length-zip2, length-sel_l, get_or-sel_l, get_or-zip2, mask_l-lt, mask_l-mod, bit_mask_l}
 use Rattle.tm_viterbi.specs.AddCompareSelect.{IsEach}
 
-pub Each2-from_get_or : (xs ys : List ℕ) → length xs ≡ length ys → ((i : ℕ) → i < length xs → Fits w32 (get_or xs i 0 + get_or ys i 0)) → Each2 (λ a b. Fits w32 (a + b)) xs ys
+pub Each2-from_get_or : (xs ys : List ℕ) → length xs ≡ length ys
+    → ((i : ℕ) → i < length xs → Fits w32 (get_or xs i 0 + get_or ys i 0)) → Each2 (λ a b. Fits w32 (a + b)) xs ys
 Each2-from_get_or [] ys l h = tt
 Each2-from_get_or (x ∷ xs) [] l h = tt
 Each2-from_get_or (x ∷ xs) (y ∷ ys) l h = (
   h 0 (let k : 0 < suc (length xs) = omega arith in k),
-  Each2-from_get_or xs ys (let k : suc (length xs) ≡ suc (length ys) = l in omega arith) (λ i lt. h (suc i) (let k : suc i < suc (length xs) = omega arith in k)),
+  Each2-from_get_or xs ys (let k : suc (length xs) ≡ suc (length ys) = l in omega arith)
+      (λ i lt. h (suc i) (let k : suc i < suc (length xs) = omega arith in k)),
 )
 
 abbrev pub below_mask : List ℕ → List ℕ → List Bool
@@ -24,23 +26,29 @@ mask_is xs ys = tops_compared w32 ltb xs ys
 min_by_test : (x y : ℕ) → cond (ltb y x) y x ≡ min x y
 min_by_test x y = grind (arith, nat_tests)
 
-pub lesser_sums : (xs ys : List ℕ) → length xs ≡ 32 → length ys ≡ 32 → IsEach (sel_l (below_mask ys xs) ys xs) (λ i. min (get_or xs i 0) (get_or ys i 0))
+pub lesser_sums : (xs ys : List ℕ) → length xs ≡ 32 → length ys ≡ 32
+    → IsEach (sel_l (below_mask ys xs) ys xs) (λ i. min (get_or xs i 0) (get_or ys i 0))
 lesser_sums xs ys lx ly =
     let is = ap (λ ms. sel_l ms ys xs) (mask_is ys xs) in
     let long = length-zip2 ltb ys xs (omega arith) in
     record {
       long = ap length is ∙ omega (arith, length-sel_l (zip2 ltb ys xs) ys xs (omega arith) (omega arith));
-      each = λ i lt. ap (λ l. get_or l i 0) is ∙ get_or-sel_l (zip2 ltb ys xs) ys xs i 0 (omega arith) (omega arith) (omega arith)
-          ∙ ap (λ t. cond t (get_or ys i 0) (get_or xs i 0)) (get_or-zip2 ltb ys xs i 0 0 false (omega arith) (omega arith))
+      each =
+          λ i lt. ap (λ l. get_or l i 0) is
+          ∙ get_or-sel_l (zip2 ltb ys xs) ys xs i 0 (omega arith) (omega arith) (omega arith)
+          ∙ ap (λ t. cond t (get_or ys i 0) (get_or xs i 0))
+          (get_or-zip2 ltb ys xs i 0 0 false (omega arith) (omega arith))
           ∙ min_by_test (get_or xs i 0) (get_or ys i 0);
     }
 
-mask_bits : (xs ys : List ℕ) → length xs ≡ 32 → length ys ≡ 32 → mask_l (below_mask ys xs) % 2 ^ 64 ≡ mask_l (zip2 ltb ys xs)
+mask_bits : (xs ys : List ℕ) → length xs ≡ 32 → length ys ≡ 32
+    → mask_l (below_mask ys xs) % 2 ^ 64 ≡ mask_l (zip2 ltb ys xs)
 mask_bits xs ys lx ly =
     let long = length-zip2 ltb ys xs (omega arith) in
     ap (λ ms. mask_l ms % 2 ^ 64) (mask_is ys xs) ∙ mask_l-mod (zip2 ltb ys xs) 64 (omega arith)
 
-pub lesser_bits : (xs ys : List ℕ) → length xs ≡ 32 → length ys ≡ 32 → (i : ℕ) → i < 32 → mask_l (below_mask ys xs) % 2 ^ 64 / 2 ^ i % 2 ≡ cond (ltb (get_or ys i 0) (get_or xs i 0)) 1 0
+pub lesser_bits : (xs ys : List ℕ) → length xs ≡ 32 → length ys ≡ 32 → (i : ℕ) → i < 32
+    → mask_l (below_mask ys xs) % 2 ^ 64 / 2 ^ i % 2 ≡ cond (ltb (get_or ys i 0) (get_or xs i 0)) 1 0
 lesser_bits xs ys lx ly i lt =
     ap (λ v. v / 2 ^ i % 2) (mask_bits xs ys lx ly) ∙ bit_mask_l (zip2 ltb ys xs) i
     ∙ ap (λ t. cond t 1 0) (get_or-zip2 ltb ys xs i 0 0 false (omega arith) (omega arith))
@@ -63,7 +71,8 @@ and_parts : (a b : Bool) → (a && b) ≡ true → (a ≡ true) × (b ≡ true)
 and_parts true b e = (refl, e)
 and_parts false b e = absurd cc
 
-pub follows_at : (f : ℕ → ℕ) (start : ℕ) (xs : List ℕ) (i : ℕ) → follows f start xs ≡ true → i < length xs → get_or xs i 0 ≡ f (start + i)
+pub follows_at : (f : ℕ → ℕ) (start : ℕ) (xs : List ℕ) (i : ℕ) → follows f start xs ≡ true → i < length xs
+    → get_or xs i 0 ≡ f (start + i)
 unfolding follows
 follows_at f start [] i e lt = absurd (let h : i < 0 = lt in omega arith)
 follows_at f start (x ∷ xs) zero e lt =

@@ -23,7 +23,8 @@ record HasTop (k p size : ℕ) : Type 0 where
   below : low < size
   is : k ≡ p * size + low
 
-top_halves : (b q m p low size : ℕ) → p ≡ 2 * q + m → b * (64 * size) + (p * size + low) ≡ (q + 32 * b) * (2 * size) + (m * size + low)
+top_halves : (b q m p low size : ℕ) → p ≡ 2 * q + m → b * (64 * size) + (p * size + low)
+    ≡ (q + 32 * b) * (2 * size) + (m * size + low)
 top_halves b q m p low size e = rw e (omega arith)
 
 low_fits : (m low size : ℕ) → m < 2 → low < size → m * size + low < 2 * size
@@ -47,7 +48,8 @@ size_six n = pow-add 2 n 6 ∙ omega arith
 has_top : (r : ℕ) (past : List ℕ) → HasTop (rank r past) (register_back r past) (2 ^ length past)
 has_top r [] = record { low = 0; below = omega arith; is = omega arith }
 has_top r (b ∷ past) =
-    rw (size_more (length past), size_six (length past)) (top_more (rank r past) (register_back r past) b (2 ^ length past) (has_top r past))
+    rw (size_more (length past), size_six (length past)) (top_more (rank r past) (register_back r past) b
+    (2 ^ length past) (has_top r past))
 
 tops_lt : (k l p q size : ℕ) → p < q → HasTop k p size → HasTop l q size → k < l
 tops_lt k l p q size lt a b =
@@ -55,7 +57,8 @@ tops_lt k l p q size lt a b =
     let more : suc p * size ≡ p * size + size = omega arith in
     omega (arith, h, more, a.is, a.below, b.is)
 
-pub rank_lt : (n p q r s : ℕ) (past other : List ℕ) → p < q → IsPathTo n p r past → IsPathTo n q s other → rank r past < rank s other
+pub rank_lt : (n p q r s : ℕ) (past other : List ℕ) → p < q → IsPathTo n p r past → IsPathTo n q s other
+    → rank r past < rank s other
 rank_lt n p q r s past other lt a b =
     let P = λ (v : ℕ). HasTop (rank r past) v (2 ^ length past) in
     tops_lt (rank r past) (rank s other) p q (2 ^ n) lt
@@ -70,14 +73,18 @@ record Extends (s p b : ℕ) : Type 0 where
 extends : (s p b : ℕ) → p < 64 → b < 2 → next_register p b ≡ s → Extends s p b
 extends s p b pl bl e = record {
   bit = omega arith;
-  register = elim (cases_lt (p % 2) 1) as (λ _. (p ≡ 2 * (s % 32)) ⊎ (p ≡ 2 * (s % 32) + 1)) [ inl h ↦ inl (omega arith) | inr h ↦ inr (omega arith) ];
+  register =
+      elim (cases_lt (p % 2) 1) as
+      (λ _. (p ≡ 2 * (s % 32)) ⊎ (p ≡ 2 * (s % 32) + 1)) [ inl h ↦ inl (omega arith) | inr h ↦ inr (omega arith) ];
 }
 
 -- how totals grow by one more step
 pub record Grows (total more : ℕ → List ℕ → ℕ) (n : ℕ) (edge : ℕ → ℕ → ℕ) : Type 0 where
-  pub is : (q : ℕ) (past : List ℕ) (b : ℕ) → length past ≡ n → more q (b ∷ past) ≡ total q past + edge (register_back q past) b
+  pub is : (q : ℕ) (past : List ℕ) (b : ℕ) → length past ≡ n
+      → more q (b ∷ past) ≡ total q past + edge (register_back q past) b
 
-pub path_prefix : (n s q b : ℕ) (other : List ℕ) → IsPathTo (n + 1) s q (b ∷ other) → IsPathTo n (register_back q other) q other
+pub path_prefix : (n s q b : ℕ) (other : List ℕ) → IsPathTo (n + 1) s q (b ∷ other)
+    → IsPathTo n (register_back q other) q other
 path_prefix n s q b other h = record {
   start = h.start;
   each = All-tail (λ b. b < 2) b other h.each;
@@ -85,7 +92,8 @@ path_prefix n s q b other h = record {
   ends = refl;
 }
 
-path_more : (n s p r : ℕ) (past : List ℕ) → s < 64 → IsPathTo n p r past → next_register p (s / 32) ≡ s → IsPathTo (n + 1) s r ((s / 32) ∷ past)
+path_more : (n s p r : ℕ) (past : List ℕ) → s < 64 → IsPathTo n p r past → next_register p (s / 32) ≡ s
+    → IsPathTo (n + 1) s r ((s / 32) ∷ past)
 path_more n s p r past lt h e = record {
   start = h.start;
   each = let small : s / 32 < 2 = omega arith in All-cons (λ b. b < 2) (s / 32) past small h.each;
@@ -96,18 +104,24 @@ path_more n s p r past lt h e = record {
 -- The chosen way x0 with rank k0 is no worse than any other path through either register before.
 rival : (total more : ℕ → List ℕ → ℕ) (n s : ℕ) (edge : ℕ → ℕ → ℕ) → s < 64 → Grows total more n edge
     → (sum r : ℕ) (past : List ℕ) → length past ≡ n
-    → ((p q : ℕ) (other : List ℕ) → (p ≡ 2 * (s % 32)) ⊎ (p ≡ 2 * (s % 32) + 1) → IsPathTo n p q other → IsNoWorse sum (rank r past) (total q other + edge p (s / 32)) (rank q other))
-    → (q : ℕ) (other : List ℕ) → IsPathTo (n + 1) s q other → IsNoWorse sum (rank r ((s / 32) ∷ past)) (more q other) (rank q other)
-rival total more n s edge lt grows sum r past long best q [] path = absurd (let h : 0 ≡ n + 1 = path.long in omega arith)
+    → ((p q : ℕ) (other : List ℕ) → (p ≡ 2 * (s % 32)) ⊎ (p ≡ 2 * (s % 32) + 1) → IsPathTo n p q other
+    → IsNoWorse sum (rank r past) (total q other + edge p (s / 32)) (rank q other))
+    → (q : ℕ) (other : List ℕ) → IsPathTo (n + 1) s q other
+    → IsNoWorse sum (rank r ((s / 32) ∷ past)) (more q other) (rank q other)
+rival total more n s edge lt grows sum r past long best q [] path =
+    absurd (let h : 0 ≡ n + 1 = path.long in omega arith)
 rival total more n s edge lt grows sum r past long best q (b ∷ other) path =
     let prefix = path_prefix n s q b other path in
     let p = register_back q other in
     let pl : p < 64 = register_back_lt q other path.start prefix.each in
     let bl : b < 2 = All-head (λ b. b < 2) b other path.each in
     let ex : Extends s p b = extends s p b pl bl path.ends in
-    let h : IsNoWorse sum (rank r past) (total q other + edge p (s / 32)) (rank q other) = best p q other ex.register prefix in
-    let g : more q (b ∷ other) ≡ total q other + edge p (s / 32) = grows.is q other b prefix.long ∙ ap (λ v. total q other + edge p v) ex.bit in
-    let size : b * 2 ^ (length other + 6) ≡ s / 32 * 2 ^ (length past + 6) = ap (λ v. v * 2 ^ (length other + 6)) ex.bit ∙ ap (λ v. s / 32 * 2 ^ (v + 6)) (prefix.long ∙ sym long) in
+    let h : IsNoWorse sum (rank r past) (total q other + edge p (s / 32)) (rank q other) =
+    best p q other ex.register prefix in
+    let g : more q (b ∷ other) ≡ total q other + edge p (s / 32) = grows.is q other b prefix.long
+    ∙ ap (λ v. total q other + edge p v) ex.bit in
+    let size : b * 2 ^ (length other + 6) ≡ s / 32 * 2 ^ (length past + 6) =
+    ap (λ v. v * 2 ^ (length other + 6)) ex.bit ∙ ap (λ v. s / 32 * 2 ^ (v + 6)) (prefix.long ∙ sym long) in
     record {
       least = omega (arith, h.least, g);
       first = λ le. let k : rank r past ≤ rank q other = h.first (omega (arith, g, le)) in omega (arith, k, size);
@@ -122,7 +136,8 @@ first_best total more n s edge lt grows x y r q past other a b le =
     let p0 = 2 * (s % 32) in
     let p1 = 2 * (s % 32) + 1 in
     let d = s / 32 in
-    let compare : (p v : ℕ) (rest : List ℕ) → (p ≡ p0) ⊎ (p ≡ p1) → IsPathTo n p v rest → IsNoWorse (x + edge p0 d) (rank r past) (total v rest + edge p d) (rank v rest)
+    let compare : (p v : ℕ) (rest : List ℕ) → (p ≡ p0) ⊎ (p ≡ p1) → IsPathTo n p v rest
+    → IsNoWorse (x + edge p0 d) (rank r past) (total v rest + edge p d) (rank v rest)
     = λ p v rest cases path. elim cases [
       | inl e ↦ (let P : ℕ → Type 0 = λ w. IsPathTo n w v rest in
           let h : IsNoWorse x (rank r past) (total v rest) (rank v rest) = a.best v rest (subst P e path) in
@@ -132,11 +147,17 @@ first_best total more n s edge lt grows x y r q past other a b le =
           let path1 : IsPathTo n p1 v rest = subst P e path in
           let h : IsNoWorse y (rank q other) (total v rest) (rank v rest) = b.best v rest path1 in
           let f : edge p d ≡ edge p1 d = ap (λ w. edge w d) e in
-          record { least = omega (arith, h.least, f, le); first = λ l. let k : rank r past < rank v rest = rank_lt n p0 p1 r v past rest (omega arith) a.is_path path1 in omega (arith, k) })
+          record {
+            least = omega (arith, h.least, f, le);
+            first = λ l. let k : rank r past
+                < rank v rest = rank_lt n p0 p1 r v past rest (omega arith) a.is_path path1 in omega (arith, k);
+          })
     ] in
     record {
       is_path = path_more n s p0 r past lt a.is_path (omega arith);
-      is_sum = grows.is r past d a.is_path.long ∙ ap (λ v. v + edge (register_back r past) d) a.is_sum ∙ ap (λ v. x + edge v d) a.is_path.ends;
+      is_sum =
+          grows.is r past d a.is_path.long ∙ ap (λ v. v + edge (register_back r past) d) a.is_sum
+          ∙ ap (λ v. x + edge v d) a.is_path.ends;
       best = rival total more n s edge lt grows (x + edge p0 d) r past a.is_path.long compare;
     }
 
@@ -149,7 +170,8 @@ second_best total more n s edge lt grows x y r q past other a b less =
     let p0 = 2 * (s % 32) in
     let p1 = 2 * (s % 32) + 1 in
     let d = s / 32 in
-    let compare : (p v : ℕ) (rest : List ℕ) → (p ≡ p0) ⊎ (p ≡ p1) → IsPathTo n p v rest → IsNoWorse (y + edge p1 d) (rank q other) (total v rest + edge p d) (rank v rest)
+    let compare : (p v : ℕ) (rest : List ℕ) → (p ≡ p0) ⊎ (p ≡ p1) → IsPathTo n p v rest
+    → IsNoWorse (y + edge p1 d) (rank q other) (total v rest + edge p d) (rank v rest)
     = λ p v rest cases path. elim cases [
       | inl e ↦ (let P : ℕ → Type 0 = λ w. IsPathTo n w v rest in
           let h : IsNoWorse x (rank r past) (total v rest) (rank v rest) = a.best v rest (subst P e path) in
@@ -162,7 +184,9 @@ second_best total more n s edge lt grows x y r q past other a b less =
     ] in
     record {
       is_path = path_more n s p1 q other lt b.is_path (omega arith);
-      is_sum = grows.is q other d b.is_path.long ∙ ap (λ v. v + edge (register_back q other) d) b.is_sum ∙ ap (λ v. y + edge v d) b.is_path.ends;
+      is_sum =
+          grows.is q other d b.is_path.long ∙ ap (λ v. v + edge (register_back q other) d) b.is_sum
+          ∙ ap (λ v. y + edge v d) b.is_path.ends;
       best = rival total more n s edge lt grows (y + edge p1 d) q other b.is_path.long compare;
     }
 
@@ -179,8 +203,10 @@ AreBest-more total more n survivor sums metrics next survivors grows is_next sur
     let p1 = 2 * (s % 32) + 1 in
     let first : ℕ = first_metric sums metrics s in
     let second : ℕ = second_metric sums metrics s in
-    let a : IsBestTo total n p0 (get_or sums p0 0) (start_of survivors p0) (past_of survivors p0) = best p0 (omega arith) in
-    let b : IsBestTo total n p1 (get_or sums p1 0) (start_of survivors p1) (past_of survivors p1) = best p1 (omega arith) in
+    let a : IsBestTo total n p0 (get_or sums p0 0) (start_of survivors p0) (past_of survivors p0) =
+    best p0 (omega arith) in
+    let b : IsBestTo total n p1 (get_or sums p1 0) (start_of survivors p1) (past_of survivors p1) =
+    best p1 (omega arith) in
     let P : ℕ → ℕ → Type 0 = λ v w. IsBestTo more (n + 1) s v (start_of survivors w) ((s / 32) ∷ past_of survivors w) in
     let goes : (v w : ℕ) → get_or next s 0 ≡ v → before survivor s ≡ w → P v w → P (get_or next s 0) (before survivor s)
     = λ v w e f h. subst (λ (z : ℕ). P z (before survivor s)) (sym e) (subst (λ (z : ℕ). P v z) (sym f) h) in
@@ -196,14 +222,16 @@ AreBest-more total more n survivor sums metrics next survivors grows is_next sur
     ]
 
 -- before any step each path is a register alone
-none_best : (total : ℕ → List ℕ → ℕ) (s sum q : ℕ) (other : List ℕ) → total s [] ≡ sum → IsPathTo 0 s q other → IsNoWorse sum s (total q other) (rank q other)
+none_best : (total : ℕ → List ℕ → ℕ) (s sum q : ℕ) (other : List ℕ) → total s [] ≡ sum → IsPathTo 0 s q other
+    → IsNoWorse sum s (total q other) (rank q other)
 none_best total s sum q [] e path =
     let ends : q ≡ s = path.ends in
     let same : total q [] ≡ total s [] = ap (λ v. total v []) ends in
     record { least = omega (arith, e, same); first = λ _. omega (arith, ends) }
 none_best total s sum q (b ∷ other) e path = absurd (let h : suc (length other) ≡ 0 = path.long in omega arith)
 
-pub AreBest-none : (total : ℕ → List ℕ → ℕ) (sums : List ℕ) → ((r : ℕ) → r < 64 → total r [] ≡ get_or sums r 0) → AreBest total 0 sums []
+pub AreBest-none : (total : ℕ → List ℕ → ℕ) (sums : List ℕ) → ((r : ℕ) → r < 64 → total r [] ≡ get_or sums r 0)
+    → AreBest total 0 sums []
 AreBest-none total sums same s lt = record {
   is_path = record { start = lt; each = All-nil (λ b. b < 2); long = refl; ends = refl };
   is_sum = same s lt;
@@ -218,4 +246,5 @@ pub past_of_small : (survivors : List ℕ) (s : ℕ) → s < 64 → All (λ b. b
 past_of_small [] s lt = All-nil (λ b. b < 2)
 past_of_small (c ∷ survivors) s lt =
     let small : s / 32 < 2 = omega arith in
-    All-cons (λ b. b < 2) (s / 32) (past_of survivors (before c s)) small (past_of_small survivors (before c s) (before_lt c s lt))
+    All-cons (λ b. b < 2) (s / 32) (past_of survivors (before c s)) small
+    (past_of_small survivors (before c s) (before_lt c s lt))

@@ -24,44 +24,58 @@ Between-none : (rate : Rate) (from : Place) → Between rate from from 0
 Between-none rate from = record { place = omega arith; octets = omega (arith, steps_size-zero rate from.t) }
 
 Between-more : (rate : Rate) (invert : Bool) (keep ahead : ℕ) (from to : Place) (b : WindowBlock) (count : ℕ)
-    → Closes rate invert keep ahead from b → Between rate (after_block rate from b) to count → Between rate from to (b.kept + count)
+    → Closes rate invert keep ahead from b → Between rate (after_block rate from b) to count
+    → Between rate from to (b.kept + count)
 Between-more rate invert keep ahead from to b count closes h =
     let kept : b.kept ≡ keep = closes.is_block.kept ∙ kept_is keep ahead in
-    let inside : steps_size rate from.t b.kept ≤ length from.octets = omega (arith, closes.room, steps_size-le rate from.t b.kept (keep + ahead + 1) (omega arith)) in
+    let inside : steps_size rate from.t b.kept ≤ length from.octets =
+    omega (arith, closes.room, steps_size-le rate from.t b.kept (keep + ahead + 1) (omega arith)) in
     record {
       place = omega (arith, h.place);
-      octets = omega (arith, h.octets, inside, length-drop (steps_size rate from.t b.kept) from.octets, steps_size-add rate from.t b.kept count);
+      octets =
+          omega (
+            arith,
+            h.octets,
+            inside,
+            length-drop (steps_size rate from.t b.kept) from.octets,
+            steps_size-add rate from.t b.kept count,
+          );
     }
 
 pub between : (rate : Rate) (invert : Bool) (keep ahead : ℕ) (from to : Place) (blocks : List WindowBlock)
     → Closed rate invert keep ahead from blocks to → (count : ℕ) × Between rate from to count
-between rate invert keep ahead from to [] h = (0, subst (λ (v : Place). Between rate from v 0) h (Between-none rate from))
+between rate invert keep ahead from to [] h =
+    (0, subst (λ (v : Place). Between rate from v 0) h (Between-none rate from))
 between rate invert keep ahead from to (b ∷ blocks) h =
     let rest = between rate invert keep ahead (after_block rate from b) to blocks h.1 in
     (b.kept + rest.0, Between-more rate invert keep ahead from to b rest.0 h.0 rest.1)
 
 -- the octets of a place at which windows are closed have more than keep+ahead steps
-room_for : (rate : Rate) (invert : Bool) (keep ahead : ℕ) (from to : Place) (b : WindowBlock) (count n m : ℕ) → Closes rate invert keep ahead from b → Between rate from to count
+room_for : (rate : Rate) (invert : Bool) (keep ahead : ℕ) (from to : Place) (b : WindowBlock) (count n m : ℕ)
+    → Closes rate invert keep ahead from b → Between rate from to count
     → from.t + m ≡ to.t + n → length to.octets < steps_size rate to.t (n + 1) → keep + ahead + 1 ≤ m
-room_for rate invert keep ahead from to b count n m closes h place most = elim (cases_lt m (keep + ahead + 1)) as (λ _. keep + ahead + 1 ≤ m) [
-  | inr le ↦ le
-  | inl lt ↦ (
-      let sum : m + 1 ≡ count + (n + 1) = omega (arith, h.place) in
-      let there : steps_size rate to.t (n + 1) ≡ steps_size rate (from.t + count) (n + 1) = ap (λ (t : ℕ). steps_size rate t (n + 1)) h.place in
-      absurd (omega (
-        arith,
-        closes.room,
-        h.octets,
-        most,
-        there,
-        ap (steps_size rate from.t) sum,
-        steps_size-add rate from.t count (n + 1),
-        steps_size-le rate from.t (m + 1) (keep + ahead + 1) (omega arith),
-      ))
-      )
-]
+room_for rate invert keep ahead from to b count n m closes h place most =
+    elim (cases_lt m (keep + ahead + 1)) as (λ _. keep + ahead + 1 ≤ m) [
+      | inr le ↦ le
+      | inl lt ↦ (
+          let sum : m + 1 ≡ count + (n + 1) = omega (arith, h.place) in
+          let there : steps_size rate to.t (n + 1) ≡ steps_size rate (from.t + count) (n + 1) =
+          ap (λ (t : ℕ). steps_size rate t (n + 1)) h.place in
+          absurd (omega (
+            arith,
+            closes.room,
+            h.octets,
+            most,
+            there,
+            ap (steps_size rate from.t) sum,
+            steps_size-add rate from.t count (n + 1),
+            steps_size-le rate from.t (m + 1) (keep + ahead + 1) (omega arith),
+          ))
+          )
+    ]
 
-pub closed_block : (rate : Rate) (invert : Bool) (keep ahead : ℕ) (from : Place) (b : WindowBlock) (m : ℕ) → Closes rate invert keep ahead from b
+pub closed_block : (rate : Rate) (invert : Bool) (keep ahead : ℕ) (from : Place) (b : WindowBlock) (m : ℕ)
+    → Closes rate invert keep ahead from b
     → keep + ahead + 1 ≤ m → IsBlock rate invert keep ahead from.starts from.t m from.octets b
 closed_block rate invert keep ahead from b m closes big =
     let is = closes.is_block in
@@ -74,9 +88,12 @@ closed_block rate invert keep ahead from b m closes big =
       dropped = is.dropped;
     }
 
-pub AreBlocks-closed : (rate : Rate) (invert : Bool) (keep ahead : ℕ) (from to : Place) (blocks last : List WindowBlock) (n m : ℕ)
-    → Closed rate invert keep ahead from blocks to → from.t + m ≡ to.t + n → length to.octets < steps_size rate to.t (n + 1)
-    → AreBlocks rate invert keep ahead to.starts to.t n to.octets last → AreBlocks rate invert keep ahead from.starts from.t m from.octets (blocks ++ last)
+pub AreBlocks-closed : (rate : Rate) (invert : Bool) (keep ahead : ℕ) (from to : Place)
+    (blocks last : List WindowBlock) (n m : ℕ)
+    → Closed rate invert keep ahead from blocks to → from.t + m ≡ to.t + n
+    → length to.octets < steps_size rate to.t (n + 1)
+    → AreBlocks rate invert keep ahead to.starts to.t n to.octets last
+    → AreBlocks rate invert keep ahead from.starts from.t m from.octets (blocks ++ last)
 AreBlocks-closed rate invert keep ahead from to [] last n m h place most are =
     let same : n ≡ m = omega (arith, place, ap (λ (v : Place). v.t) h) in
     subst (λ (v : Place). AreBlocks rate invert keep ahead v.starts v.t m v.octets last) (sym h)
@@ -85,8 +102,12 @@ AreBlocks-closed rate invert keep ahead from to (b ∷ blocks) last n m h place 
     let c = between rate invert keep ahead from to (b ∷ blocks) h in
     let big : keep + ahead + 1 ≤ m = room_for rate invert keep ahead from to b c.0 n m h.0 c.1 place most in
     let kept : b.kept ≡ keep = h.0.is_block.kept ∙ kept_is keep ahead in
-    let next : from.t + b.kept + (m - b.kept) ≡ to.t + n = omega (arith, kept, big, place) in
-    (omega (arith, big), closed_block rate invert keep ahead from b m h.0 big, AreBlocks-closed rate invert keep ahead (after_block rate from b) to blocks last n (m - b.kept) h.1 next most are)
+    let next : from.t + b.kept + (m - b.kept) ≡ to.t + n = omega (arith, kept, big, place) in (
+      omega (arith, big),
+      closed_block rate invert keep ahead from b m h.0 big,
+      AreBlocks-closed rate invert keep ahead (after_block rate from b) to blocks last n
+          (m - b.kept) h.1 next most are,
+    )
 
 pub from_zero : (rate : Rate) (a b : ℕ) → steps_size rate 0 (a + b) ≡ steps_size rate 0 a + steps_size rate a b
 from_zero rate a b =
@@ -95,18 +116,23 @@ from_zero rate a b =
 
 -- the blocks of closed windows, and those of the steps after them
 pub all_blocks : (s : Settings) (all : List ℕ) (done last : List WindowBlock) (to : Place) (n left : ℕ)
-    → Closed s.rate s.invert s.keep s.ahead (first_place s all) done to → length to.octets ≡ steps_size s.rate to.t n + left → left < step_size s.rate (to.t + n)
+    → Closed s.rate s.invert s.keep s.ahead (first_place s all) done to
+    → length to.octets ≡ steps_size s.rate to.t n + left → left < step_size s.rate (to.t + n)
     → AreBlocks s.rate s.invert s.keep s.ahead to.starts to.t n to.octets last → AreBlocksOf s all (done ++ last) left
 all_blocks s all done last to n left closed size less are =
     let c = between s.rate s.invert s.keep s.ahead (first_place s all) to done closed in
     let place : to.t ≡ c.0 = omega (arith, c.1.place) in
-    let most : length to.octets < steps_size s.rate to.t (n + 1) = omega (arith, size, less, steps_size-more s.rate to.t n) in
+    let most : length to.octets < steps_size s.rate to.t (n + 1) =
+    omega (arith, size, less, steps_size-more s.rate to.t n) in
     let there : steps_size s.rate to.t n ≡ steps_size s.rate c.0 n = ap (λ (t : ℕ). steps_size s.rate t n) place in
-    let more : steps_size s.rate to.t (n + 1) ≡ steps_size s.rate c.0 (n + 1) = ap (λ (t : ℕ). steps_size s.rate t (n + 1)) place in
+    let more : steps_size s.rate to.t (n + 1) ≡ steps_size s.rate c.0 (n + 1) =
+    ap (λ (t : ℕ). steps_size s.rate t (n + 1)) place in
     let sum : c.0 + (n + 1) ≡ c.0 + n + 1 = omega arith in
     let octets : length all ≡ steps_size s.rate 0 c.0 + length to.octets = c.1.octets in
-    let sum_of_steps : steps_size s.rate 0 (c.0 + n) ≡ steps_size s.rate 0 c.0 + steps_size s.rate c.0 n = from_zero s.rate c.0 n in
-    let one_more : steps_size s.rate 0 (c.0 + (n + 1)) ≡ steps_size s.rate 0 c.0 + steps_size s.rate c.0 (n + 1) = from_zero s.rate c.0 (n + 1) in
+    let sum_of_steps : steps_size s.rate 0 (c.0 + n) ≡ steps_size s.rate 0 c.0 + steps_size s.rate c.0 n =
+    from_zero s.rate c.0 n in
+    let one_more : steps_size s.rate 0 (c.0 + (n + 1)) ≡ steps_size s.rate 0 c.0 + steps_size s.rate c.0 (n + 1) =
+    from_zero s.rate c.0 (n + 1) in
     let long : length all ≡ steps_size s.rate 0 (c.0 + n) + left = omega (arith, octets, size, there, sum_of_steps) in
     record {
       count = c.0 + n;
@@ -114,7 +140,9 @@ all_blocks s all done last to n left closed size less are =
         whole = omega (arith, long, sum_of_steps);
         most = omega (arith, octets, most, more, one_more, ap (steps_size s.rate 0) sum);
       };
-      are = AreBlocks-closed s.rate s.invert s.keep s.ahead (first_place s all) to done last n (c.0 + n) closed (omega (arith, place)) most are;
+      are =
+          AreBlocks-closed s.rate s.invert s.keep s.ahead (first_place s all) to done last n (c.0 + n) closed
+          (omega (arith, place)) most are;
       rest = long;
     }
 

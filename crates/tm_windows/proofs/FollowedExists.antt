@@ -38,7 +38,8 @@ record HasBeginning (w : Windows) (spot : Spot) : Type 0 where
   begins : BeginsLast w spot b
   start : MayStart b.place
 
-drops-exists : HasBest → (w : Windows) (at : Place) (seen : Option ℕ) → w.seen ≡ seen → MayStart at → HasBeginning w (record { place = at; decided = None })
+drops-exists : HasBest → (w : Windows) (at : Place) (seen : Option ℕ) → w.seen ≡ seen → MayStart at
+    → HasBeginning w (record { place = at; decided = None })
 drops-exists best w at None is may = record {
   b = record { dropped = 0; place = at };
   begins = inl (subst (λ (o : Option ℕ). DropsBy w.settings o at (record { dropped = 0; place = at })) (sym is) refl);
@@ -46,7 +47,8 @@ drops-exists best w at None is may = record {
 }
 drops-exists best w at (Some steps) is may =
     let s = w.settings in
-    elim (cases_lt (length at.octets) (octets_seen s.rate at.t steps)) as (λ _. HasBeginning w (record { place = at; decided = None })) [
+    elim (cases_lt (length at.octets) (octets_seen s.rate at.t steps)) as
+    (λ _. HasBeginning w (record { place = at; decided = None })) [
       | inl less ↦ record {
         b = record { dropped = 0; place = at };
         begins = inr ((refl, (steps, is, less)), refl);
@@ -62,8 +64,10 @@ drops-exists best w at (Some steps) is may =
           })
     ]
 
-beginning : HasBest → (w : Windows) (decided : Option ℕ) (at : Place) → MayStart at → HasBeginning w (record { place = at; decided = decided })
-beginning best w (Some dropped) at may = record { b = record { dropped = dropped; place = at }; begins = inl refl; start = may }
+beginning : HasBest → (w : Windows) (decided : Option ℕ) (at : Place) → MayStart at
+    → HasBeginning w (record { place = at; decided = decided })
+beginning best w (Some dropped) at may =
+    record { b = record { dropped = dropped; place = at }; begins = inl refl; start = may }
 beginning best w None at may = drops-exists best w at w.seen refl may
 
 -- ---- the closed windows
@@ -91,7 +95,8 @@ record HasClosed (s : Settings) (b : Beginning) : Type 0 where
   kept : block.kept ≡ s.keep
   small : block.end_state < 64
 
-closed-exists : HasBest → (s : Settings) (b : Beginning) → MayStart b.place → closing_size s b.place.t ≤ length b.place.octets → HasClosed s b
+closed-exists : HasBest → (s : Settings) (b : Beginning) → MayStart b.place
+    → closing_size s b.place.t ≤ length b.place.octets → HasClosed s b
 closed-exists best s b may room =
     let found = has_block best (shape_of s) b.place may room in record {
       block = record (found.block) { dropped = b.dropped };
@@ -105,14 +110,23 @@ closed-exists best s b may room =
     }
 
 -- a window that is closed has been looked at
-pub seen-first : (s : Settings) (t steps : ℕ) → steps + 8 ≤ s.keep + s.ahead → octets_seen s.rate t steps ≤ closing_size s t
+pub seen-first : (s : Settings) (t steps : ℕ) → steps + 8 ≤ s.keep + s.ahead
+    → octets_seen s.rate t steps ≤ closing_size s t
 seen-first s t steps few =
     let more : ℕ = s.keep + s.ahead + 1 - steps in
     let sum : steps + more ≡ s.keep + s.ahead + 1 = omega (arith, few) in
     let long : 9 ≤ more = omega (arith, few) in
-    omega (arith, steps_size-add s.rate t steps more, ap (steps_size s.rate t) sum, steps_size-least s.rate (t + steps) more, long, period_size-most s.rate)
+    omega (
+      arith,
+      steps_size-add s.rate t steps more,
+      ap (steps_size s.rate t) sum,
+      steps_size-least s.rate (t + steps) more,
+      long,
+      period_size-most s.rate,
+    )
 
-pub unseen-open : (w : Windows) (spot : Spot) → IsSeen w → IsUnseen w spot → length spot.place.octets < closing_size w.settings spot.place.t
+pub unseen-open : (w : Windows) (spot : Spot) → IsSeen w → IsUnseen w spot
+    → length spot.place.octets < closing_size w.settings spot.place.t
 unseen-open w spot seen unseen =
     let found = unseen.1 in
     omega (arith, found.2, seen-first w.settings spot.place.t found.0 ((seen found.0 found.1).1))
@@ -121,7 +135,8 @@ unseen-open w spot seen unseen =
 abbrev Further : Windows → Spot → Type 0
 Further w from = (next : Spot) → MayStart next.place → length next.place.octets < length from.place.octets → Ends w next
 
-ends_after : (w : Windows) (from : Spot) → Further w from → 0 < w.settings.keep → (b : Beginning) → Begins w from b → HasClosed w.settings b
+ends_after : (w : Windows) (from : Spot) → Further w from → 0 < w.settings.keep → (b : Beginning) → Begins w from b
+    → HasClosed w.settings b
     → closing_size w.settings b.place.t ≤ length b.place.octets → Ends w from
 ends_after w from further wide b begins found room =
     let s = w.settings in
@@ -147,16 +162,26 @@ ends_after w from further wide b begins found room =
       few = rest.few;
     }
 
-ends_by : HasBest → (w : Windows) → IsSeen w → 0 < w.settings.keep → (from : Spot) → MayStart from.place → Further w from → Ends w from
+ends_by : HasBest → (w : Windows) → IsSeen w → 0 < w.settings.keep → (from : Spot) → MayStart from.place
+    → Further w from → Ends w from
 ends_by best w seen wide from may further =
     let s = w.settings in
     let h = beginning best w from.decided from.place may in
     elim (cases_lt (length h.b.place.octets) (closing_size s h.b.place.t)) as (λ _. Ends w from) [
-      | inl few ↦ record { done = []; to = from; closed = refl; window = h.b; begins = h.begins; start = h.start; few = few }
+      | inl few ↦ record {
+        done = [];
+        to = from;
+        closed = refl;
+        window = h.b;
+        begins = h.begins;
+        start = h.start;
+        few = few;
+      }
       | inr room ↦ elim (h.begins) as (λ _. Ends w from) [
         | inl begins ↦ ends_after w from further wide h.b begins (closed-exists best s h.b h.start room) room
         | inr unseen ↦ absurd
-            (let few = subst (λ (v : Beginning). length v.place.octets < closing_size s v.place.t) (sym unseen.1) (unseen-open w from seen unseen.0) in
+            (let few = subst (λ (v : Beginning). length v.place.octets < closing_size s v.place.t) (sym unseen.1)
+            (unseen-open w from seen unseen.0) in
             omega (arith, room, few))
       ]
     ]
@@ -167,35 +192,49 @@ pub ends : HasBest → (w : Windows) → IsSeen w → 0 < w.settings.keep → (b
 ends best w seen wide zero from may within =
     ends_by best w seen wide from may (λ next start less. absurd (omega (arith, less, within)))
 ends best w seen wide (suc bound) from may within =
-    ends_by best w seen wide from may (λ next start less. ends best w seen wide bound next start (omega (arith, less, within)))
+    ends_by best w seen wide from may (λ next start less. ends best w seen wide bound next start
+    (omega (arith, less, within)))
 
 -- the same after a spot at which a window begins
-pub ends_from : HasBest → (w : Windows) → IsSeen w → 0 < w.settings.keep → (spot : Spot) (b : Beginning) → Begins w spot b → MayStart b.place → Ends w spot
+pub ends_from : HasBest → (w : Windows) → IsSeen w → 0 < w.settings.keep → (spot : Spot) (b : Beginning)
+    → Begins w spot b → MayStart b.place → Ends w spot
 ends_from best w seen wide spot b begins may =
     let s = w.settings in
     elim (cases_lt (length b.place.octets) (closing_size s b.place.t)) as (λ _. Ends w spot) [
-      | inl few ↦ record { done = []; to = spot; closed = refl; window = b; begins = inl begins; start = may; few = few }
+      | inl few ↦ record {
+        done = [];
+        to = spot;
+        closed = refl;
+        window = b;
+        begins = inl begins;
+        start = may;
+        few = few;
+      }
       | inr room ↦ ends_after w spot
-          (λ next start less. ends best w seen wide (length spot.place.octets) next start (omega (arith, less))) wide b begins
+          (λ next start less. ends best w seen wide (length spot.place.octets) next start (omega (arith, less))) wide
+          b begins
           (closed-exists best s b may room) room
     ]
 
 -- ---- the last window
 
-last-exists : HasBest → (s : Settings) (b : Beginning) (n : ℕ) → MayStart b.place → AreSteps s.rate b.place.t b.place.octets n
+last-exists : HasBest → (s : Settings) (b : Beginning) (n : ℕ) → MayStart b.place
+    → AreSteps s.rate b.place.t b.place.octets n
     → (last : List WindowBlock) × IsLast s b n last
 last-exists best s b zero may are = ([], refl)
 last-exists best s b (suc n) may are =
     let start = some_start b.place.starts may in
     let from : HasStart b.place.starts = record { register = start.0; is = start.2; small = start.1 } in
-    let found = has_last_block best s.rate s.invert s.keep s.ahead b.place.starts b.place.t (suc n) b.place.octets from are in
+    let found = has_last_block best s.rate s.invert s.keep s.ahead b.place.starts b.place.t
+    (suc n) b.place.octets from are in
     let last : WindowBlock = record (found.block) { dropped = b.dropped } in (
       last ∷ [],
       (
         last,
         refl,
         refl,
-        subst (λ (v : WindowBlock). IsBlock s.rate s.invert s.keep s.ahead b.place.starts b.place.t (suc n) b.place.octets v)
+        subst (λ (v : WindowBlock). IsBlock s.rate s.invert s.keep s.ahead b.place.starts b.place.t
+            (suc n) b.place.octets v)
             (sym (undropped-same found.block found.is.dropped)) found.is,
       ),
     )

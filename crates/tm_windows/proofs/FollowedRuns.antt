@@ -24,27 +24,33 @@ place_of starts t octets = record { starts = starts; t = t; octets = octets }
 
 -- ---- one window more
 
-pub followed-push : (w : Windows) (from to : Spot) (blocks : List WindowBlock) (b : Beginning) (x : WindowBlock) → Followed w from blocks to
+pub followed-push : (w : Windows) (from to : Spot) (blocks : List WindowBlock) (b : Beginning) (x : WindowBlock)
+    → Followed w from blocks to
     → Begins w to b → ClosesAt w.settings b x → Followed w from (blocks ++ x ∷ []) (spot_after w.settings b x)
 followed-push w from to [] b x h begins closes = (b, subst (λ (v : Spot). Begins w v b) (sym h) begins, closes, refl)
 followed-push w from to (y ∷ ys) b x h begins closes =
     (h.0, h.1, h.2, followed-push w (spot_after w.settings h.0 y) to ys b x h.3 begins closes)
 
-pub followed-both : (w : Windows) (from middle to : Spot) (xs ys : List WindowBlock) → Followed w from xs middle → Followed w middle ys to
+pub followed-both : (w : Windows) (from middle to : Spot) (xs ys : List WindowBlock) → Followed w from xs middle
+    → Followed w middle ys to
     → Followed w from (xs ++ ys) to
 followed-both w from middle to [] ys h k = subst (λ (v : Spot). Followed w v ys to) (sym h) k
-followed-both w from middle to (x ∷ xs) ys h k = (h.0, h.1, h.2, followed-both w (spot_after w.settings h.0 x) middle to xs ys h.3 k)
+followed-both w from middle to (x ∷ xs) ys h k =
+    (h.0, h.1, h.2, followed-both w (spot_after w.settings h.0 x) middle to xs ys h.3 k)
 
 -- a window that closes is closed after dropped octets as well
-pub closes-dropped : (s : Settings) (b : Beginning) (block : WindowBlock) → Closes s.rate s.invert s.keep s.ahead b.place block
+pub closes-dropped : (s : Settings) (b : Beginning) (block : WindowBlock)
+    → Closes s.rate s.invert s.keep s.ahead b.place block
     → ClosesAt s b (dropped_at b.dropped block)
 closes-dropped s b block closes = (
-  subst (λ (v : WindowBlock). Closes s.rate s.invert s.keep s.ahead b.place v) (sym (undropped-same block closes.is_block.dropped)) closes,
+  subst (λ (v : WindowBlock). Closes s.rate s.invert s.keep s.ahead b.place v)
+      (sym (undropped-same block closes.is_block.dropped)) closes,
   refl,
 )
 
 -- the same, as the call that closes it says: whatever octets come after those that are held
-pub closes-now : (s s' : WindowShape) (starts : Option ℕ) (t : ℕ) (held slice rest : List ℕ) (block : WindowBlock) → s' ≡ s → slice ≡ held
+pub closes-now : (s s' : WindowShape) (starts : Option ℕ) (t : ℕ) (held slice rest : List ℕ) (block : WindowBlock)
+    → s' ≡ s → slice ≡ held
     → ClosesWith s' (place_of starts t slice) block → ClosesWith s (place_of starts t (held ++ rest)) block
 unfolding more_octets
 closes-now s s' starts t held slice rest block es eo closes =
@@ -53,13 +59,16 @@ closes-now s s' starts t held slice rest block es eo closes =
     (subst (λ (v : WindowShape). ClosesWith v (place_of starts t slice) block) es closes))
 
 -- where the next window is looked for
-pub next-spot : (s : Settings) (starts : Option ℕ) (t k next size : ℕ) (held left rest : List ℕ) (block : WindowBlock) → block.end_state ≡ next
+pub next-spot : (s : Settings) (starts : Option ℕ) (t k next size : ℕ) (held left rest : List ℕ) (block : WindowBlock)
+    → block.end_state ≡ next
     → block.kept ≡ s.keep → size ≡ steps_size s.rate t s.keep → left ≡ drop size held → size ≤ length held
-    → ◌≡◌ {A = Spot} (spot_after s (record { dropped = k; place = place_of starts t (held ++ rest) }) (dropped_at k block))
+    → ◌≡◌ {A = Spot} (spot_after s (record { dropped = k; place = place_of starts t (held ++ rest) })
+    (dropped_at k block))
     (record { place = place_of (Some next) (t + s.keep) (left ++ rest); decided = None })
 next-spot s starts t k next size held left rest block ee ek es el le =
     let same : steps_size s.rate t block.kept ≡ size = ap (steps_size s.rate t) ek ∙ sym es in
-    let octets : drop (steps_size s.rate t block.kept) (held ++ rest) ≡ left ++ rest = ap (λ (n : ℕ). drop n (held ++ rest)) same
+    let octets : drop (steps_size s.rate t block.kept) (held ++ rest) ≡ left ++ rest =
+    ap (λ (n : ℕ). drop n (held ++ rest)) same
     ∙ drop-append-le size held rest le ∙ ap (λ (o : List ℕ). o ++ rest) (sym el) in
     λ i. record { place = place_of (Some (ee i)) (t + ek i) (octets i); decided = None }
 
@@ -78,7 +87,8 @@ unfollowed-undropped w none t octets = λ steps is. absurd (let both = sym none 
 
 pub unfollowed-all : (w : Windows) → w.seen ≡ None → (t count : ℕ) (octets : List ℕ) → AreUndropped w t octets count
 unfollowed-all w none t count octets k some less =
-    unfollowed-undropped w none (t + k * w.settings.keep) (drop (steps_size w.settings.rate t (k * w.settings.keep)) octets)
+    unfollowed-undropped w none (t + k * w.settings.keep) (drop
+    (steps_size w.settings.rate t (k * w.settings.keep)) octets)
 
 undropped-begins : (w : Windows) (at : Place) → IsUndropped w at.t at.octets
     → Begins w (record { place = at; decided = None }) (record { dropped = 0; place = at })
@@ -88,7 +98,8 @@ undropped-begins w at still = go w.seen refl
     go None is = refl
     go (Some steps) is = (let found = still steps is in (found.0, found.1, refl))
 
-unfollowed-begins : (w : Windows) → w.seen ≡ None → (at : Place) → Begins w (record { place = at; decided = None }) (record { dropped = 0; place = at })
+unfollowed-begins : (w : Windows) → w.seen ≡ None → (at : Place)
+    → Begins w (record { place = at; decided = None }) (record { dropped = 0; place = at })
 unfollowed-begins w none at = undropped-begins w at (unfollowed-undropped w none at.t at.octets)
 
 -- a spot after closed windows, before any octet is dropped there
@@ -99,7 +110,8 @@ at-undecided w None is spot at there =
 at-undecided w (Some steps) is spot at there = there
 
 -- nothing is dropped before the second of them
-next-undropped : (w : Windows) (t kept count : ℕ) (octets : List ℕ) → kept ≡ w.settings.keep → 1 < count → AreUndropped w t octets count
+next-undropped : (w : Windows) (t kept count : ℕ) (octets : List ℕ) → kept ≡ w.settings.keep → 1 < count
+    → AreUndropped w t octets count
     → IsUndropped w (t + kept) (drop (steps_size w.settings.rate t kept) octets)
 next-undropped w t kept count octets is some still =
     let s = w.settings in
@@ -107,7 +119,8 @@ next-undropped w t kept count octets is some still =
     subst (λ (n : ℕ). IsUndropped w (t + n) (drop (steps_size s.rate t n) octets)) one (still 1 (omega arith) some)
 
 -- nor before those after it
-later-undropped : (w : Windows) (t kept count n : ℕ) (octets : List ℕ) → kept ≡ w.settings.keep → n < count → AreUndropped w t octets count
+later-undropped : (w : Windows) (t kept count n : ℕ) (octets : List ℕ) → kept ≡ w.settings.keep → n < count
+    → AreUndropped w t octets count
     → AreUndropped w (t + kept) (drop (steps_size w.settings.rate t kept) octets) n
 later-undropped w t kept count n octets is lt still k some less =
     let s = w.settings in
@@ -120,9 +133,11 @@ later-undropped w t kept count n octets is lt still k some less =
     let rest : drop (steps_size s.rate t ((k + 1) * s.keep)) octets ≡ drop others (drop first octets)
     = ap (λ (m : ℕ). drop m octets) size ∙ sym (drop-drop others first octets) in
     subst (λ (u : ℕ). IsUndropped w u (drop others (drop first octets))) step
-    (subst (λ (o : List ℕ). IsUndropped w (t + (k + 1) * s.keep) o) rest (still (k + 1) (omega arith) (omega (arith, less, lt))))
+    (subst (λ (o : List ℕ). IsUndropped w (t + (k + 1) * s.keep) o) rest
+    (still (k + 1) (omega arith) (omega (arith, less, lt))))
 
-more-undropped : (w : Windows) (t : ℕ) (octets rest : List ℕ) → IsUndropped w t octets → IsUndropped w t (octets ++ rest)
+more-undropped : (w : Windows) (t : ℕ) (octets rest : List ℕ) → IsUndropped w t octets
+    → IsUndropped w t (octets ++ rest)
 more-undropped w t octets rest still = λ steps is.
     (let found = still steps is in
     let s = w.settings in (
@@ -132,23 +147,28 @@ more-undropped w t octets rest still = λ steps is.
 
 -- nor before the first of them, whatever octets come after those that are held
 pub all-undropped : (w : Windows) (t count n : ℕ) (held rest : List ℕ) → n ≤ count
-    → steps_size w.settings.rate t (count * w.settings.keep) ≤ length held → AreUndropped w t held count → AreUndropped w t (held ++ rest) n
+    → steps_size w.settings.rate t (count * w.settings.keep) ≤ length held → AreUndropped w t held count
+    → AreUndropped w t (held ++ rest) n
 all-undropped w t count n held rest le room still k some less =
     let s = w.settings in
     let size : ℕ = steps_size s.rate t (k * s.keep) in
-    let within : k * s.keep ≤ count * s.keep = mul-le-mul_right s.keep (let few : k ≤ count = omega (arith, less, le) in few) in
-    let inside : size ≤ length held = omega (arith, room, steps_size-le s.rate t (k * s.keep) (count * s.keep) within) in
+    let within : k * s.keep ≤ count * s.keep = mul-le-mul_right s.keep
+    (let few : k ≤ count = omega (arith, less, le) in few) in
+    let inside : size ≤ length held = omega (arith, room, steps_size-le s.rate t (k * s.keep) (count * s.keep) within)
+    in
     subst (λ (o : List ℕ). IsUndropped w (t + k * s.keep) o) (sym (drop-append-le size held rest inside))
     (more-undropped w (t + k * s.keep) (drop size held) rest (still k some (omega (arith, less, le))))
 
-closes-plain : (s : Settings) (at : Place) (x : WindowBlock) → Closes s.rate s.invert s.keep s.ahead at x → ClosesAt s (record { dropped = 0; place = at }) x
+closes-plain : (s : Settings) (at : Place) (x : WindowBlock) → Closes s.rate s.invert s.keep s.ahead at x
+    → ClosesAt s (record { dropped = 0; place = at }) x
 closes-plain s at x h = (
   subst (λ (v : WindowBlock). Closes s.rate s.invert s.keep s.ahead at v) (sym (undropped-same x h.is_block.dropped)) h,
   h.is_block.dropped,
 )
 
 run-followed : (w : Windows) (spot : Spot) (at to : Place) (x : WindowBlock) (xs : List WindowBlock)
-    → Begins w spot (record { dropped = 0; place = at }) → Closed w.settings.rate w.settings.invert w.settings.keep w.settings.ahead at (x ∷ xs) to
+    → Begins w spot (record { dropped = 0; place = at }) → Closed w.settings.rate w.settings.invert w.settings.keep
+    w.settings.ahead at (x ∷ xs) to
     → AreUndropped w at.t at.octets (length (x ∷ xs)) → Followed w spot (x ∷ xs) (record { place = to; decided = None })
 run-followed w spot at to x [] begins h still = (
   record { dropped = 0; place = at },
@@ -177,8 +197,10 @@ pub record RunsTo (w : Windows) (from : Spot) (blocks : List WindowBlock) (at pl
   pub begins : w.seen ≡ None → Begins w to (record { dropped = 0; place = place })
   pub after : at.t < place.t → to ≡ record { place = place; decided = None }
 
-pub runs-to : (w : Windows) (from spot : Spot) (done more : List WindowBlock) (at to : Place) → Followed w from done spot
-    → Begins w spot (record { dropped = 0; place = at }) → Closed w.settings.rate w.settings.invert w.settings.keep w.settings.ahead at more to
+pub runs-to : (w : Windows) (from spot : Spot) (done more : List WindowBlock) (at to : Place)
+    → Followed w from done spot
+    → Begins w spot (record { dropped = 0; place = at }) → Closed w.settings.rate w.settings.invert w.settings.keep
+    w.settings.ahead at more to
     → AreUndropped w at.t at.octets (length more) → RunsTo w from (done ++ more) at to
 runs-to w from spot done [] at to h begins closed still = record {
   to = spot;
@@ -188,32 +210,43 @@ runs-to w from spot done [] at to h begins closed still = record {
 }
 runs-to w from spot done (x ∷ xs) at to h begins closed still = record {
   to = record { place = to; decided = None };
-  closed = followed-both w from spot (record { place = to; decided = None }) done (x ∷ xs) h (run-followed w spot at to x xs begins closed still);
+  closed =
+      followed-both w from spot (record { place = to; decided = None }) done (x ∷ xs) h
+      (run-followed w spot at to x xs begins closed still);
   begins = λ none. unfollowed-begins w none to;
   after = λ less. refl;
 }
 
-pub closed-kept : (s : Settings) (from to : Place) (blocks : List WindowBlock) → Closed s.rate s.invert s.keep s.ahead from blocks to
+pub closed-kept : (s : Settings) (from to : Place) (blocks : List WindowBlock)
+    → Closed s.rate s.invert s.keep s.ahead from blocks to
     → to.t ≡ from.t + kept_of blocks
 closed-kept s from to [] h = omega (arith, ap (λ (p : Place). p.t) h)
 closed-kept s from to (x ∷ xs) h = omega (arith, closed-kept s (after_block s.rate from x) to xs h.1)
 
-pub closed-slips : (s : Settings) (from to : Place) (blocks : List WindowBlock) → Closed s.rate s.invert s.keep s.ahead from blocks to → slips_of blocks ≡ 0
+pub closed-slips : (s : Settings) (from to : Place) (blocks : List WindowBlock)
+    → Closed s.rate s.invert s.keep s.ahead from blocks to → slips_of blocks ≡ 0
 closed-slips s from to [] h = refl
-closed-slips s from to (x ∷ xs) h = omega (arith, ap slip_at h.0.is_block.dropped, closed-slips s (after_block s.rate from x) to xs h.1)
+closed-slips s from to (x ∷ xs) h =
+    omega (arith, ap slip_at h.0.is_block.dropped, closed-slips s (after_block s.rate from x) to xs h.1)
 
 -- ---- how many octets are dropped
 
-pub decided-at : (w : Windows) (steps : ℕ) → w.seen ≡ Some steps → (starts now : Option ℕ) (t k : ℕ) (held left rest : List ℕ)
-    → octets_seen w.settings.rate t steps ≤ length held → IsSlip w.settings.rate w.settings.invert t steps held k → left ≡ drop k held
+pub decided-at : (w : Windows) (steps : ℕ) → w.seen ≡ Some steps
+    → (starts now : Option ℕ) (t k : ℕ) (held left rest : List ℕ)
+    → octets_seen w.settings.rate t steps ≤ length held → IsSlip w.settings.rate w.settings.invert t steps held k
+    → left ≡ drop k held
     → now ≡ starts_after k starts
-    → Begins w (record { place = place_of starts t (held ++ rest); decided = None }) (record { dropped = k; place = place_of now t (left ++ rest) })
+    → Begins w (record { place = place_of starts t (held ++ rest); decided = None })
+    (record { dropped = k; place = place_of now t (left ++ rest) })
 decided-at w steps seen starts now t k held left rest many slip el es =
     let s = w.settings in
     let within : k ≤ length held = omega (arith, many, IsSlip-within s.rate s.invert t steps held k slip) in
-    let octets : left ++ rest ≡ drop k (held ++ rest) = ap (λ (o : List ℕ). o ++ rest) el ∙ sym (drop-append-le k held rest within) in
-    let there : place_of now t (left ++ rest) ≡ moved k (place_of starts t (held ++ rest)) = (λ i. place_of (es i) t (octets i)) in
-    subst (λ (o : Option ℕ). DropsBy s o (place_of starts t (held ++ rest)) (record { dropped = k; place = place_of now t (left ++ rest) })) (sym seen) (
+    let octets : left ++ rest ≡ drop k (held ++ rest) = ap (λ (o : List ℕ). o ++ rest) el
+    ∙ sym (drop-append-le k held rest within) in
+    let there : place_of now t (left ++ rest) ≡ moved k (place_of starts t (held ++ rest)) =
+    (λ i. place_of (es i) t (octets i)) in
+    subst (λ (o : Option ℕ). DropsBy s o (place_of starts t (held ++ rest))
+    (record { dropped = k; place = place_of now t (left ++ rest) })) (sym seen) (
       omega (arith, many, length-append held rest),
       IsSlip-prefix s.rate s.invert t steps held rest k many slip,
       there,
@@ -221,23 +254,27 @@ decided-at w steps seen starts now t k held left rest many slip el es =
 
 -- ---- octets that follow
 
-pub at-more : (w : Windows) (spot : Spot) (dropped starts : Option ℕ) (t : ℕ) (held piece : List ℕ) → IsAt w spot dropped (place_of starts t held)
+pub at-more : (w : Windows) (spot : Spot) (dropped starts : Option ℕ) (t : ℕ) (held piece : List ℕ)
+    → IsAt w spot dropped (place_of starts t held)
     → IsAt w (longer_spot spot piece) dropped (place_of starts t (held ++ piece))
 unfolding more_octets
 at-more w spot None starts t held piece h = ap (λ (v : Spot). longer_spot v piece) h
-at-more w spot (Some k) starts t held piece h = begins-more w spot (record { dropped = k; place = place_of starts t held }) piece h
+at-more w spot (Some k) starts t held piece h =
+    begins-more w spot (record { dropped = k; place = place_of starts t held }) piece h
 
 -- ---- the last window
 
 pub last-begins : (w : Windows) (spot : Spot) (dropped : Option ℕ) (at : Place) → IsAt w spot dropped at
-    → (dropped ≡ None → (steps : ℕ) × (w.seen ≡ Some steps) × (length at.octets < octets_seen w.settings.rate at.t steps))
+    → (dropped ≡ None → (steps : ℕ) × (w.seen ≡ Some steps)
+    × (length at.octets < octets_seen w.settings.rate at.t steps))
     → BeginsLast w spot (record { dropped = unwrap_or dropped 0; place = at })
 last-begins w spot (Some k) at h few = inl h
 last-begins w spot None at h few =
     subst (λ (v : Spot). BeginsLast w v (record { dropped = 0; place = at })) (sym h) (inr ((refl, few refl), refl))
 
 pub is-last : (s : Settings) (b : Beginning) (n : ℕ) (block : WindowBlock) → 0 < n
-    → IsBlock s.rate s.invert s.keep s.ahead b.place.starts b.place.t n b.place.octets block → IsLast s b n (dropped_at b.dropped block ∷ [])
+    → IsBlock s.rate s.invert s.keep s.ahead b.place.starts b.place.t n b.place.octets block
+    → IsLast s b n (dropped_at b.dropped block ∷ [])
 is-last s b zero block some is = absurd (omega (arith, some))
 is-last s b (suc n) block some is = (
   dropped_at b.dropped block,
@@ -250,8 +287,10 @@ is-last s b (suc n) block some is = (
 -- ---- how many windows are closed
 
 -- so many closed windows have so many octets from where the first begins, or more where octets are dropped between them
-pub followed-long : (w : Windows) (from to : Spot) (x : WindowBlock) (xs : List WindowBlock) (h : Followed w from (x ∷ xs) to)
-    → steps_size w.settings.rate h.0.place.t (length (x ∷ xs) * w.settings.keep + w.settings.ahead + 1) ≤ length h.0.place.octets
+pub followed-long : (w : Windows) (from to : Spot) (x : WindowBlock) (xs : List WindowBlock)
+    (h : Followed w from (x ∷ xs) to)
+    → steps_size w.settings.rate h.0.place.t (length (x ∷ xs) * w.settings.keep + w.settings.ahead + 1)
+    ≤ length h.0.place.octets
 followed-long w from to x [] h =
     let s = w.settings in
     let one : 1 * s.keep + s.ahead + 1 ≡ s.keep + s.ahead + 1 = omega arith in
@@ -282,9 +321,11 @@ followed-long w from to x (y ∷ ys) h =
     )
 
 -- a beginning after a spot stands there, with no more octets
-pub at-within : (w : Windows) (spot : Spot) (dropped : Option ℕ) (at : Place) → IsAt w spot dropped at → (b : Beginning) → Begins w spot b
+pub at-within : (w : Windows) (spot : Spot) (dropped : Option ℕ) (at : Place) → IsAt w spot dropped at
+    → (b : Beginning) → Begins w spot b
     → (b.place.t ≡ at.t) × (length b.place.octets ≤ length at.octets)
-at-within w spot None at h b begins = begins-within w (record { place = at; decided = None }) b (subst (λ (v : Spot). Begins w v b) h begins)
+at-within w spot None at h b begins =
+    begins-within w (record { place = at; decided = None }) b (subst (λ (v : Spot). Begins w v b) h begins)
 at-within w spot (Some k) at h b begins =
     subst (λ (v : Beginning). (v.place.t ≡ at.t) × (length v.place.octets ≤ length at.octets))
     (begins-one w spot (record { dropped = k; place = at }) b h begins) (refl, omega arith)

@@ -82,17 +82,21 @@ whole_again m held rest =
     sym (append_assoc (take m held) (drop m held) rest) ∙ ap (λ (o : List ℕ). o ++ rest) (take-append-drop m held)
 
 -- windows that the first of the octets held close, whatever comes after them
-pub closed_prefix : (s : WindowShape) (starts : Option ℕ) (t m : ℕ) (held rest : List ℕ) (blocks : List WindowBlock) (to : Place)
+pub closed_prefix : (s : WindowShape) (starts : Option ℕ) (t m : ℕ) (held rest : List ℕ) (blocks : List WindowBlock)
+    (to : Place)
     → ClosedWith s (place_of starts t (take m held)) blocks to
     → ClosedWith s (place_of starts t (held ++ rest)) blocks (more_octets to (drop m held ++ rest))
 unfolding more_octets
 closed_prefix s starts t m held rest blocks to h =
-    subst (λ (o : List ℕ). ClosedWith s (place_of starts t o) blocks (more_octets to (drop m held ++ rest))) (whole_again m held rest)
+    subst (λ (o : List ℕ). ClosedWith s (place_of starts t o) blocks (more_octets to (drop m held ++ rest)))
+    (whole_again m held rest)
     (Closed-append s.rate s.invert s.keep s.ahead (place_of starts t (take m held)) to blocks (drop m held ++ rest) h)
 
 -- the same where they are as many as were asked for
-pub closed_now : (s : WindowShape) (starts next : Option ℕ) (t m count : ℕ) (held left rest : List ℕ) (more : List WindowBlock)
-    → steps_size s.rate t (count * s.keep) ≤ m → m ≤ length held → left ≡ drop (steps_size s.rate t (count * s.keep)) held
+pub closed_now : (s : WindowShape) (starts next : Option ℕ) (t m count : ℕ) (held left rest : List ℕ)
+    (more : List WindowBlock)
+    → steps_size s.rate t (count * s.keep) ≤ m → m ≤ length held
+    → left ≡ drop (steps_size s.rate t (count * s.keep)) held
     → ClosedWith s (place_of starts t (take m held)) more (after_windows s t (take m held) count next)
     → ClosedWith s (place_of starts t (held ++ rest)) more (place_of next (t + count * s.keep) (left ++ rest))
 unfolding more_octets
@@ -104,7 +108,8 @@ closed_now s starts next t m count held left rest more within inside left_is h =
     = sym (drop-append-le size prefix back (omega (arith, within, length-take-le m held inside)))
     ∙ ap (drop size) (whole_again m held rest) ∙ drop-append-le size held rest (omega (arith, within, inside))
     ∙ ap (λ (o : List ℕ). o ++ rest) (sym left_is) in
-    subst (λ (o : List ℕ). ClosedWith s (place_of starts t (held ++ rest)) more (place_of next (t + count * s.keep) o)) octets
+    subst (λ (o : List ℕ). ClosedWith s (place_of starts t (held ++ rest)) more
+    (place_of next (t + count * s.keep) o)) octets
     (closed_prefix s starts t m held rest more (after_windows s t prefix count next) h)
 
 -- ---- room
@@ -186,7 +191,9 @@ Reaches-append g all piece done r =
     record {
       to = longer_spot r.to piece;
       closed = closed-more w all piece done r.to r.closed;
-      at = subst (λ (o : List ℕ). IsAt w (longer_spot r.to piece) g.dropped (place_of g.starts g.t (o ++ piece))) (append-nil held)
+      at =
+          subst (λ (o : List ℕ). IsAt w (longer_spot r.to piece) g.dropped (place_of g.starts g.t (o ++ piece)))
+          (append-nil held)
           (at-more w r.to g.dropped g.starts g.t (held ++ []) piece r.at);
       kept = r.kept;
       slips = r.slips;
@@ -218,11 +225,14 @@ first_after w v all done more tried e first =
     subst (λ (b : List WindowBlock). AreFollowedFirst v all b) (append_assoc done more tried)
     (first_with w v all ((done ++ more) ++ tried) e first)
 
--- where it was decided how many octets are dropped the next window begins there, and else it is looked for there; in either case it
+-- where it was decided how many octets are dropped the next window begins there, and else it is
+-- looked for there; in either case it
 -- is not closed
-open-at : (w : Windows) (spot : Spot) (dropped : Option ℕ) (at : Place) → IsAt w spot dropped at → length at.octets < closing_size w.settings at.t
+open-at : (w : Windows) (spot : Spot) (dropped : Option ℕ) (at : Place) → IsAt w spot dropped at
+    → length at.octets < closing_size w.settings at.t
     → IsOpenAt w spot
-open-at w spot None at h less = inl (subst (λ (v : Spot). length v.place.octets < closing_size w.settings v.place.t) (sym h) less)
+open-at w spot None at h less =
+    inl (subst (λ (v : Spot). length v.place.octets < closing_size w.settings v.place.t) (sym h) less)
 open-at w spot (Some k) at h less = inr (record { dropped = k; place = at }, h, less)
 
 -- all windows but the last are closed
@@ -237,27 +247,33 @@ AreDue-reached g all done r less =
     }
 
 -- the same by whether the phase is followed
-pub due-in : (seen : Option ℕ) (w : Windows) (octets : List ℕ) (blocks : List WindowBlock) → w.seen ≡ seen → AreFollowedDue w octets blocks
+pub due-in : (seen : Option ℕ) (w : Windows) (octets : List ℕ) (blocks : List WindowBlock) → w.seen ≡ seen
+    → AreFollowedDue w octets blocks
     → AreDueBy seen w octets blocks
 due-in None w octets blocks is h = unseen-due w is octets blocks h
 due-in (Some steps) w octets blocks is h = h
 
-pub first-in : (seen : Option ℕ) (w : Windows) (octets : List ℕ) (blocks : List WindowBlock) → w.seen ≡ seen → AreFollowedFirst w octets blocks
+pub first-in : (seen : Option ℕ) (w : Windows) (octets : List ℕ) (blocks : List WindowBlock) → w.seen ≡ seen
+    → AreFollowedFirst w octets blocks
     → AreFirstBy seen w octets blocks
 first-in None w octets blocks is h = unseen-first w is octets blocks h
 first-in (Some steps) w octets blocks is h = h
 
-pub blocks-in : (seen : Option ℕ) (w : Windows) (octets : List ℕ) (blocks : List WindowBlock) (left : ℕ) → w.seen ≡ seen → AreFollowedOf w octets blocks left
+pub blocks-in : (seen : Option ℕ) (w : Windows) (octets : List ℕ) (blocks : List WindowBlock) (left : ℕ)
+    → w.seen ≡ seen → AreFollowedOf w octets blocks left
     → AreBlocksBy seen w octets blocks left
 blocks-in None w octets blocks left is h = unseen-blocks w is octets blocks left h
 blocks-in (Some steps) w octets blocks left is h = h
 
 -- the closed windows after a spot whose octets go on there
-ends_at : HasBest → (w : Windows) → IsSeen w → 0 < w.settings.keep → (spot : Spot) (dropped : Option ℕ) (at : Place) → IsAt w spot dropped at
+ends_at : HasBest → (w : Windows) → IsSeen w → 0 < w.settings.keep → (spot : Spot) (dropped : Option ℕ) (at : Place)
+    → IsAt w spot dropped at
     → MayStart at → Ends w spot
 ends_at best w seen wide spot None at h may =
-    subst (λ (v : Spot). Ends w v) (sym h) (ends best w seen wide (length at.octets) (record { place = at; decided = None }) may (omega arith))
-ends_at best w seen wide spot (Some k) at h may = ends_from best w seen wide spot (record { dropped = k; place = at }) h may
+    subst (λ (v : Spot). Ends w v) (sym h) (ends best w seen wide (length at.octets)
+    (record { place = at; decided = None }) may (omega arith))
+ends_at best w seen wide spot (Some k) at h may =
+    ends_from best w seen wide spot (record { dropped = k; place = at }) h may
 
 -- where they end no window is closed
 ends-open : (w : Windows) → IsSeen w → (spot : Spot) (e : Ends w spot) → IsOpenAt w e.to
@@ -267,8 +283,10 @@ ends-open w seen spot e = go e.begins
     go (inl begins) = inr (e.window, begins, e.few)
     go (inr unseen) = inl (unseen-open w e.to seen unseen.0)
 
-ends-few : (w : Windows) (spot to : Spot) (dropped : Option ℕ) (at : Place) (blocks : List WindowBlock) (count : ℕ) → IsAt w spot dropped at
-    → length at.octets < steps_size w.settings.rate at.t ((count + 1) * w.settings.keep + w.settings.ahead + 1) → Followed w spot blocks to
+ends-few : (w : Windows) (spot to : Spot) (dropped : Option ℕ) (at : Place) (blocks : List WindowBlock) (count : ℕ)
+    → IsAt w spot dropped at
+    → length at.octets < steps_size w.settings.rate at.t ((count + 1) * w.settings.keep + w.settings.ahead + 1)
+    → Followed w spot blocks to
     → length blocks ≤ count
 ends-few w spot to dropped at [] count h most closed = omega arith
 ends-few w spot to dropped at (x ∷ xs) count h most closed =
@@ -277,14 +295,16 @@ ends-few w spot to dropped at (x ∷ xs) count h most closed =
     let within = at-within w spot dropped at h closed.0 closed.1 in
     elim (cases_lt count n) as (λ _. length (x ∷ xs) ≤ count) [
       | inl less ↦ absurd
-          (let wide : (count + 1) * s.keep ≤ n * s.keep = mul-le-mul_right s.keep (let le : count + 1 ≤ n = omega (arith, less) in le) in
+          (let wide : (count + 1) * s.keep ≤ n * s.keep = mul-le-mul_right s.keep
+          (let le : count + 1 ≤ n = omega (arith, less) in le) in
           omega (
             arith,
             followed-long w spot to x xs closed,
             within.1,
             ap (λ (t : ℕ). steps_size s.rate t (n * s.keep + s.ahead + 1)) within.0,
             most,
-            steps_size-le s.rate at.t ((count + 1) * s.keep + s.ahead + 1) (n * s.keep + s.ahead + 1) (omega (arith, wide)),
+            steps_size-le s.rate at.t ((count + 1) * s.keep + s.ahead + 1) (n * s.keep + s.ahead + 1)
+                (omega (arith, wide)),
           ))
       | inr le ↦ le
     ]
@@ -340,7 +360,8 @@ due_after exists g all done count some looks room most r = go g.seen refl
     go None none =
         let size : ℕ = steps_size s.rate g.t (count * s.keep) in
         let run = has_windows exists s count at some (λ lt. omega (arith, same, room lt)) in
-        let there : steps_size s.rate run.to.t (s.keep + s.ahead + 1) ≡ steps_size s.rate (g.t + count * s.keep) (s.keep + s.ahead + 1)
+        let there : steps_size s.rate run.to.t (s.keep + s.ahead + 1)
+        ≡ steps_size s.rate (g.t + count * s.keep) (s.keep + s.ahead + 1)
         = ap (λ (u : ℕ). steps_size s.rate u (s.keep + s.ahead + 1)) run.place in
         let begins = subst (λ (o : Option ℕ). IsAt w r.to o at) (g.unfollowed none) r.at in
         let runs = runs-to w (first_spot w all) r.to done run.blocks at run.to r.closed begins run.closed
@@ -350,7 +371,12 @@ due_after exists g all done count some looks room most r = go g.seen refl
           run.blocks,
           omega (arith, run.long),
           λ _. run.long,
-          record { to = runs.to; closed = runs.closed; is_open = inr (record { dropped = 0; place = run.to }, runs.begins none, few) },
+          record {
+            to = runs.to;
+            closed = runs.closed;
+            is_open = inr
+                (record { dropped = 0; place = run.to }, runs.begins none, few);
+          },
         )
     go (Some steps) is =
         let e = ends_at exists w looks (omega (arith, g.sizes)) r.to g.dropped at r.at some in (
@@ -462,12 +488,18 @@ few_left s t len n size is most = omega (arith, is, most, steps_size-add s.rate 
 
 -- the last block, as the call that hands it over says
 pub last_block : (w : Windows) (s' : WindowShape) (b : Beginning) (n : ℕ) (slice : List ℕ) (last : WindowBlock)
-    → s' ≡ record { rate = w.settings.rate; invert = w.settings.invert; keep = w.settings.keep; ahead = w.settings.ahead }
+    → s' ≡ record {
+      rate = w.settings.rate;
+      invert = w.settings.invert;
+      keep = w.settings.keep;
+      ahead = w.settings.ahead;
+    }
     → slice ≡ b.place.octets → 0 < n → IsBlock s'.rate s'.invert s'.keep s'.ahead b.place.starts b.place.t n slice last
     → IsLast w.settings b n (dropped_at b.dropped last ∷ [])
 last_block w s' b n slice last es eo some is =
     is-last w.settings b n last some
-    (subst (λ (o : List ℕ). IsBlock w.settings.rate w.settings.invert w.settings.keep w.settings.ahead b.place.starts b.place.t n o last) eo
+    (subst (λ (o : List ℕ). IsBlock w.settings.rate w.settings.invert w.settings.keep w.settings.ahead b.place.starts
+    b.place.t n o last) eo
     (subst (λ (v : WindowShape). IsBlock v.rate v.invert v.keep v.ahead b.place.starts b.place.t n slice last) es is))
 
 -- the blocks after those that were closed before
@@ -492,7 +524,8 @@ ended g all slice done last n size es is whole most few decided r are =
     let same : length (g.held.octets ++ []) ≡ length slice = ap length (append-nil g.held.octets ∙ sym es) in
     let w = windows_of g in
     let at = place_of g.starts g.t (g.held.octets ++ []) in
-    let unseen : g.dropped ≡ None → (steps : ℕ) × (w.seen ≡ Some steps) × (length at.octets < octets_seen w.settings.rate at.t steps) = λ none.
+    let unseen : g.dropped ≡ None → (steps : ℕ) × (w.seen ≡ Some steps)
+    × (length at.octets < octets_seen w.settings.rate at.t steps) = λ none.
     (let found = decided none in (found.0, found.1, omega (arith, found.2, ap length (append-nil g.held.octets)))) in
     record {
       done = done;

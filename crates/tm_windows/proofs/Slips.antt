@@ -16,36 +16,50 @@ use Rattle.tm_windows.specs.Slip.{octets_seen, excess, decided, IsSlip}
 use Rattle.tm_windows.proofs.Least.{IsCostAt-one, IsFirstLeast-one}
 use Rattle.tm_windows.proofs.Phases.{period_size-is, octets_at-prefix, FirstLeast-exists, IsCostAt-exists, IsCostAt-prefix, IsFirstLeast-prefix}
 
-pub IsSlip-exists : HasBest → (rate : Rate) (invert : Bool) (t steps : ℕ) (octets : List ℕ) → octets_seen rate t steps ≤ length octets
+pub IsSlip-exists : HasBest → (rate : Rate) (invert : Bool) (t steps : ℕ) (octets : List ℕ)
+    → octets_seen rate t steps ≤ length octets
     → (slip : ℕ) × IsSlip rate invert t steps octets slip
 IsSlip-exists best rate invert t steps octets many =
     let fits : steps_size rate t steps ≤ length octets - (period_size rate - 1) = omega (arith, many) in
     let first = FirstLeast-exists best rate invert t steps octets fits in
     let unmoved = IsCostAt-exists best rate invert t steps octets 0 fits (omega (arith, period_size-is rate)) in (
-      decided first.0 (excess first.1 (octets_at rate t steps octets first.0)) (excess unmoved.0 (octets_at rate t steps octets 0)),
-      record { number = first.0; amount = first.1; least = first.2; unmoved = unmoved.0; is_cost = unmoved.1; is = refl },
+      decided first.0 (excess first.1 (octets_at rate t steps octets first.0))
+          (excess unmoved.0 (octets_at rate t steps octets 0)),
+      record {
+        number = first.0;
+        amount = first.1;
+        least = first.2;
+        unmoved = unmoved.0;
+        is_cost = unmoved.1;
+        is = refl;
+      },
     )
 
-pub IsSlip-one : (rate : Rate) (invert : Bool) (t steps : ℕ) (octets : List ℕ) (slip other : ℕ) → IsSlip rate invert t steps octets slip
+pub IsSlip-one : (rate : Rate) (invert : Bool) (t steps : ℕ) (octets : List ℕ) (slip other : ℕ)
+    → IsSlip rate invert t steps octets slip
     → IsSlip rate invert t steps octets other → slip ≡ other
 IsSlip-one rate invert t steps octets slip other a b =
     let one = IsCostAt-one rate invert t steps octets in
-    let found = IsFirstLeast-one (IsCostAt rate invert t steps octets) one (period_size rate) a.number b.number a.amount b.amount a.least b.least in
+    let found = IsFirstLeast-one (IsCostAt rate invert t steps octets) one
+    (period_size rate) a.number b.number a.amount b.amount a.least b.least in
     let unmoved : a.unmoved ≡ b.unmoved = one 0 a.unmoved b.unmoved a.is_cost b.is_cost in
     let chosen : ℕ → ℕ → ℕ → ℕ = λ number amount unmoved.
-    decided number (excess amount (octets_at rate t steps octets number)) (excess unmoved (octets_at rate t steps octets 0)) in
+    decided number (excess amount (octets_at rate t steps octets number))
+    (excess unmoved (octets_at rate t steps octets 0)) in
     a.is ∙ (λ i. chosen (found.0 i) (found.1 i) (unmoved i)) ∙ sym b.is
 
 decided-below : (number moved unmoved size : ℕ) → number < size → decided number moved unmoved < size
 decided-below number moved unmoved size below = grind (arith, nat_tests)
 
-pub IsSlip-within : (rate : Rate) (invert : Bool) (t steps : ℕ) (octets : List ℕ) (slip : ℕ) → IsSlip rate invert t steps octets slip → slip < period_size rate
+pub IsSlip-within : (rate : Rate) (invert : Bool) (t steps : ℕ) (octets : List ℕ) (slip : ℕ)
+    → IsSlip rate invert t steps octets slip → slip < period_size rate
 IsSlip-within rate invert t steps octets slip h =
     let here = excess h.amount (octets_at rate t steps octets h.number) in
     let first = excess h.unmoved (octets_at rate t steps octets 0) in
     omega (arith, h.is, decided-below h.number here first (period_size rate) h.least.below)
 
-pub IsSlip-prefix : (rate : Rate) (invert : Bool) (t steps : ℕ) (octets more : List ℕ) (slip : ℕ) → octets_seen rate t steps ≤ length octets
+pub IsSlip-prefix : (rate : Rate) (invert : Bool) (t steps : ℕ) (octets more : List ℕ) (slip : ℕ)
+    → octets_seen rate t steps ≤ length octets
     → IsSlip rate invert t steps octets slip → IsSlip rate invert t steps (octets ++ more) slip
 IsSlip-prefix rate invert t steps octets more slip many h =
     let some : 0 < period_size rate = omega (arith, period_size-is rate) in
@@ -66,7 +80,8 @@ decided-none : (moved unmoved : ℕ) → decided 0 moved unmoved ≡ 0
 decided-none moved unmoved = grind (arith, nat_tests)
 
 -- the path that was sent costs nothing where nothing is dropped, and so this candidate is the first of least cost
-pub IsSlip-sure : (rate : Rate) (invert : Bool) (t steps register : ℕ) (bits : List ℕ) (slip : ℕ) → AreBits bits → register < 64 → steps ≤ length bits
+pub IsSlip-sure : (rate : Rate) (invert : Bool) (t steps register : ℕ) (bits : List ℕ) (slip : ℕ) → AreBits bits
+    → register < 64 → steps ≤ length bits
     → IsSlip rate invert t steps (sure (path rate invert t register bits)) slip → slip ≡ 0
 IsSlip-sure rate invert t steps register bits slip are small few h =
     let octets = sure (path rate invert t register bits) in
@@ -74,14 +89,20 @@ IsSlip-sure rate invert t steps register bits slip are small few h =
     let found = h.is_cost in
     let P : List ℕ → Type 0 = λ l. IsBest (starts_from None) rate invert t l found.initial found.bits
     × (h.unmoved ≡ cost (path rate invert t found.initial found.bits) l) in
-    let there : P (sure symbols) = subst P (prefix-octets rate invert t register steps bits few).0 (found.best, found.is) in
+    let there : P (sure symbols) = subst P (prefix-octets rate invert t register steps bits few).0
+    (found.best, found.is) in
     let was_sent : IsCandidate (starts_from None) rate invert t (sure symbols) register (take steps bits) = record {
       start = refl;
       register = small;
       each = All-take (λ bit. bit < 2) steps bits are;
       covers = sym (length-sure symbols);
     } in
-    let free : h.unmoved ≡ 0 = omega (arith, there.1, there.0.least register (take steps bits) was_sent, cost-sure symbols) in
+    let free : h.unmoved ≡ 0 = omega (
+      arith,
+      there.1,
+      there.0.least register (take steps bits) was_sent,
+      cost-sure symbols,
+    ) in
     let none : h.number ≡ 0 = elim (cases_lt 0 h.number) as (λ _. h.number ≡ 0) [
       | inl some ↦ absurd (omega (arith, h.least.first 0 h.unmoved some found, free))
       | inr first ↦ omega (arith, first)

@@ -15,7 +15,8 @@ pub record AreWhole (rate : Rate) (symbols count size : ℕ) : Type 0 where
 abbrev pub left_over : ℕ → ℕ → ℕ
 left_over period symbols = min 1 (symbols % (period + 1)) - min 1 (symbols % (period + 1) - 1)
 
-pub whole_steps : (rate : Rate) (n size : ℕ) → size + left_over (period rate) n ≡ n → (count : ℕ) × AreWhole rate n count size
+pub whole_steps : (rate : Rate) (n size : ℕ) → size + left_over (period rate) n ≡ n → (count : ℕ)
+    × AreWhole rate n count size
 whole_steps R12 n size h =
     let m : ℕ = n / 2 * 1 + (n % 2 - 1) in
     let a : steps_size R12 0 m ≡ m + (m / 1 + min 1 (m % 1)) = steps_size-is R12 m in

@@ -16,10 +16,14 @@ St = State (Unit {0}) View
 abbrev M : Type 0
 M = Me (Unit {0}) View
 
-placed : (n : ℕ) (s : St) (m id : ℕ) (me : M) (w : View) → Rule n s → HoldsWhile n m (set s.views id w) → Rule n (stepped s 0 m id me.1 w keeps)
+placed : (n : ℕ) (s : St) (m id : ℕ) (me : M) (w : View) → Rule n s → HoldsWhile n m (set s.views id w)
+    → Rule n (stepped s 0 m id me.1 w keeps)
 placed n s m id me w r k =
-    let wide = r.0 in
-    (length-set s.words 0 m ∙ wide, subst (λ c. HoldsWhile n c (set s.views id w)) (sym (get_or-set_same s.words 0 m 0 (omega arith))) k)
+    let wide = r.0 in (
+      length-set s.words 0 m ∙ wide,
+      subst (λ c. HoldsWhile n c (set s.views id w))
+          (sym (get_or-set_same s.words 0 m 0 (omega arith))) k,
+    )
 
 times-one : (x : ℕ) (a : List ℕ) (c : ℕ) → times x (a ++ c ∷ []) ≡ times x a + cond (c == x) 1 0
 times-one x a c = times-append x a (c ∷ []) ∙ omega arith
@@ -28,13 +32,16 @@ fits_later : (n c : ℕ) (v : View) → Fits n c v → Fits n (c + 1) v
 fits_later n c v h = record { spent = λ e. let was = h.spent e in omega arith; knows = h.knows; idle = h.idle }
 
 -- all views fit where the new one does
-fits_set : (n c c' id : ℕ) (views : List View) (w : View) → ((j : ℕ) (u : View) → get_elem? views j ≡ some u → Fits n c' u) → Fits n c' w
+fits_set : (n c c' id : ℕ) (views : List View) (w : View) →
+    ((j : ℕ) (u : View) → get_elem? views j ≡ some u → Fits n c' u) → Fits n c' w
     → (j : ℕ) (u : View) → get_elem? (set views id w) j ≡ some u → Fits n c' u
 fits_set n c c' id views w others new j u at =
-    ⊎_elim (λ (t : (j ≡ id) × (w ≡ u)). subst (Fits n c') t.1 new) (λ (t : (j ≢ id) × (get_elem? views j ≡ some u)). others j u t.1) (at_set views id j w u at)
+    ⊎_elim (λ (t : (j ≡ id) × (w ≡ u)). subst (Fits n c') t.1 new)
+    (λ (t : (j ≢ id) × (get_elem? views j ≡ some u)). others j u t.1) (at_set views id j w u at)
 
 drew_below : (n c id : ℕ) (views : List View) (v : View) → HoldsWhile n c views → get_elem? views id ≡ some v → c < n
-    → 0 < v.shares → v.spent ≡ false → HoldsWhile n (c + 1) (set views id (view v.limit (v.drawn ++ c ∷ []) v.shares v.spent))
+    → 0 < v.shares → v.spent ≡ false → HoldsWhile n (c + 1)
+    (set views id (view v.limit (v.drawn ++ c ∷ []) v.shares v.spent))
 drew_below n c id views v k at below some_shares free =
     let w = view v.limit (v.drawn ++ c ∷ []) v.shares v.spent in
     let old = k.fits id v at in record {
@@ -85,7 +92,8 @@ in_range (x ∷ xs) (suc i) v e = let r = in_range xs i v e in omega arith
 limit_stays : (c : ℕ) (v : View) → (drawn_at c v).limit ≡ v.limit
 limit_stays c v = go (nat_lt c v.limit)
   where
-    go : (b : Bool) → (cond b (view v.limit (v.drawn ++ c ∷ []) v.shares v.spent) (view v.limit v.drawn v.shares true)).limit ≡ v.limit
+    go : (b : Bool) → (cond b (view v.limit (v.drawn ++ c ∷ []) v.shares v.spent)
+        (view v.limit v.drawn v.shares true)).limit ≡ v.limit
     go true = refl
     go false = refl
 
@@ -99,7 +107,8 @@ few n c id views v k at = pigeons n v.drawn (λ x.
     omega arith)
 
 -- one draw
-pub draws : (n slots id : ℕ) (me : M) → n < 2 ^ 32 → 0 < me.0.shares → me.0.limit ≡ n → me.0.spent ≡ false → Allows (Rule n) slots id me 0 (λ c. (c + 1) % 2 ^ 64) (Drew (step slots 0 1 0 none) me)
+pub draws : (n slots id : ℕ) (me : M) → n < 2 ^ 32 → 0 < me.0.shares → me.0.limit ≡ n → me.0.spent ≡ false
+    → Allows (Rule n) slots id me 0 (λ c. (c + 1) % 2 ^ 64) (Drew (step slots 0 1 0 none) me)
 draws n slots id me small some_shares limit free s r _ at fits =
     let c : ℕ = get_or s.words 0 0 in
     let k = r.1 in
@@ -113,17 +122,27 @@ draws n slots id me small some_shares limit free s r _ at fits =
       keeps,
       tt,
       subst (λ m. Rule n (stepped s 0 m id me.1 w keeps)) next (placed n s (c + 1) id me w r kept),
-      (refl, refl, subst (λ m. length w.drawn ≤ m) (sym (limit_stays c me.0 ∙ limit)) (few n (c + 1) id (set s.views id w) w kept (set_here s.views id w (in_range s.views id me.0 at)))),
+      (
+        refl,
+        refl,
+        subst (λ m. length w.drawn ≤ m) (sym (limit_stays c me.0 ∙ limit))
+            (few n (c + 1) id (set s.views id w) w kept (set_here s.views id w (in_range s.views id me.0 at))),
+      ),
     )
   where
-    go : (c : ℕ) → HoldsWhile n c s.views → Tested (nat_lt c me.0.limit) → HoldsWhile n (c + 1) (set s.views id (drawn_at c me.0))
+    go : (c : ℕ) → HoldsWhile n c s.views → Tested (nat_lt c me.0.limit)
+        → HoldsWhile n (c + 1) (set s.views id (drawn_at c me.0))
     go c k (hit h) =
         let below : c < n = grind (arith, nat_tests) in
-        subst (λ b. HoldsWhile n (c + 1) (set s.views id (cond b (view me.0.limit (me.0.drawn ++ c ∷ []) me.0.shares me.0.spent) (view me.0.limit me.0.drawn me.0.shares true)))) (sym h)
+        subst (λ b. HoldsWhile n (c + 1) (set s.views id (cond b
+        (view me.0.limit (me.0.drawn ++ c ∷ []) me.0.shares me.0.spent)
+        (view me.0.limit me.0.drawn me.0.shares true)))) (sym h)
         (drew_below n c id s.views me.0 k at below some_shares free)
     go c k (miss h) =
         let past : n ≤ c = grind (arith, nat_tests) in
-        subst (λ b. HoldsWhile n (c + 1) (set s.views id (cond b (view me.0.limit (me.0.drawn ++ c ∷ []) me.0.shares me.0.spent) (view me.0.limit me.0.drawn me.0.shares true)))) (sym h)
+        subst (λ b. HoldsWhile n (c + 1) (set s.views id (cond b
+        (view me.0.limit (me.0.drawn ++ c ∷ []) me.0.shares me.0.spent)
+        (view me.0.limit me.0.drawn me.0.shares true)))) (sym h)
         (drew_past n c id s.views me.0 k at past some_shares free)
 
 -- a load that counts the shares
@@ -135,12 +154,14 @@ counts n slots id me s r _ at fits =
       me.0,
       keeps,
       tt,
-      placed n s (get_or s.words 0 0) id me me.0 r (subst (HoldsWhile n (get_or s.words 0 0)) (sym (set_again s.views id me.0 at)) k),
+      placed n s (get_or s.words 0 0) id me me.0 r (subst (HoldsWhile n (get_or s.words 0 0))
+          (sym (set_again s.views id me.0 at)) k),
       (refl, omega arith),
     )
 
 -- a seat is split
-pub splits : (n id part : ℕ) (v : View) → 0 < part → part < v.shares → Splits (Rule n) id v (remaining_part part v) (cut_part part v)
+pub splits : (n id part : ℕ) (v : View) → 0 < part → part < v.shares
+    → Splits (Rule n) id v (remaining_part part v) (cut_part part v)
 splits n id part v some_part fewer s r at =
     let k = r.1 in
     let c : ℕ = get_or s.words 0 0 in
@@ -156,8 +177,17 @@ splits n id part v some_part fewer s r at =
             let was = k.each_once x in
             omega arith;
         fits = λ j u there. ⊎_elim
-            (λ (e : get_elem? mid j ≡ some u). fits_set n c c id s.views l k.fits record { spent = old.spent; knows = λ h. old.knows (omega arith); idle = λ none. absurd (omega arith) } j u e)
-            (λ (e : o ≡ u). subst (Fits n c) e record { spent = old.spent; knows = λ h. old.knows (omega arith); idle = λ none. absurd (omega arith) })
+            (λ (e : get_elem? mid j ≡ some u). fits_set n c c id s.views l k.fits
+            record {
+              spent = old.spent;
+              knows = λ h. old.knows (omega arith);
+              idle = λ none. absurd (omega arith);
+            } j u e)
+            (λ (e : o ≡ u). subst (Fits n c) e record {
+              spent = old.spent;
+              knows = λ h. old.knows (omega arith);
+              idle = λ none. absurd (omega arith);
+            })
             (at_snoc mid o u j there);
         shares =
             let sum = total-set (λ u. u.shares) s.views id v l at in
@@ -178,7 +208,8 @@ splits n id part v some_part fewer s r at =
     live false = omega arith
 
 -- two seats become one
-pub joins : (n id other : ℕ) (v w : View) → 0 < v.shares → 0 < w.shares → Joins (Rule n) id v other w (both_parts v w) left_view
+pub joins : (n id other : ℕ) (v w : View) → 0 < v.shares → 0 < w.shares
+    → Joins (Rule n) id v other w (both_parts v w) left_view
 joins n id other v w some_shares others s r at apart there =
     let k = r.1 in
     let c : ℕ = get_or s.words 0 0 in
@@ -196,7 +227,12 @@ joins n id other v w some_shares others s r at apart there =
             let was = k.each_once x in
             omega arith;
         fits = fits_set n c c other mid left_view
-            (fits_set n c c id s.views b k.fits record { spent = λ e. either_spent v.spent w.spent old.spent older.spent e; knows = λ h. old.knows some_shares; idle = λ none. absurd (omega arith) })
+            (fits_set n c c id s.views b k.fits record {
+              spent = λ e. either_spent v.spent w.spent old.spent
+                  older.spent e;
+              knows = λ h. old.knows some_shares;
+              idle = λ none. absurd (omega arith);
+            })
             record { spent = λ e. absurd (cc); knows = λ h. absurd (omega arith); idle = λ none. (refl, refl) };
         shares =
             let sum = total-set (λ u. u.shares) s.views id v b at in
@@ -222,14 +258,16 @@ joins n id other v w some_shares others s r at apart there =
     live false false = omega arith
 
 -- the seat with all shares knows all numbers
-pub closes : (n id : ℕ) (v : View) (words : List ℕ) (xs : List (Unit {0})) → Final (Seen (Rule n) id v) words xs → v.shares ≡ 64
+pub closes : (n id : ℕ) (v : View) (words : List ℕ) (xs : List (Unit {0})) → Final (Seen (Rule n) id v) words xs
+    → v.shares ≡ 64
     → ((x : ℕ) → times x v.drawn ≡ once_below x (min (get_or words 0 0) n)) × (v.spent ≡ true → n ≤ get_or words 0 0)
 closes n id v words xs final whole =
     let s = final.0 in
     let k = final.1.0.1 in
     let at = final.1.1 in
     let same : get_or s.words 0 0 ≡ get_or words 0 0 = ap (λ l. get_or l 0 0) final.2 in (
-      (λ x. sym (total-one (λ u. times x u.drawn) (λ u. u.shares) s.views id v (λ j u there none. ap (times x) ((k.fits j u there).idle none).0) at (k.shares ∙ sym whole))
+      (λ x. sym (total-one (λ u. times x u.drawn) (λ u. u.shares) s.views id v
+          (λ j u there none. ap (times x) ((k.fits j u there).idle none).0) at (k.shares ∙ sym whole))
           ∙ k.each_once x ∙ ap (λ c. once_below x (min c n)) same),
       (λ e. subst (λ c. n ≤ c) same ((k.fits id v at).spent e)),
     )

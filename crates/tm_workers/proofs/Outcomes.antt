@@ -52,22 +52,27 @@ is_fixed (FixedWord c d) = true
 is_fixed BeyondWord = false
 
 -- what an answer and its word say determines both
-same_found : (s a b : List Gf) (x y : Answer) → found x (numbers a) ≡ found y (numbers b) → (x ≡ Beyond → a ≡ s) → (y ≡ Beyond → b ≡ s) → (x ≡ y) × (a ≡ b)
+same_found : (s a b : List Gf) (x y : Answer) → found x (numbers a) ≡ found y (numbers b) → (x ≡ Beyond → a ≡ s)
+    → (y ≡ Beyond → b ≡ s) → (x ≡ y) × (a ≡ b)
 same_found s a b (Fixed d) (Fixed d') e h k = (ap (λ n. Fixed (distance_of n)) e, same_numbers a b (ap word_of e))
 same_found s a b (Fixed d) Beyond e h k = let no = ap is_fixed e in absurd (cc)
 same_found s a b Beyond (Fixed d) e h k = let no = ap is_fixed e in absurd (cc)
 same_found s a b Beyond Beyond e h k = (refl, h refl ∙ sym (k refl))
 
-one_word : (code : Code) (repair : ℕ) (w a b : Word) → repair ≤ code.e → code.n ≤ 255 → Decodes code repair w a → Decodes code repair w b → a ≡ b
+one_word : (code : Code) (repair : ℕ) (w a b : Word) → repair ≤ code.e → code.n ≤ 255 → Decodes code repair w a
+    → Decodes code repair w b → a ≡ b
 one_word code repair w a b bound short h k =
     let n = code.n in
-    let only = nearest_only code.e repair (numbers (take n w.symbols)) (found h.answer (numbers (take n a.symbols))) (found k.answer (numbers (take n b.symbols))) bound (short_prefix n w.symbols short) h.nearest k.nearest in
-    let same = same_found (take n w.symbols) (take n a.symbols) (take n b.symbols) h.answer k.answer only h.unchanged k.unchanged in
+    let only = nearest_only code.e repair (numbers (take n w.symbols)) (found h.answer (numbers (take n a.symbols)))
+    (found k.answer (numbers (take n b.symbols))) bound (short_prefix n w.symbols short) h.nearest k.nearest in
+    let same = same_found (take n w.symbols) (take n a.symbols)
+    (take n b.symbols) h.answer k.answer only h.unchanged k.unchanged in
     let symbols = same_parts n w.symbols a.symbols b.symbols same.1 h.after k.after in
     let answer = h.answered ∙ ap Some same.0 ∙ sym k.answered in
     (λ i. record { symbols = symbols i; answer = answer i })
 
-pub one_batch : (code : Code) (repair : ℕ) (words a b : List Word) → repair ≤ code.e → code.n ≤ 255 → EachBecomes (Decodes code repair) words a → EachBecomes (Decodes code repair) words b → a ≡ b
+pub one_batch : (code : Code) (repair : ℕ) (words a b : List Word) → repair ≤ code.e → code.n ≤ 255
+    → EachBecomes (Decodes code repair) words a → EachBecomes (Decodes code repair) words b → a ≡ b
 one_batch code repair [] [] [] bound short h k = refl
 one_batch code repair [] (x ∷ a) b bound short h k = absurd h
 one_batch code repair [] [] (y ∷ b) bound short h k = absurd k
@@ -96,24 +101,32 @@ abbrev is_fixed_erased : NearestErased → Bool
 is_fixed_erased (FixedErased c a b) = true
 is_fixed_erased BeyondErased = false
 
-same_found_erased : (s a b : List Gf) (x y : ErasedAnswer) → found_erased x (numbers a) ≡ found_erased y (numbers b) → (x ≡ BeyondBoth → a ≡ s) → (y ≡ BeyondBoth → b ≡ s) → (x ≡ y) × (a ≡ b)
-same_found_erased s a b (FixedBoth d f) (FixedBoth d' f') e h k = (ap (λ n. FixedBoth (outside_of n) (inside_of n)) e, same_numbers a b (ap erased_word_of e))
+same_found_erased : (s a b : List Gf) (x y : ErasedAnswer) → found_erased x (numbers a) ≡ found_erased y (numbers b)
+    → (x ≡ BeyondBoth → a ≡ s) → (y ≡ BeyondBoth → b ≡ s) → (x ≡ y) × (a ≡ b)
+same_found_erased s a b (FixedBoth d f) (FixedBoth d' f') e h k =
+    (ap (λ n. FixedBoth (outside_of n) (inside_of n)) e, same_numbers a b (ap erased_word_of e))
 same_found_erased s a b (FixedBoth d f) BeyondBoth e h k = let no = ap is_fixed_erased e in absurd (cc)
 same_found_erased s a b BeyondBoth (FixedBoth d f) e h k = let no = ap is_fixed_erased e in absurd (cc)
 same_found_erased s a b BeyondBoth BeyondBoth e h k = (refl, h refl ∙ sym (k refl))
 
-one_erased_word : (code : Code) (repair : ℕ) (w a b : ErasedWord) → code.n ≤ 255 → length w.erased ≡ length w.symbols → DecodesErased code repair w a → DecodesErased code repair w b → a ≡ b
+one_erased_word : (code : Code) (repair : ℕ) (w a b : ErasedWord) → code.n ≤ 255 → length w.erased ≡ length w.symbols
+    → DecodesErased code repair w a → DecodesErased code repair w b → a ≡ b
 one_erased_word code repair w a b short flags h k =
     let n = code.n in
-    let long : length (take n w.erased) ≡ length (numbers (take n w.symbols)) = omega (arith, length-take n w.erased, length-take n w.symbols, length-numbers (take n w.symbols), flags) in
-    let only = nearest_erased_only code.e repair (take n w.erased) (numbers (take n w.symbols)) (found_erased h.answer (numbers (take n a.symbols))) (found_erased k.answer (numbers (take n b.symbols))) long (short_prefix n w.symbols short) h.nearest k.nearest in
-    let same = same_found_erased (take n w.symbols) (take n a.symbols) (take n b.symbols) h.answer k.answer only h.unchanged k.unchanged in
+    let long : length (take n w.erased) ≡ length (numbers (take n w.symbols)) =
+    omega (arith, length-take n w.erased, length-take n w.symbols, length-numbers (take n w.symbols), flags) in
+    let only = nearest_erased_only code.e repair (take n w.erased) (numbers (take n w.symbols))
+    (found_erased h.answer (numbers (take n a.symbols))) (found_erased k.answer (numbers (take n b.symbols))) long
+    (short_prefix n w.symbols short) h.nearest k.nearest in
+    let same = same_found_erased (take n w.symbols) (take n a.symbols)
+    (take n b.symbols) h.answer k.answer only h.unchanged k.unchanged in
     let symbols = same_parts n w.symbols a.symbols b.symbols same.1 h.after k.after in
     let erased = h.erased ∙ sym k.erased in
     let answer = h.answered ∙ ap Some same.0 ∙ sym k.answered in
     (λ i. record { symbols = symbols i; erased = erased i; answer = answer i })
 
-pub one_erased_batch : (code : Code) (repair : ℕ) (words a b : List ErasedWord) → code.n ≤ 255 → All (λ w. length w.erased ≡ length w.symbols) words
+pub one_erased_batch : (code : Code) (repair : ℕ) (words a b : List ErasedWord) → code.n ≤ 255
+    → All (λ w. length w.erased ≡ length w.symbols) words
     → EachBecomes (DecodesErased code repair) words a → EachBecomes (DecodesErased code repair) words b → a ≡ b
 one_erased_batch code repair [] [] [] short flags h k = refl
 one_erased_batch code repair [] (x ∷ a) b short flags h k = absurd h

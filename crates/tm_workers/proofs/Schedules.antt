@@ -5,7 +5,8 @@ use Rattle.std.specs.List.{range_with_len}
 use Rattle.tm_workers.specs.Numbers.{times, once_below}
 use Rattle.tm_workers.specs.Schedule.{given_from, values}
 
-values-from : (first : ℕ) (schedule : List ℕ) → map (λ g. g.1) (given_from first schedule) ≡ range_with_len first (length schedule)
+values-from : (first : ℕ) (schedule : List ℕ) → map (λ g. g.1) (given_from first schedule)
+    ≡ range_with_len first (length schedule)
 values-from first [] = refl
 values-from first (w ∷ ws) = ap (λ l. first ∷ l) (values-from (first + 1) ws)
 
@@ -19,7 +20,8 @@ range-once x first (suc n) =
     let r = range-once x (first + 1) n in
     let here : once_below x (first + 1) ≡ once_below x first + cond (first == x) 1 0 = grind (arith, nat_tests) in
     let there : first + 1 + n ≡ first + suc n = omega arith in
-    let r' : times x (range_with_len (first + 1) n) + once_below x (first + 1) ≡ once_below x (first + suc n) = r ∙ ap (once_below x) there in
+    let r' : times x (range_with_len (first + 1) n) + once_below x (first + 1) ≡ once_below x (first + suc n) = r
+    ∙ ap (once_below x) there in
     omega arith
 
 -- each number below the schedule's length is given once, and no other

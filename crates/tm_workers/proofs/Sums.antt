@@ -22,14 +22,16 @@ module _ {A : Type 0} (f : A → ℕ) where
 
 -- where one element has all of g, and f is 0 where g is, f adds up to that of this element
 module _ {A : Type 0} (f g : A → ℕ) where
-  pub total-none : (l : List A) → ((i : ℕ) (v : A) → get_elem? l i ≡ some v → g v ≡ 0 → f v ≡ 0) → total g l ≡ 0 → total f l ≡ 0
+  pub total-none : (l : List A) → ((i : ℕ) (v : A) → get_elem? l i ≡ some v → g v ≡ 0 → f v ≡ 0) → total g l ≡ 0
+      → total f l ≡ 0
   total-none [] h e = refl
   total-none (x ∷ xs) h e =
       let first = h 0 x refl (omega arith) in
       let rest = total-none xs (λ i v at. h (suc i) v at) (omega arith) in
       omega arith
 
-  pub total-one : (l : List A) (i : ℕ) (v : A) → ((j : ℕ) (u : A) → get_elem? l j ≡ some u → g u ≡ 0 → f u ≡ 0) → get_elem? l i ≡ some v → total g l ≡ g v → total f l ≡ f v
+  pub total-one : (l : List A) (i : ℕ) (v : A) → ((j : ℕ) (u : A) → get_elem? l j ≡ some u → g u ≡ 0 → f u ≡ 0)
+      → get_elem? l i ≡ some v → total g l ≡ g v → total f l ≡ f v
   total-one [] i v h at e = absurd (some-ne-none v (sym at))
   total-one (x ∷ xs) zero v h at e =
       let same : x ≡ v = some-injective x v at in
@@ -75,7 +77,8 @@ length-without : (n : ℕ) (l : List ℕ) → length l ≡ times n l + length (w
 length-without n [] = omega arith
 length-without n (y ∷ ys) = let r = length-without n ys in go (y == n) r
   where
-    go : (b : Bool) → length ys ≡ times n ys + length (without n ys) → suc (length ys) ≡ cond b 1 0 + times n ys + length (cond b (without n ys) (y ∷ without n ys))
+    go : (b : Bool) → length ys ≡ times n ys + length (without n ys)
+        → suc (length ys) ≡ cond b 1 0 + times n ys + length (cond b (without n ys) (y ∷ without n ys))
     go true r = omega arith
     go false r = omega arith
 
@@ -83,7 +86,8 @@ times-without-le : (x n : ℕ) (l : List ℕ) → times x (without n l) ≤ time
 times-without-le x n [] = omega arith
 times-without-le x n (y ∷ ys) = let r = times-without-le x n ys in go (y == n) r
   where
-    go : (b : Bool) → times x (without n ys) ≤ times x ys → times x (cond b (without n ys) (y ∷ without n ys)) ≤ cond (y == x) 1 0 + times x ys
+    go : (b : Bool) → times x (without n ys) ≤ times x ys → times x (cond b (without n ys) (y ∷ without n ys))
+        ≤ cond (y == x) 1 0 + times x ys
     go true r = omega arith
     go false r = omega arith
 
@@ -96,7 +100,9 @@ times-without n (y ∷ ys) = let r = times-without n ys in go (y == n) refl r
     go false e r = let none : cond {A = ℕ} (y == n) 1 0 ≡ 0 = ap (λ (c : Bool). cond {A = ℕ} c 1 0) e in omega arith
 
 times-head : (y : ℕ) (ys : List ℕ) → 1 ≤ times y (y ∷ ys)
-times-head y ys = let here : (y == y) ≡ true = grind (arith, nat_tests) in let one : cond {A = ℕ} (y == y) 1 0 ≡ 1 = ap (λ (c : Bool). cond {A = ℕ} c 1 0) here in omega arith
+times-head y ys =
+    let here : (y == y) ≡ true = grind (arith, nat_tests) in let one : cond {A = ℕ} (y == y) 1 0 ≡ 1 =
+    ap (λ (c : Bool). cond {A = ℕ} c 1 0) here in omega arith
 
 pub pigeons : (n : ℕ) (l : List ℕ) → ((x : ℕ) → times x l ≤ once_below x n) → length l ≤ n
 pigeons zero [] h = omega arith

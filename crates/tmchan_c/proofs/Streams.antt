@@ -5,11 +5,13 @@ use Rattle.tmchan_c.specs.Refusal.{number_answer}
 use Rattle.tmchan_c.specs.Streams.{Opens, Wrote}
 use Rattle.tmchan_c.specs.declared.stream.Stream.{Stream}
 
-pub wrote : {T : Type 0} (count : Option ℕ) (answer : ℤ) (buffer items : List T) → answer ≡ number_answer None count → Fills count buffer items → Wrote answer buffer items
+pub wrote : {T : Type 0} (count : Option ℕ) (answer : ℤ) (buffer items : List T) → answer ≡ number_answer None count
+    → Fills count buffer items → Wrote answer buffer items
 wrote (Some count) answer buffer items is fills = (is ∙ ap pos fills.0, ap (λ n. take n buffer) (sym fills.0) ∙ fills.1)
 wrote None answer buffer items is fills = absurd fills
 
 -- what was opened is what was to be opened
-pub opens-as : (Is : Option Stream → Type 0) (answer : ℤ) (held : Option Stream) (stream : Stream) → Opens answer held (λ held. held ≡ Some stream) → Is (Some stream) → Opens answer held Is
+pub opens-as : (Is : Option Stream → Type 0) (answer : ℤ) (held : Option Stream) (stream : Stream)
+    → Opens answer held (λ held. held ≡ Some stream) → Is (Some stream) → Opens answer held Is
 opens-as Is answer (Some other) stream opens is = (opens.0, subst Is (sym opens.1) is)
 opens-as Is answer None stream opens is = opens

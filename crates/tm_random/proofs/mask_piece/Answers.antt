@@ -10,7 +10,8 @@ pub returns : goal.returns
 returns c =
     let before = c.args.piece.now in
     let are : AreOctets before = All-from_get_or (λ octet. octet < 256) before 0 (λ n within. search rules) in
-    ext_get_or 0 c.loop-k.piece (with_octets 0 before) (c.loop-k.auto.piece ∙ sym (length-with_octets 0 before)) (λ n within.
+    ext_get_or 0 c.loop-k.piece (with_octets 0 before) (c.loop-k.auto.piece ∙ sym (length-with_octets 0 before))
+    (λ n within.
     let inside : n < length before = omega (arith, c.loop-k.auto.piece) in
     let place : 8 * n ≡ 0 + 8 * n = omega arith in
     c.loop-k.invariant.done n (omega arith)

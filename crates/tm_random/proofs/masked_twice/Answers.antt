@@ -4,4 +4,7 @@ use Rattle.tm_random.proofs.Masks.{masked-twice}
 use Rattle.tm_random.proofs.masked_twice.Goals as goal
 
 pub returns : goal.returns
-returns c = masked-twice c.args.block.now (All-from_get_or (λ octet. octet < 256) c.args.block.now 0 (λ n within. let fits = c.type_inv.block n in omega arith))
+returns c =
+    masked-twice c.args.block.now
+    (All-from_get_or (λ octet. octet < 256) c.args.block.now 0
+    (λ n within. let fits = c.type_inv.block n in omega arith))

@@ -8,6 +8,10 @@ use Rattle.tm_base.proofs.outside.put_all.Goals as goal
 pub loop-done-preserved : goal.loop-done-preserved
 loop-done-preserved g c = record {
   within = grind (arith, common_steps);
-  taken = (rw (take_rest c.args.piece.now c.loop-done.done) at c.in-Ok.ensures.taken) ∙ ap (λ known. append_known known (take c.in-Ok.count (drop c.loop-done.done c.args.piece.now))) c.loop-done.invariant.taken ∙ append_known-take (g.O.Sink.taken c.args.out.now) c.loop-done.done c.in-Ok.count c.args.piece.now;
+  taken =
+      (rw (take_rest c.args.piece.now c.loop-done.done) at c.in-Ok.ensures.taken)
+      ∙ ap (λ known. append_known known (take c.in-Ok.count (drop c.loop-done.done c.args.piece.now)))
+      c.loop-done.invariant.taken
+      ∙ append_known-take (g.O.Sink.taken c.args.out.now) c.loop-done.done c.in-Ok.count c.args.piece.now;
   faults = grind (arith, common_steps);
 }

@@ -10,7 +10,8 @@ invariant-loop-place l = record {
   free : IfNone l.place (is_pending l.search ≡ false);
   first : l.from ≤ l.end;
   within : l.end ≤ length l.bits;
-  finds : (given : List Bool) (found : List Found) → length given + length l.bits ≤ 2 ^ 63 → SearchStandsFor l.fn.search l.fn.room given found
+  finds : (given : List Bool) (found : List Found) → length given + length l.bits ≤ 2 ^ 63
+      → SearchStandsFor l.fn.search l.fn.room given found
       → Finds l.search l.room (given ++ span l.from l.end (bits_in l.bits)) found l.place;
 }
 

@@ -11,7 +11,8 @@ invariant-loop-place l = record {
   free : IfNone l.place (is_pending l.search ≡ false);
   first : l.from ≤ l.end;
   within : l.end ≤ 8 * length l.octets;
-  finds : (given : List Bool) (found : List Found) → length given + 8 * length l.octets ≤ 2 ^ 63 → SearchStandsFor l.fn.search l.fn.room given found
+  finds : (given : List Bool) (found : List Found) → length given + 8 * length l.octets ≤ 2 ^ 63
+      → SearchStandsFor l.fn.search l.fn.room given found
       → Finds l.search l.room (given ++ span l.from l.end (bits_of l.octets)) found l.place;
 }
 

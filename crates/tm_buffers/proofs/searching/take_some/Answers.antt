@@ -13,13 +13,16 @@ returns-then-whole-gt0-clause-takes c = λ given found few stands.
     let aligned : c.args.from % 8 ≡ 0 = (c.whole_octets.ensures some).2 in
     let size : first + whole - first ≡ whole = omega arith in
     let octets = drop first c.args.octets.now in
-    let next = c.push_octets.ensures.stands c.args.room.now given found (omega (arith, few, length-take (first + whole - first) octets)) stands in
-    subst (λ (l : List Bool). SearchStandsFor c.push_octets.new.self c.args.room.now (given ++ l) found) (sym (span-octets c.args.from first whole c.args.octets.now (omega (arith, aligned))))
+    let next = c.push_octets.ensures.stands c.args.room.now given found
+    (omega (arith, few, length-take (first + whole - first) octets)) stands in
+    subst (λ (l : List Bool). SearchStandsFor c.push_octets.new.self c.args.room.now (given ++ l) found)
+    (sym (span-octets c.args.from first whole c.args.octets.now (omega (arith, aligned))))
     (subst (λ n. SearchStandsFor c.push_octets.new.self c.args.room.now
     (given ++ bits_of (take n octets)) found) size next)
 
 pub returns-clause-takes : goal.returns-clause-takes
 returns-clause-takes c = λ given found few stands.
     subst (λ (l : List Bool). SearchStandsFor c.push_bit.new.self c.push_bit.new.room (given ++ l) found)
-    (ap (λ b. b ∷ []) (masked-bit (7 - c.args.from % 8) _) ∙ sym (span-bit c.args.from c.args.octets.now c.requires.from))
+    (ap (λ b. b ∷ []) (masked-bit (7 - c.args.from % 8) _) ∙ sym
+    (span-bit c.args.from c.args.octets.now c.requires.from))
     (c.push_bit.ensures.stands given found (omega (arith, few)) stands)

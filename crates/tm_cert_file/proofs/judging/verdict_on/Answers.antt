@@ -15,7 +15,8 @@ loop-at-init c =
       place = omega (arith, none);
       within = omega (arith, none);
       stands = subst (λ (v : List (List ℕ)). CheckStandsFor c.new-check.result v)
-          (sym (ap (λ k. columns_in k c.args.columns.now) none ∙ columns_in-none c.args.columns.now)) c.new-check.ensures.stands;
+          (sym (ap (λ k. columns_in k c.args.columns.now) none ∙ columns_in-none c.args.columns.now))
+          c.new-check.ensures.stands;
     }
 
 pub column-requires : goal.column-requires
@@ -24,7 +25,10 @@ column-requires c =
     let below : count ≤ length c.args.bits.now = omega arith in
     let fits : steps_size c.args.rate c.args.first count ≤ length c.args.soft.now
     = omega (arith, c.requires.soft, steps_size-le c.args.rate c.args.first count (length c.args.bits.now) below) in
-    record { more = subst (λ (v : Claim). steps_size v.rate v.first count ≤ length v.soft) (sym c.loop-at.invariant.claim) fits }
+    record {
+      more = subst (λ (v : Claim). steps_size v.rate v.first count ≤ length v.soft)
+          (sym c.loop-at.invariant.claim) fits;
+    }
 
 pub loop-at-preserved : goal.loop-at-preserved
 loop-at-preserved c =
@@ -32,11 +36,14 @@ loop-at-preserved c =
     let columns = c.args.columns.now in
     let next : c.column.new.self.count ≡ count + 1 = c.column.ensures.count in
     let below : count < length c.args.bits.now + 1 = omega arith in
-    let more = columns_more c.loop-at.at (c.loop-at.at + 256 - c.loop-at.at) count c.read_column.result columns c.loop-at.invariant.place (omega arith) (omega arith) c.read_column.ensures in
+    let more = columns_more c.loop-at.at (c.loop-at.at + 256 - c.loop-at.at) count c.read_column.result columns
+    c.loop-at.invariant.place (omega arith) (omega arith) c.read_column.ensures in
     record {
       claim = c.column.ensures.claim ∙ c.loop-at.invariant.claim;
       place = omega (arith, next);
       within = omega (arith, next);
-      stands = subst (λ (v : List (List ℕ)). CheckStandsFor c.column.new.self v) (more ∙ ap (λ k. columns_in k columns) (sym next))
+      stands =
+          subst (λ (v : List (List ℕ)). CheckStandsFor c.column.new.self v)
+          (more ∙ ap (λ k. columns_in k columns) (sym next))
           (c.column.ensures.stands (columns_in count columns) c.loop-at.invariant.stands);
     }

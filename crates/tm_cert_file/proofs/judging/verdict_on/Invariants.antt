@@ -5,7 +5,13 @@ use Rattle.tm_cert_file.proofs.judging.verdict_on.Given as goal
 
 abbrev pub invariant-loop-at : goal.invariant-loop-at
 invariant-loop-at l = record {
-  claim : l.check.claim ≡ record { rate = l.fn.rate; invert = l.fn.invert; first = l.fn.first; starts = l.fn.starts; soft = l.fn.soft };
+  claim : l.check.claim ≡ record {
+    rate = l.fn.rate;
+    invert = l.fn.invert;
+    first = l.fn.first;
+    starts = l.fn.starts;
+    soft = l.fn.soft;
+  };
   place : l.at ≡ 256 * l.check.count;
   within : l.check.count ≤ length l.bits + 1;
   stands : CheckStandsFor l.check (columns_in l.check.count l.columns);

@@ -7,7 +7,8 @@ returns-clause-exists c = certificate-exists c.columns_law.ensures.exists
 
 pub returns-clause-first : goal.returns-clause-first
 returns-clause-first c rate invert keep ahead from to blocks closed =
-    certified-exists c.columns_law.ensures.exists rate invert from blocks (there-closed rate invert keep ahead from to blocks closed)
+    certified-exists c.columns_law.ensures.exists rate invert from blocks
+    (there-closed rate invert keep ahead from to blocks closed)
 
 pub returns-clause-one : goal.returns-clause-one
 returns-clause-one c = certified-one c.columns_law.ensures.one
@@ -30,12 +31,15 @@ returns-clause-closed c before now keep ahead to blocks taken taken_now wide far
 
 pub returns-clause-last : goal.returns-clause-last
 returns-clause-last c before now keep ahead steps blocks taken taken_now wide far few whole are wrote =
-    took-blocks before now blocks taken taken_now (fits-last before keep ahead steps blocks wide far few whole are) wrote
+    took-blocks before now blocks taken taken_now (fits-last before keep ahead steps blocks wide far few whole are)
+    wrote
 
 pub returns-clause-closed_prefix : goal.returns-clause-closed_prefix
 returns-clause-closed_prefix c before keep ahead to blocks taken taken_now wide far few closed part =
-    took-blocks_prefix c.columns_law.ensures.exists before blocks taken taken_now (fits-closed before keep ahead to blocks wide far few closed) part
+    took-blocks_prefix c.columns_law.ensures.exists before blocks taken taken_now
+    (fits-closed before keep ahead to blocks wide far few closed) part
 
 pub returns-clause-last_prefix : goal.returns-clause-last_prefix
 returns-clause-last_prefix c before keep ahead steps blocks taken taken_now wide far few whole are part =
-    took-blocks_prefix c.columns_law.ensures.exists before blocks taken taken_now (fits-last before keep ahead steps blocks wide far few whole are) part
+    took-blocks_prefix c.columns_law.ensures.exists before blocks taken taken_now
+    (fits-last before keep ahead steps blocks wide far few whole are) part

@@ -10,6 +10,8 @@ loop-s-init c = record { long = refl; prefix = refl }
 pub loop-s-preserved : goal.loop-s-preserved
 loop-s-preserved c = record {
   long = length-set c.loop-s.column c.loop-s.s c.read_u32.result ∙ c.loop-s.invariant.long;
-  prefix = column_more c.loop-s.s (4 * c.loop-s.s + 4 - 4 * c.loop-s.s) c.read_u32.result c.loop-s.column c.args.octets.now c.loop-s.invariant.long (omega arith) (omega arith)
+  prefix =
+      column_more c.loop-s.s (4 * c.loop-s.s + 4 - 4 * c.loop-s.s) c.read_u32.result c.loop-s.column c.args.octets.now
+      c.loop-s.invariant.long (omega arith) (omega arith)
       c.read_u32.ensures c.loop-s.invariant.prefix;
 }

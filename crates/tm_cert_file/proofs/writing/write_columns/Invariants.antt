@@ -11,7 +11,8 @@ invariant-loop-at g l = record {
   t : l.t ≡ l.first + l.sums.steps;
   began : (l.sums.rate ≡ l.rate) × (l.sums.invert ≡ l.invert) × (l.sums.first ≡ l.first) × (l.sums.start ≡ l.fn.start);
   stands : SumsFor l.sums (take l.at l.octets);
-  took : TookColumns l.rate l.invert l.fn.start l.first l.sums.steps l.octets (g.O.Sink.taken l.fn.out) (g.O.Sink.taken l.out);
+  took : TookColumns l.rate l.invert l.fn.start l.first l.sums.steps l.octets (g.O.Sink.taken l.fn.out)
+      (g.O.Sink.taken l.out);
   faults : g.O.Sink.faults l.out ≡ g.O.Sink.faults l.fn.out;
 }
 

@@ -12,8 +12,10 @@ returns-in-Err-clause-part g c =
       c.loop-i.i + 1,
       was.0 ++ item ∷ [],
       items-for-more b.config b.stored c.loop-i.i was.0 item (omega arith) was.1 c.item-item.ensures,
-      HandedPart-after g.T.ItemTaker.took g.T.ItemTaker.broke c.args.taker.now c.loop-i.taker c.item.new.self was.0 (item ∷ []) was.2
-          (HandedPart-first g.T.ItemTaker.took g.T.ItemTaker.broke c.loop-i.taker c.item.new.self item [] c.in-Err.ensures.err),
+      HandedPart-after g.T.ItemTaker.took g.T.ItemTaker.broke c.args.taker.now c.loop-i.taker c.item.new.self was.0
+          (item ∷ []) was.2
+          (HandedPart-first g.T.ItemTaker.took g.T.ItemTaker.broke c.loop-i.taker c.item.new.self item []
+          c.in-Err.ensures.err),
     )
 
 pub loop-i-preserved : goal.loop-i-preserved
@@ -25,6 +27,7 @@ loop-i-preserved g c =
       handed = (
         was.0 ++ item ∷ [],
         items-for-more b.config b.stored c.loop-i.i was.0 item (omega arith) was.1 c.item-item.ensures,
-        HandedOver-push g.T.ItemTaker.took c.args.taker.now c.loop-i.taker c.item.new.self was.0 item was.2 c.in-Ok.ensures.ok,
+        HandedOver-push g.T.ItemTaker.took c.args.taker.now c.loop-i.taker c.item.new.self was.0 item was.2
+            c.in-Ok.ensures.ok,
       );
     }

@@ -7,6 +7,7 @@ use Rattle.tm_channel.proofs.column_words.write_frame.Given as goal
 
 abbrev pub invariant-loop-i : goal.invariant-loop-i
 invariant-loop-i l = record {
-  written : (j : ℕ) (d : Word) → j < l.i → column l.depth j l.frame ≡ map (sent_octet l.basis) (numbers (take l.size (get_or l.words j d).symbols));
+  written : (j : ℕ) (d : Word) → j < l.i → column l.depth j l.frame
+      ≡ map (sent_octet l.basis) (numbers (take l.size (get_or l.words j d).symbols));
   long : length l.frame ≡ length l.initial.frame;
 }

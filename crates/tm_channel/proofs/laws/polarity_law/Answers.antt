@@ -13,4 +13,5 @@ pub returns-clause-phase : goal.returns-clause-phase
 returns-clause-phase c = phase-complemented c.best_path_law.ensures.exists c.complement_law.ensures
 
 pub returns-clause-totals : goal.returns-clause-totals
-returns-clause-totals c = totals-complemented c.best_path_law.ensures.exists c.complement_law.ensures c.complemented_blocks_law.ensures
+returns-clause-totals c =
+    totals-complemented c.best_path_law.ensures.exists c.complement_law.ensures c.complemented_blocks_law.ensures

@@ -27,11 +27,13 @@ taker_alone Stopped h = absurd (h refl)
 pub returns-in_default-feed-clause-prefix : goal.returns-in_default-feed-clause-prefix
 returns-in_default-feed-clause-prefix g c = λ _.
     let fresh = c.in-Ok.ensures.fresh in
-    let fed = c.in_default-feed.ensures.prefix (taker_alone c.in_default-feed.field-0 (λ is. (let stopped = c.in_default-feed.ensures.call.stopped.0 is in absurd cc))) in
+    let fed = c.in_default-feed.ensures.prefix (taker_alone c.in_default-feed.field-0
+    (λ is. (let stopped = c.in_default-feed.ensures.call.stopped.0 is in absurd cc))) in
     let octets = c.args.octets.now in (
       fed.0,
       fed.1,
-      λ few. inl (subst (λ (k : Configuration). AreReceivedFirst k octets fed.0) c.in-Ok.ensures.config (fed.2 [] [] (omega (arith, few)) c.in-Ok.ensures.stands)),
+      λ few. inl (subst (λ (k : Configuration). AreReceivedFirst k octets fed.0) c.in-Ok.ensures.config
+          (fed.2 [] [] (omega (arith, few)) c.in-Ok.ensures.stands)),
     )
 
 pub returns-clause-prefix : goal.returns-clause-prefix
@@ -39,16 +41,20 @@ returns-clause-prefix g c = λ _.
     let fed = c.in-Ok-feed.ensures.handed in
     let none : IsTrue c.feed.new.self.has_stopped → ⊥ = λ stopped. c.in-Ok-feed.ensures.stops.0 stopped in
     let octets = c.args.octets.now in
-    let last = c.in-Err.ensures.prefix (taker_alone c.in-Err.field-0 (λ is. none (c.in-Err.ensures.call.stopped.0 is))) in (
+    let last = c.in-Err.ensures.prefix (taker_alone c.in-Err.field-0
+    (λ is. none (c.in-Err.ensures.call.stopped.0 is))) in (
       fed.0 ++ last.0,
       HandedPart-after _ _ c.args.taker.now c.feed.new.taker c.finish.new.taker fed.0 last.0 fed.1 last.1,
       λ few.
           let stands = (fed.2 [] [] (omega (arith, few)) c.in-Ok.ensures.stands).0 in
-          inr (subst (λ (k : Configuration). AreReceivedPrefix k octets (fed.0 ++ last.0)) (c.feed.ensures.config ∙ c.in-Ok.ensures.config) (last.2 octets fed.0 stands)),
+          inr (subst (λ (k : Configuration). AreReceivedPrefix k octets (fed.0 ++ last.0))
+          (c.feed.ensures.config ∙ c.in-Ok.ensures.config) (last.2 octets fed.0 stands)),
     )
 
 pub returns-clause-rose : goal.returns-clause-rose
 returns-clause-rose g c = λ _.
     let none : IsTrue c.feed.new.self.has_stopped → ⊥ = λ stopped. c.in-Ok-feed.ensures.stops.0 stopped in
-    let rose = c.in-Err.ensures.call.rose (taker_alone c.in-Err.field-0 (λ is. none (c.in-Err.ensures.call.stopped.0 is))) in
-    subst (λ (n : ℕ). Rose n (g.T.ItemTaker.faults c.finish.new.taker) (g.T.ItemTaker.is_last c.finish.new.taker)) (c.in-Ok-feed.ensures.call.same (λ e. absurd cc)) rose
+    let rose = c.in-Err.ensures.call.rose (taker_alone c.in-Err.field-0
+    (λ is. none (c.in-Err.ensures.call.stopped.0 is))) in
+    subst (λ (n : ℕ). Rose n (g.T.ItemTaker.faults c.finish.new.taker) (g.T.ItemTaker.is_last c.finish.new.taker))
+    (c.in-Ok-feed.ensures.call.same (λ e. absurd cc)) rose

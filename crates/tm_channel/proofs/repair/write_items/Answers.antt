@@ -11,9 +11,16 @@ loop-index-preserved c =
     let config = c.args.config.now in
     let l = c.loop-index in record {
       stored = map-set_same (stored_in (codeblock_length config)) l.slots l.index c.write_item.new.self _
-          (λ k. record { found = c.write_item.ensures.found k; codeblock = take (codeblock_length config) (c.write_item.ensures.octets k) }) ∙ l.invariant.stored;
-      rest = λ j slot above. get_or-set_other l.slots l.index j c.write_item.new.self slot (λ e. absurd (omega arith)) ∙ l.invariant.rest j slot (omega arith);
-      done = item-more config c.args.slots.now l.slots l.index c.write_item.new.self _ c.loop-index-test.true l.auto.slots (l.invariant.rest l.index _ (omega arith)) c.write_item.ensures.item l.invariant.done;
+          (λ k. record {
+            found = c.write_item.ensures.found k;
+            codeblock = take (codeblock_length config) (c.write_item.ensures.octets k);
+          }) ∙ l.invariant.stored;
+      rest =
+          λ j slot above. get_or-set_other l.slots l.index j c.write_item.new.self slot (λ e. absurd (omega arith))
+          ∙ l.invariant.rest j slot (omega arith);
+      done =
+          item-more config c.args.slots.now l.slots l.index c.write_item.new.self _ c.loop-index-test.true
+          l.auto.slots (l.invariant.rest l.index _ (omega arith)) c.write_item.ensures.item l.invariant.done;
     }
 
 pub returns-clause-items : goal.returns-clause-items

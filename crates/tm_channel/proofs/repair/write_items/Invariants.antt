@@ -11,5 +11,6 @@ invariant-loop-index l = record {
       ≡ map (stored_in (codeblock_length l.config)) l.initial.slots;
   rest : (j : ℕ) (slot : Slot) → l.index ≤ j → get_or l.slots j slot ≡ get_or l.initial.slots j slot;
   done : (j : ℕ) (slot : Slot) → j < l.index
-      → IsItem l.config (get_or l.initial.slots j slot).found (codeblock_in_slot l.config l.initial.slots j slot) (item_in l.config (get_or l.slots j slot));
+      → IsItem l.config (get_or l.initial.slots j slot).found (codeblock_in_slot l.config l.initial.slots j slot)
+      (item_in l.config (get_or l.slots j slot));
 }

@@ -11,5 +11,7 @@ returns-clause-room g c =
 pub returns-clause-ends : goal.returns-clause-ends
 returns-clause-ends g c =
     let h = c.finish.ensures.handed in
-    subst (λ (n : ℕ). Ends c.args.inner.now n c.finish.new.kept.phase (map (λ bit. bit == 1) c.finish.new.kept.bits) c.finish.result) (ap (λ (k : Keeping). k.size) c.clear.ensures)
-    (ends-kept c.args.inner.now c.clear.new.self c.finish.new.kept c.finish.result h.0 h.1 h.2 (ap (λ (k : Keeping). k.bits) c.clear.ensures) (ap (λ (k : Keeping). k.phase) c.clear.ensures) h.3)
+    subst (λ (n : ℕ). Ends c.args.inner.now n c.finish.new.kept.phase
+    (map (λ bit. bit == 1) c.finish.new.kept.bits) c.finish.result) (ap (λ (k : Keeping). k.size) c.clear.ensures)
+    (ends-kept c.args.inner.now c.clear.new.self c.finish.new.kept c.finish.result h.0 h.1 h.2
+    (ap (λ (k : Keeping). k.bits) c.clear.ensures) (ap (λ (k : Keeping). k.phase) c.clear.ensures) h.3)

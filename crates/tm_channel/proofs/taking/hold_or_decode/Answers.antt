@@ -14,8 +14,10 @@ use Rattle.tm_channel.proofs.taking.hold_or_decode.Goals as goal
 pub returns-then-bits_due-spare-clause-waits : goal.returns-then-bits_due-spare-clause-waits
 returns-then-bits_due-spare-clause-waits g c = λ _.
     let t = c.gather-taken in (
-      ap (λ (k : Configuration). is_some k.inner) (sym t.ensures.config) ∙ sym c.has_inner_code.ensures ∙ c.if-has_inner_code.true,
-      gathered-all c.args.inner.now t.new.inner c.args.octets.now t.result c.bits_due.result c.args.spare t.ensures.config c.if-taken-octets.true c.if-bits_due-spare.true t.ensures.gathered c.bits_due.ensures.due,
+      ap (λ (k : Configuration). is_some k.inner) (sym t.ensures.config) ∙ sym c.has_inner_code.ensures
+          ∙ c.if-has_inner_code.true,
+      gathered-all c.args.inner.now t.new.inner c.args.octets.now t.result c.bits_due.result c.args.spare
+          t.ensures.config c.if-taken-octets.true c.if-bits_due-spare.true t.ensures.gathered c.bits_due.ensures.due,
     )
 
 pub returns-clause-room : goal.returns-clause-room
@@ -31,8 +33,13 @@ returns-clause-grows g c = λ _.
     let octets = c.args.octets.now in
     let taken = c.gather-taken.result in
     let h = c.feed.ensures.handed in
-    let fed = subst (λ (l : List ℕ). (given : List ℕ) (done : List (Handed WindowBlock)) → length given + length l < 2 ^ 60 → InnerReceiverStandsFor middle given done
-    → InnerReceiverStandsFor now (given ++ l) (done ++ h.0) × AreHandedDue middle.config (given ++ l) (done ++ h.0)) (take_rest octets taken) h.2 in
-    subst (λ (n : ℕ). Grows inner now n octets c.feed.new.kept.phase (received_bits inner c.feed.new.kept.bits octets)) (ap (λ (k : Keeping). k.size) c.clear.ensures)
-    (grows-kept inner now c.clear.new.self c.feed.new.kept octets h.0 h.1 (ap (λ (k : Keeping). k.bits) c.clear.ensures) (ap (λ (k : Keeping). k.phase) c.clear.ensures)
-    (gathered-fed inner middle now octets taken h.0 c.gather-taken.ensures.config c.gather-taken.ensures.most c.gather-taken.ensures.gathered fed))
+    let fed = subst (λ (l : List ℕ). (given : List ℕ) (done : List (Handed WindowBlock))
+    → length given + length l < 2 ^ 60 → InnerReceiverStandsFor middle given done
+    → InnerReceiverStandsFor now (given ++ l) (done ++ h.0) × AreHandedDue middle.config (given ++ l) (done ++ h.0))
+    (take_rest octets taken) h.2 in
+    subst (λ (n : ℕ). Grows inner now n octets c.feed.new.kept.phase
+    (received_bits inner c.feed.new.kept.bits octets)) (ap (λ (k : Keeping). k.size) c.clear.ensures)
+    (grows-kept inner now c.clear.new.self c.feed.new.kept octets h.0 h.1
+    (ap (λ (k : Keeping). k.bits) c.clear.ensures) (ap (λ (k : Keeping). k.phase) c.clear.ensures)
+    (gathered-fed inner middle now octets taken h.0 c.gather-taken.ensures.config c.gather-taken.ensures.most
+    c.gather-taken.ensures.gathered fed))

@@ -16,7 +16,9 @@ loop-done-init g c = record {
   room = refl;
   stream = refl;
   faults = refl;
-  handed = stages-none (on_handed g.T.ItemTaker.took_phase g.T.ItemTaker.took) (record { inner = c.args.inner.now; bits = c.args.stream.now }) c.args.taker.now;
+  handed =
+      stages-none (on_handed g.T.ItemTaker.took_phase g.T.ItemTaker.took)
+      (record { inner = c.args.inner.now; bits = c.args.stream.now }) c.args.taker.now;
 }
 
 pub loop-done-preserved : goal.loop-done-preserved
@@ -36,8 +38,11 @@ loop-done-preserved g c =
       room = c.take_piece.ensures.room ∙ i.room;
       stream = c.take_piece.ensures.stream ∙ i.stream;
       faults = c.in-Ok.ensures.cause.same ∙ i.faults;
-      handed = subst (StagesHand took start now c.args.taker.now c.take_piece.new.taker) (piece-joined at c.min.result octets)
-          (stages-more took start before now c.args.taker.now c.loop-done.taker c.take_piece.new.taker (take at octets) next i.handed c.in-Ok.ensures.handed);
+      handed =
+          subst (StagesHand took start now c.args.taker.now c.take_piece.new.taker)
+          (piece-joined at c.min.result octets)
+          (stages-more took start before now c.args.taker.now c.loop-done.taker c.take_piece.new.taker
+          (take at octets) next i.handed c.in-Ok.ensures.handed);
     }
 
 pub returns-in-Err : goal.returns-in-Err
@@ -53,8 +58,10 @@ returns-in-Err g c =
     let broke = on_handed g.T.ItemTaker.broke_phase g.T.ItemTaker.broke in
     let chosen = c.take_piece.new.inner.phased.chosen in
     let first = FirstWith c.args.inner.now.config chosen in
-    let part = subst (λ (k : Configuration). HandsPrefix took broke StagesFor (FirstWith k chosen) before c.loop-done.taker c.take_piece.new.taker next) i.inner c.in-Err.ensures.prefix in
-    let whole : (take at octets ++ next) ++ rest ≡ octets = ap (λ l. l ++ rest) (piece-joined at c.min.result octets) ∙ take-append-drop (at + c.min.result) octets in
+    let part = subst (λ (k : Configuration). HandsPrefix took broke StagesFor
+    (FirstWith k chosen) before c.loop-done.taker c.take_piece.new.taker next) i.inner c.in-Err.ensures.prefix in
+    let whole : (take at octets ++ next) ++ rest ≡ octets = ap (λ l. l ++ rest) (piece-joined at c.min.result octets)
+    ∙ take-append-drop (at + c.min.result) octets in
     record {
       inner = c.take_piece.ensures.inner ∙ i.inner;
       fresh = c.take_piece.ensures.fresh;
@@ -62,9 +69,12 @@ returns-in-Err g c =
       stream = c.take_piece.ensures.stream ∙ i.stream;
       handed = search rules;
       prefix = subst (HandsPrefix took broke StagesFor first start c.args.taker.now c.take_piece.new.taker) whole
-          (hands-longer took broke StagesFor first start c.args.taker.now c.take_piece.new.taker (take at octets ++ next) rest
-          (first_with-stays c.whole_window_law.ensures.prefix c.closed_prefix_law.ensures c.args.inner.now.config chosen)
-          (hands-prefix took broke StagesFor first start before c.args.taker.now c.loop-done.taker c.take_piece.new.taker (take at octets) next
+          (hands-longer took broke StagesFor first start c.args.taker.now c.take_piece.new.taker
+          (take at octets ++ next) rest
+          (first_with-stays c.whole_window_law.ensures.prefix c.closed_prefix_law.ensures c.args.inner.now.config
+          chosen)
+          (hands-prefix took broke StagesFor first start before c.args.taker.now c.loop-done.taker
+          c.take_piece.new.taker (take at octets) next
           (stages-hand took start before c.args.taker.now c.loop-done.taker (take at octets) i.handed) part));
       cause = search rules;
     }
@@ -79,7 +89,9 @@ returns g c =
       fresh = i.fresh;
       room = i.room;
       stream = i.stream;
-      handed = subst (StagesHand (on_handed g.T.ItemTaker.took_phase g.T.ItemTaker.took) start now c.args.taker.now c.loop-done.taker) (take_all c.loop-done.done c.args.octets.now c.loop-done-test.false)
+      handed =
+          subst (StagesHand (on_handed g.T.ItemTaker.took_phase g.T.ItemTaker.took) start now c.args.taker.now
+          c.loop-done.taker) (take_all c.loop-done.done c.args.octets.now c.loop-done-test.false)
           c.loop-done.invariant.handed;
       prefix = search rules;
       cause = search rules;

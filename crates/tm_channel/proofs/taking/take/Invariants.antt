@@ -11,7 +11,8 @@ invariant-loop-done g l = record {
   room : l.kept.size ≡ l.initial.kept.size;
   stream : l.stream.batch.config ≡ l.initial.stream.batch.config;
   faults : g.T.ItemTaker.faults l.taker ≡ g.T.ItemTaker.faults l.initial.taker;
-  handed : StagesHand (on_handed g.T.ItemTaker.took_phase g.T.ItemTaker.took) (record { inner = l.initial.inner; bits = l.initial.stream }) (record { inner = l.inner; bits = l.stream })
+  handed : StagesHand (on_handed g.T.ItemTaker.took_phase g.T.ItemTaker.took)
+      (record { inner = l.initial.inner; bits = l.initial.stream }) (record { inner = l.inner; bits = l.stream })
       l.initial.taker l.taker (take l.done l.octets);
 }
 

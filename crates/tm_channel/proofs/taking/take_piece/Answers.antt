@@ -9,11 +9,15 @@ use Rattle.tm_channel.proofs.GivenOctets.{first-chosen, found-none, found-some, 
 use Rattle.tm_channel.proofs.taking.take_piece.Goals as goal
 
 -- with no inner code the bits are those of the octets after the skipped ones
-found-after : (inner now : InnerReceiving) (skip : ℕ) (kept octets : List ℕ) → now.config ≡ inner.config → is_some inner.config.inner ≡ false
-    → skip ≡ inner.config.skip - plain_count inner.config inner.count → received_bits inner kept octets ≡ drop skip (plain_bits now.config octets)
+found-after : (inner now : InnerReceiving) (skip : ℕ) (kept octets : List ℕ) → now.config ≡ inner.config
+    → is_some inner.config.inner ≡ false
+    → skip ≡ inner.config.skip - plain_count inner.config inner.count
+    → received_bits inner kept octets ≡ drop skip (plain_bits now.config octets)
 found-after inner now skip kept octets same none is =
-    found-none inner.config inner.config.inner (inner.config.skip - plain_count inner.config inner.count) kept octets none
-    ∙ ap (λ n. drop n (plain_bits inner.config octets)) (sym is) ∙ ap (λ (k : Configuration). drop skip (plain_bits k octets)) (sym same)
+    found-none inner.config inner.config.inner (inner.config.skip - plain_count inner.config inner.count) kept octets
+    none
+    ∙ ap (λ n. drop n (plain_bits inner.config octets)) (sym is)
+    ∙ ap (λ (k : Configuration). drop skip (plain_bits k octets)) (sym same)
 
 -- the octets wait
 pub returns-then-waits-clause-handed : goal.returns-then-waits-clause-handed
@@ -21,7 +25,8 @@ returns-then-waits-clause-handed g c =
     let before : Stages = record { inner = c.args.inner.now; bits = c.args.stream.now } in
     let d = c.hold_or_decode-waits in
     let held = d.ensures.waits c.if-waits.true in
-    hands-wait (on_handed g.T.ItemTaker.took_phase g.T.ItemTaker.took) before d.new.inner c.args.taker.now c.args.octets.now c.spare.result
+    hands-wait (on_handed g.T.ItemTaker.took_phase g.T.ItemTaker.took) before d.new.inner c.args.taker.now
+    c.args.octets.now c.spare.result
     c.requires.of d.ensures.inner held.0 c.spare.ensures.value c.spare.ensures.most held.1
 
 -- the taker failed at the phase
@@ -34,9 +39,11 @@ returns-in-Err-clause-prefix g c =
     let room = c.args.kept.now.size in
     let bits = received_bits c.args.inner.now kept.bits octets in
     let grows = d.ensures.grows c.if-waits.false in
-    first-chosen (on_handed g.T.ItemTaker.took_phase g.T.ItemTaker.took) (on_handed g.T.ItemTaker.broke_phase g.T.ItemTaker.broke) before d.new.inner
+    first-chosen (on_handed g.T.ItemTaker.took_phase g.T.ItemTaker.took)
+    (on_handed g.T.ItemTaker.broke_phase g.T.ItemTaker.broke) before d.new.inner
     c.args.taker.now c.hand_phase.new.taker room octets kept.phase bits c.requires.room d.ensures.inner grows
-    (prefix-phase g.T.ItemTaker.took_phase g.T.ItemTaker.broke_phase g.T.ItemTaker.took g.T.ItemTaker.broke before d.new.inner c.args.taker.now c.hand_phase.new.taker room octets
+    (prefix-phase g.T.ItemTaker.took_phase g.T.ItemTaker.broke_phase g.T.ItemTaker.took g.T.ItemTaker.broke before
+    d.new.inner c.args.taker.now c.hand_phase.new.taker room octets
     kept.phase bits c.requires.of c.requires.room grows c.in-Err.ensures.prefix)
 
 pub returns-in-Err-take_bits-clause-prefix : goal.returns-in-Err-take_bits-clause-prefix
@@ -50,14 +57,18 @@ returns-in-Err-take_bits-clause-prefix g c =
     let is : is_some inner.config.inner ≡ true =
     ap (λ (k : Configuration). is_some k.inner) (sym d.ensures.inner) ∙ sym c.has_inner_code.ensures
     ∙ c.if-has_inner_code.true in
-    let same = found-some inner.config inner.config.inner (inner.config.skip - plain_count inner.config inner.count) kept.bits octets is
+    let same = found-some inner.config inner.config.inner (inner.config.skip - plain_count inner.config inner.count)
+    kept.bits octets is
     ∙ ap (map (λ bit. bit == 1)) (sym c.bits.ensures) in
     let grows = subst (Grows inner d.new.inner room octets kept.phase) same (d.ensures.grows c.if-waits.false) in
-    first-chosen (on_handed g.T.ItemTaker.took_phase g.T.ItemTaker.took) (on_handed g.T.ItemTaker.broke_phase g.T.ItemTaker.broke) before d.new.inner
-    c.args.taker.now c.take_bits.new.taker room octets kept.phase (map (λ bit. bit == 1) c.bits.result.now) c.requires.room d.ensures.inner grows
+    first-chosen (on_handed g.T.ItemTaker.took_phase g.T.ItemTaker.took)
+    (on_handed g.T.ItemTaker.broke_phase g.T.ItemTaker.broke) before d.new.inner
+    c.args.taker.now c.take_bits.new.taker room octets kept.phase
+    (map (λ bit. bit == 1) c.bits.result.now) c.requires.room d.ensures.inner grows
     (prefix-due g.T.ItemTaker.took_phase g.T.ItemTaker.broke_phase g.T.ItemTaker.took g.T.ItemTaker.broke before
     d.new.inner c.take_bits.new.stream
-    c.args.taker.now c.hand_phase.new.taker c.take_bits.new.taker room octets kept.phase (map (λ bit. bit == 1) c.bits.result.now) c.requires.of c.requires.room
+    c.args.taker.now c.hand_phase.new.taker c.take_bits.new.taker room octets kept.phase
+    (map (λ bit. bit == 1) c.bits.result.now) c.requires.of c.requires.room
     grows c.in-Ok.ensures.handed c.in-Err-take_bits.ensures.part)
 
 pub returns-in-Err-take_after-clause-prefix : goal.returns-in-Err-take_after-clause-prefix
@@ -71,13 +82,17 @@ returns-in-Err-take_after-clause-prefix g c =
     let is : is_some inner.config.inner ≡ false =
     ap (λ (k : Configuration). is_some k.inner) (sym d.ensures.inner) ∙ sym c.has_inner_code.ensures
     ∙ c.if-has_inner_code.false in
-    let same = found-after inner d.new.inner c.bits_to_skip-skip.result kept.bits octets d.ensures.inner is c.bits_to_skip-skip.ensures.value in
+    let same = found-after inner d.new.inner c.bits_to_skip-skip.result kept.bits octets d.ensures.inner is
+    c.bits_to_skip-skip.ensures.value in
     let grows = subst (Grows inner d.new.inner room octets kept.phase) same (d.ensures.grows c.if-waits.false) in
     let piece = drop c.bits_to_skip-skip.result (plain_bits d.new.inner.config octets) in
-    first-chosen (on_handed g.T.ItemTaker.took_phase g.T.ItemTaker.took) (on_handed g.T.ItemTaker.broke_phase g.T.ItemTaker.broke) before d.new.inner
+    first-chosen (on_handed g.T.ItemTaker.took_phase g.T.ItemTaker.took)
+    (on_handed g.T.ItemTaker.broke_phase g.T.ItemTaker.broke) before d.new.inner
     c.args.taker.now c.take_after.new.taker room octets kept.phase piece c.requires.room d.ensures.inner grows
-    (prefix-due g.T.ItemTaker.took_phase g.T.ItemTaker.broke_phase g.T.ItemTaker.took g.T.ItemTaker.broke before d.new.inner c.take_after.new.stream
-    c.args.taker.now c.hand_phase.new.taker c.take_after.new.taker room octets kept.phase piece c.requires.of c.requires.room
+    (prefix-due g.T.ItemTaker.took_phase g.T.ItemTaker.broke_phase g.T.ItemTaker.took g.T.ItemTaker.broke before
+    d.new.inner c.take_after.new.stream
+    c.args.taker.now c.hand_phase.new.taker c.take_after.new.taker room octets kept.phase piece c.requires.of
+    c.requires.room
     grows c.in-Ok.ensures.handed c.in-Err-take_after.ensures.part)
 
 pub returns-in-Ok-take_bits-clause-handed : goal.returns-in-Ok-take_bits-clause-handed
@@ -92,10 +107,13 @@ returns-in-Ok-take_bits-clause-handed g c =
     let is : is_some inner.config.inner ≡ true =
     ap (λ (k : Configuration). is_some k.inner) (sym d.ensures.inner) ∙ sym c.has_inner_code.ensures
     ∙ c.if-has_inner_code.true in
-    let same = found-some inner.config inner.config.inner (inner.config.skip - plain_count inner.config inner.count) kept.bits octets is
+    let same = found-some inner.config inner.config.inner (inner.config.skip - plain_count inner.config inner.count)
+    kept.bits octets is
     ∙ ap (map (λ bit. bit == 1)) (sym c.bits.ensures) in
-    hands-due g.T.ItemTaker.took_phase g.T.ItemTaker.took before now c.args.taker.now c.hand_phase.new.taker c.take_bits.new.taker room octets kept.phase (map (λ bit. bit == 1) c.bits.result.now)
-    c.requires.of c.requires.room d.ensures.inner (subst (Grows inner d.new.inner room octets kept.phase) same (d.ensures.grows c.if-waits.false)) c.in-Ok.ensures.handed c.in-Ok-take_bits.ensures.handed
+    hands-due g.T.ItemTaker.took_phase g.T.ItemTaker.took before now c.args.taker.now c.hand_phase.new.taker
+    c.take_bits.new.taker room octets kept.phase (map (λ bit. bit == 1) c.bits.result.now)
+    c.requires.of c.requires.room d.ensures.inner (subst (Grows inner d.new.inner room octets kept.phase) same
+    (d.ensures.grows c.if-waits.false)) c.in-Ok.ensures.handed c.in-Ok-take_bits.ensures.handed
 
 pub returns-in-Ok-take_after-clause-handed : goal.returns-in-Ok-take_after-clause-handed
 returns-in-Ok-take_after-clause-handed g c =
@@ -109,7 +127,11 @@ returns-in-Ok-take_after-clause-handed g c =
     let is : is_some inner.config.inner ≡ false =
     ap (λ (k : Configuration). is_some k.inner) (sym d.ensures.inner) ∙ sym c.has_inner_code.ensures
     ∙ c.if-has_inner_code.false in
-    let same = found-after inner d.new.inner c.bits_to_skip-skip.result kept.bits octets d.ensures.inner is c.bits_to_skip-skip.ensures.value in
-    hands-due g.T.ItemTaker.took_phase g.T.ItemTaker.took before now c.args.taker.now c.hand_phase.new.taker c.take_after.new.taker room octets kept.phase
-    (drop c.bits_to_skip-skip.result (plain_bits d.new.inner.config octets)) c.requires.of c.requires.room d.ensures.inner
-    (subst (Grows inner d.new.inner room octets kept.phase) same (d.ensures.grows c.if-waits.false)) c.in-Ok.ensures.handed c.in-Ok-take_after.ensures.handed
+    let same = found-after inner d.new.inner c.bits_to_skip-skip.result kept.bits octets d.ensures.inner is
+    c.bits_to_skip-skip.ensures.value in
+    hands-due g.T.ItemTaker.took_phase g.T.ItemTaker.took before now c.args.taker.now c.hand_phase.new.taker
+    c.take_after.new.taker room octets kept.phase
+    (drop c.bits_to_skip-skip.result (plain_bits d.new.inner.config octets)) c.requires.of c.requires.room
+    d.ensures.inner
+    (subst (Grows inner d.new.inner room octets kept.phase) same (d.ensures.grows c.if-waits.false))
+    c.in-Ok.ensures.handed c.in-Ok-take_after.ensures.handed

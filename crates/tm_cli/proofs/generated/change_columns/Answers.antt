@@ -18,6 +18,9 @@ loop-column-preserved c =
     let here = c.loop-column in
     let change = c.change_column in
     record {
-      codeblock = change.ensures.changed ∙ columns-more c.args.config.now here.column c.args.hits g here.draws c.args.codeblock.now here.codeblock here.invariant.codeblock here.invariant.draws;
-      draws = draws-more here.column c.args.hits g here.draws change.new.draws here.invariant.draws change.ensures.draws;
+      codeblock =
+          change.ensures.changed ∙ columns-more c.args.config.now here.column c.args.hits g here.draws
+          c.args.codeblock.now here.codeblock here.invariant.codeblock here.invariant.draws;
+      draws =
+          draws-more here.column c.args.hits g here.draws change.new.draws here.invariant.draws change.ensures.draws;
     }

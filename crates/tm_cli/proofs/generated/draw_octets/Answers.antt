@@ -11,6 +11,9 @@ loop-i-preserved c =
     let here = c.loop-i in
     let word = c.next_word in
     record {
-      octets = octets-more g here.octets here.i (word.result % 256) (omega (arith, here.auto.octets, c.loop-i-test.true)) (ap (λ n. n % 256) (given here.i g here.draws word.new.self word.result here.invariant.draws word.ensures)) here.invariant.octets;
+      octets =
+          octets-more g here.octets here.i (word.result % 256) (omega (arith, here.auto.octets, c.loop-i-test.true))
+          (ap (λ n. n % 256) (given here.i g here.draws word.new.self word.result here.invariant.draws word.ensures))
+          here.invariant.octets;
       draws = stands here.i g here.draws word.new.self word.result here.invariant.draws word.ensures;
     }

@@ -13,8 +13,10 @@ returns-clause-unit c =
     let after = c.draw_octets.new.draws in
     let drew : c.draw_octets.new.octets ≡ drawn_octets config.frame_length g = grind (arith, common_steps) in
     let stand : after ≡ drawn config.frame_length g = grind (arith, common_steps) in
-    let change : codeblock ≡ changed_columns config config.depth c.args.hits after (drop 4 unit) = grind (arith, common_steps, c.change_columns.ensures.changed) in
-    unit-is config c.args.hits g after c.draw_octets.new.octets unit _ codeblock drew c.cadu.ensures stand change (after-marker unit codeblock)
+    let change : codeblock ≡ changed_columns config config.depth c.args.hits after (drop 4 unit) =
+    grind (arith, common_steps, c.change_columns.ensures.changed) in
+    unit-is config c.args.hits g after c.draw_octets.new.octets unit _ codeblock drew c.cadu.ensures stand change
+    (after-marker unit codeblock)
 
 pub returns-clause-draws : goal.returns-clause-draws
 returns-clause-draws c =

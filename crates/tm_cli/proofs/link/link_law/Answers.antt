@@ -3,14 +3,18 @@ use Rattle.tm_cli.proofs.link.link_law.Goals as goal
 
 pub returns-clause-clean : goal.returns-clause-clean
 returns-clause-clean c =
-    keeps-clean c.clean_law.ensures.phase c.phase_law.ensures.one c.received_law.ensures.one c.clean_law.ensures.totals c.clean_law.ensures.items c.clean_law.ensures.frames
+    keeps-clean c.clean_law.ensures.phase c.phase_law.ensures.one c.received_law.ensures.one
+    c.clean_law.ensures.totals c.clean_law.ensures.items c.clean_law.ensures.frames
 
 pub returns-clause-disturbed : goal.returns-clause-disturbed
 returns-clause-disturbed c =
-    keeps-disturbed c.phase_law.ensures.one c.received_law.ensures.one c.inner_law.ensures.one c.inner_law.ensures.blocks c.disturbed_law.ensures.items c.disturbed_law.ensures.frames
+    keeps-disturbed c.phase_law.ensures.one c.received_law.ensures.one c.inner_law.ensures.one
+    c.inner_law.ensures.blocks c.disturbed_law.ensures.items c.disturbed_law.ensures.frames
 
 pub returns-clause-complemented_input : goal.returns-clause-complemented_input
-returns-clause-complemented_input c = keeps-complemented_input c.phase_law.ensures.one c.received_law.ensures.one c.items_law.ensures.one c.polarity_law.ensures.uncoded
+returns-clause-complemented_input c =
+    keeps-complemented_input c.phase_law.ensures.one c.received_law.ensures.one c.items_law.ensures.one
+    c.polarity_law.ensures.uncoded
 
 pub returns-clause-complemented_symbols : goal.returns-clause-complemented_symbols
 returns-clause-complemented_symbols c =

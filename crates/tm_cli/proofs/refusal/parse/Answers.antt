@@ -13,12 +13,15 @@ returns-in-Err-Words-clause-refused c = λ why same.
     let words = map string_bytes c.args.words.now in
     let is : Words ≡ why = cc same in
     let none : AreTaken words → ⊥ = search rules in
-    subst (λ (w : Refusal). refusal_of words ≡ Some w) is (words-refused (fault_of command_line words) (job_of_words words) none)
+    subst (λ (w : Refusal). refusal_of words ≡ Some w) is (words-refused (fault_of command_line words)
+    (job_of_words words) none)
 
 pub returns-in-Some-clause-refused : goal.returns-in-Some-clause-refused
 returns-in-Some-clause-refused c = λ why same.
     let words = map string_bytes c.args.words.now in
     let is : c.in-Some.why ≡ why = cc same in
     subst (λ (w : Refusal). refusal_of words ≡ Some w) is
-    (command-refused (fault_of command_line words) (job_of_words words) c.in-Ok.job c.in-Ok-check.config c.test_command.result c.in-Some.why
-    c.in-Ok.ensures.taken c.in-Ok.ensures.job c.in-Ok-check.ensures.ok c.in-Ok-check.ensures.config c.test_command.ensures c.in-Some.is)
+    (command-refused (fault_of command_line words) (job_of_words words) c.in-Ok.job c.in-Ok-check.config
+    c.test_command.result c.in-Some.why
+    c.in-Ok.ensures.taken c.in-Ok.ensures.job c.in-Ok-check.ensures.ok c.in-Ok-check.ensures.config
+    c.test_command.ensures c.in-Some.is)

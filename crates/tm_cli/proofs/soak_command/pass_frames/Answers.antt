@@ -23,23 +23,32 @@ loop-frame-init g c =
       draws = c.new-draws.ensures ∙ drawn-none start ∙ ap (λ n. drawn n start) none;
       fresh = c.new-sender.ensures.fresh;
       config = c.new-sender.ensures.config;
-      stands = subst (InnerSenderStandsFor c.new-sender.result) (sym (units-none config c.args.hits start)) c.new-sender.ensures.stands;
+      stands =
+          subst (InnerSenderStandsFor c.new-sender.result)
+          (sym (units-none config c.args.hits start)) c.new-sender.ensures.stands;
       few = omega (arith, ap length (units-none config c.args.hits start));
       ready = c.requires.ready;
-      handed = subst (λ (k : Counts). HandedDue config c.args.receiver.now (λ handed. HandedOver CountedHanded no_counts handed k) (symbols_of_octets config (generated_units config 0 c.args.hits start)))
-          (sym c.new-counts.ensures) (handed-none config c.args.hits c.args.receiver.now c.depth.ensures.accepted c.requires.config c.requires.new start);
+      handed =
+          subst (λ (k : Counts). HandedDue config c.args.receiver.now
+          (λ handed. HandedOver CountedHanded no_counts handed k)
+          (symbols_of_octets config (generated_units config 0 c.args.hits start)))
+          (sym c.new-counts.ensures) (handed-none config c.args.hits c.args.receiver.now c.depth.ensures.accepted
+          c.requires.config c.requires.new start);
     }
 
 pub slice_bounds-unit-end : goal.slice_bounds-unit-end
 slice_bounds-unit-end g c =
-    let most = unit_few c.args.config.now c.depth.result c.word_length.result c.depth.ensures.accepted c.depth.ensures.value c.word_length.ensures.value in
+    let most = unit_few c.args.config.now c.depth.result c.word_length.result c.depth.ensures.accepted
+    c.depth.ensures.value c.word_length.ensures.value in
     grind (arith, common_steps)
 
 pub generate_unit-requires-clause-unit : goal.generate_unit-requires-clause-unit
 generate_unit-requires-clause-unit g c =
     let size : c.depth.result * c.word_length.result ≡ codeblock_length c.args.config.now =
-    ap (λ d. d * c.word_length.result) c.depth.ensures.value ∙ ap (λ n. c.args.config.now.depth * n) c.word_length.ensures.value in
-    let most = unit_few c.args.config.now c.depth.result c.word_length.result c.depth.ensures.accepted c.depth.ensures.value c.word_length.ensures.value in
+    ap (λ d. d * c.word_length.result) c.depth.ensures.value
+    ∙ ap (λ n. c.args.config.now.depth * n) c.word_length.ensures.value in
+    let most = unit_few c.args.config.now c.depth.result c.word_length.result c.depth.ensures.accepted
+    c.depth.ensures.value c.word_length.ensures.value in
     let long = c.loop-frame.auto.unit in
     grind (arith, common_steps)
 
@@ -58,11 +67,16 @@ loop-frame-preserved g c =
       draws = draws-frames config frame hits start here.draws made.new.draws was.draws made.ensures.draws;
       fresh = pass.ensures.fresh;
       config = pass.ensures.config ∙ was.config;
-      stands = subst (InnerSenderStandsFor pass.new.sender) (ap (λ (unit : List _). generated_units config frame hits start ++ unit) made.ensures.unit ∙ units-more config frame hits start here.draws was.draws)
+      stands =
+          subst (InnerSenderStandsFor pass.new.sender)
+          (ap (λ (unit : List _). generated_units config frame hits start ++ unit) made.ensures.unit
+          ∙ units-more config frame hits start here.draws was.draws)
           (pass.ensures.stands (generated_units config frame hits start) was.stands);
       few = units-long config frame hits start here.draws made.new.unit was.draws made.ensures.unit small was.few;
       ready = pass.ensures.ready;
-      handed = handed-more config hits frame start here.draws here.sender here.receiver pass.new.receiver here.counts pass.new.counts made.new.unit was.config was.draws made.ensures.unit was.handed
+      handed =
+          handed-more config hits frame start here.draws here.sender here.receiver pass.new.receiver here.counts
+          pass.new.counts made.new.unit was.config was.draws made.ensures.unit was.handed
           (pass.ensures.handed config no_counts (generated_units config frame hits start) was.stands);
     }
 
@@ -70,14 +84,24 @@ pub returns-clause-few : goal.returns-clause-few
 returns-clause-few g c =
     let config = c.args.config.now in
     let start = generator_of c.args.seed in
-    let end : c.loop-frame._frame ≡ c.args.frames = omega (arith, c.loop-frame.auto._frame-end, c.loop-frame-test.false) in
-    let few = subst (λ n. length (generated_units config n c.args.hits start) ≤ 2044 * n) end c.loop-frame.invariant.few in
+    let end : c.loop-frame._frame ≡ c.args.frames = omega (
+      arith,
+      c.loop-frame.auto._frame-end,
+      c.loop-frame-test.false,
+    ) in
+    let few = subst (λ n. length (generated_units config n c.args.hits start) ≤ 2044 * n) end
+    c.loop-frame.invariant.few in
     omega (arith, few, length-symbols config (generated_units config c.args.frames c.args.hits start))
 
 pub returns-clause-handed : goal.returns-clause-handed
 returns-clause-handed g c =
     let config = c.args.config.now in
     let start = generator_of c.args.seed in
-    let end : c.loop-frame._frame ≡ c.args.frames = omega (arith, c.loop-frame.auto._frame-end, c.loop-frame-test.false) in
-    subst (λ n. HandedDue config c.loop-frame.receiver (λ handed. HandedOver CountedHanded no_counts handed c.loop-frame.counts) (symbols_of_octets config (generated_units config n c.args.hits start)))
+    let end : c.loop-frame._frame ≡ c.args.frames = omega (
+      arith,
+      c.loop-frame.auto._frame-end,
+      c.loop-frame-test.false,
+    ) in
+    subst (λ n. HandedDue config c.loop-frame.receiver (λ handed. HandedOver CountedHanded no_counts handed
+    c.loop-frame.counts) (symbols_of_octets config (generated_units config n c.args.hits start)))
     end c.loop-frame.invariant.handed

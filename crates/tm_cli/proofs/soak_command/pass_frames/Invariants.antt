@@ -16,5 +16,6 @@ invariant-loop-frame g l = record {
   stands : InnerSenderStandsFor l.sender (generated_units l.config l._frame l.hits (generator_of l.seed));
   few : length (generated_units l.config l._frame l.hits (generator_of l.seed)) ≤ 2044 * l._frame;
   ready : l.receiver.has_stopped ≡ false;
-  handed : HandedDue l.config l.receiver (λ handed. HandedOver CountedHanded no_counts handed l.counts) (symbols_of_octets l.config (generated_units l.config l._frame l.hits (generator_of l.seed)));
+  handed : HandedDue l.config l.receiver (λ handed. HandedOver CountedHanded no_counts handed l.counts)
+      (symbols_of_octets l.config (generated_units l.config l._frame l.hits (generator_of l.seed)));
 }

@@ -5,7 +5,8 @@ use Rattle.tm_cli.proofs.soak_command.pass_unit.Goals as goal
 pub unwrap-requires : goal.unwrap-requires
 unwrap-requires g c =
     let push = c.push-sent in
-    unit-sent c.args.sender.now c.requires.stands.0 c.args.unit.now push.result c.new-symbols.result push.new.out c.new-symbols.ensures c.requires.unit c.requires.stands.1 c.requires.fresh
+    unit-sent c.args.sender.now c.requires.stands.0 c.args.unit.now push.result c.new-symbols.result push.new.out
+    c.new-symbols.ensures c.requires.unit c.requires.stands.1 c.requires.fresh
     push.ensures.stopped.0 push.ensures.prefix push.ensures.rose c.octets-octets.ensures.full
 
 pub returns-clause-handed : goal.returns-clause-handed
@@ -14,5 +15,7 @@ returns-clause-handed g c = λ config start given stands was.
     let feed = c.feed in
     let sent = IfOk-at_ok _ c.unwrap.ensures push.ensures.sent in
     let handed = IfOk-at_ok _ c.unwrap-2.ensures feed.ensures.handed in
-    unit-received config c.args.sender.now push.new.self c.args.receiver.now feed.new.self start c.args.counts.now feed.new.taker given c.args.unit.now c.octets-octets.result.now
-    c.new-symbols.result push.new.out handed.0 c.new-symbols.ensures c.octets-octets.ensures.octets sent stands feed.ensures.config handed.1 handed.2 was
+    unit-received config c.args.sender.now push.new.self c.args.receiver.now feed.new.self start c.args.counts.now
+    feed.new.taker given c.args.unit.now c.octets-octets.result.now
+    c.new-symbols.result push.new.out handed.0 c.new-symbols.ensures c.octets-octets.ensures.octets sent stands
+    feed.ensures.config handed.1 handed.2 was

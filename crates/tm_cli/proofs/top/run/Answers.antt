@@ -22,7 +22,8 @@ pub returns-in-Ok-clause-answered : goal.returns-in-Ok-clause-answered
 returns-in-Ok-clause-answered g c = λ job asked _.
     let config = c.in-Command.config in
     let read = c.in-Command.ensures.command c.in-Command.job config refl in
-    let same : c.in-Command.job ≡ job = same-job (map string_bytes c.args.words.now) c.in-Command.job job read.0 asked in
+    let same : c.in-Command.job ≡ job = same-job (map string_bytes c.args.words.now) c.in-Command.job job read.0 asked
+    in
     let command = command_of c.in-Command.job in
     let h = c.in-Ok.ensures.answered in
     let ending = c.in-Ok.ending in
@@ -37,13 +38,19 @@ returns-in-Ok-clause-answered g c = λ job asked _.
     let notes = sink_state noted (g.N.Sink.faults c.args.notes.now) in
     let notes_now = sink_state noted_now (g.N.Sink.faults c.dispatch.new.notes) in
     let call : Call = call_of
-    (source_state (g.S.Source.given c.args.source.now) (g.S.Source.left c.args.source.now) (g.S.Source.ended c.args.source.now) (g.S.Source.faults c.args.source.now))
-    (source_state (g.S.Source.given c.dispatch.new.source) (g.S.Source.left c.dispatch.new.source) (g.S.Source.ended c.dispatch.new.source) (g.S.Source.faults c.dispatch.new.source))
-    (g.S.Source.is_last c.dispatch.new.source) out out_now (g.O.Sink.is_last c.dispatch.new.out) notes notes_now (g.N.Sink.is_last c.dispatch.new.notes) in
-    let decodes : command ≡ Decode → Ends ending (meaning_of Decode config) config.limit h.0 all = λ asks. subst (λ (k : Command). Ends ending (meaning_of k config) config.limit h.0 all) asks h.1.ends in
-    let checks : command ≡ Check → Ends ending (meaning_of Check config) config.limit h.0 all = λ asks. subst (λ (k : Command). Ends ending (meaning_of k config) config.limit h.0 all) asks h.1.ends in
+    (source_state (g.S.Source.given c.args.source.now) (g.S.Source.left c.args.source.now)
+    (g.S.Source.ended c.args.source.now) (g.S.Source.faults c.args.source.now))
+    (source_state (g.S.Source.given c.dispatch.new.source) (g.S.Source.left c.dispatch.new.source)
+    (g.S.Source.ended c.dispatch.new.source) (g.S.Source.faults c.dispatch.new.source))
+    (g.S.Source.is_last c.dispatch.new.source) out out_now (g.O.Sink.is_last c.dispatch.new.out) notes notes_now
+    (g.N.Sink.is_last c.dispatch.new.notes) in
+    let decodes : command ≡ Decode → Ends ending (meaning_of Decode config) config.limit h.0 all =
+    λ asks. subst (λ (k : Command). Ends ending (meaning_of k config) config.limit h.0 all) asks h.1.ends in
+    let checks : command ≡ Check → Ends ending (meaning_of Check config) config.limit h.0 all =
+    λ asks. subst (λ (k : Command). Ends ending (meaning_of k config) config.limit h.0 all) asks h.1.ends in
     let no_sink : HasNoFault call → ending ≡ SinkFault → ⊥ = λ none failed.
-    elim (sink-rose ending out out_now (g.O.Sink.is_last c.dispatch.new.out) notes notes_now (g.N.Sink.is_last c.dispatch.new.notes) h.1.sinks failed) [
+    elim (sink-rose ending out out_now (g.O.Sink.is_last c.dispatch.new.out) notes notes_now
+    (g.N.Sink.is_last c.dispatch.new.notes) h.1.sinks failed) [
       | inl p ↦ none.out p.0
       | inr p ↦ none.notes p.0
     ] in
@@ -62,16 +69,31 @@ returns-in-Ok-clause-answered g c = λ job asked _.
       sinks = h.1.sinks;
       stops = λ asks failed. c.in-Ok.ensures.stops (of-encode c.in-Command.job asks) failed;
       by_window = λ asks bad. c.in-Ok.ensures.not_bad (of-check c.in-Command.job asks) bad;
-      complete = λ none. subst (λ (s : ℕ). (s ≡ 0) ⊎ (s ≡ 1) ⊎ (s ≡ 6) ⊎ (s ≡ 7)) (sym is) (without-fault ending (no_source none) (no_sink none));
+      complete =
+          λ none. subst (λ (s : ℕ). (s ≡ 0) ⊎ (s ≡ 1) ⊎ (s ≡ 6) ⊎ (s ≡ 7)) (sym is)
+          (without-fault ending (no_source none) (no_sink none));
       whole_input = λ input told within whole none. subst (λ (s : ℕ). (s ≡ 0) ⊎ (s ≡ 1)) (sym is)
-          (whole-input_known ending (meaning_of command config) config.limit h.0 input (g.S.Source.left c.dispatch.new.source) all h.1.ends (sym told ∙ h.1.gave.consumed) at_end within whole
+          (whole-input_known ending (meaning_of command config) config.limit h.0 input
+          (g.S.Source.left c.dispatch.new.source) all h.1.ends (sym told ∙ h.1.gave.consumed) at_end within whole
           (no_source none) (no_sink none));
-      clean = λ asks. c.link_law.ensures.clean ending c.status.result config h.0 taken now noted noted_now read.2 is (decodes asks);
-      disturbed = λ asks. c.link_law.ensures.disturbed ending c.status.result config h.0 taken now noted noted_now read.2 is (decodes asks);
-      complemented_input = λ asks. c.link_law.ensures.complemented_input ending c.status.result config h.0 taken now noted noted_now read.2 is (decodes asks);
-      complemented_symbols = λ asks. c.link_law.ensures.complemented_symbols ending c.status.result config h.0 taken now noted noted_now read.2 is (decodes asks);
-      shown = λ asks. c.certificate_law.ensures.shown ending c.status.result config h.0 taken now noted noted_now is (checks asks);
-      passes = λ asks. c.certificate_law.ensures.passes ending c.status.result config h.0 taken now noted noted_now read.2 is (checks asks);
+      clean =
+          λ asks. c.link_law.ensures.clean ending c.status.result config h.0 taken now noted noted_now read.2 is
+          (decodes asks);
+      disturbed =
+          λ asks. c.link_law.ensures.disturbed ending c.status.result config h.0 taken now noted noted_now read.2 is
+          (decodes asks);
+      complemented_input =
+          λ asks. c.link_law.ensures.complemented_input ending c.status.result config h.0 taken now noted noted_now
+          read.2 is (decodes asks);
+      complemented_symbols =
+          λ asks. c.link_law.ensures.complemented_symbols ending c.status.result config h.0 taken now noted noted_now
+          read.2 is (decodes asks);
+      shown =
+          λ asks. c.certificate_law.ensures.shown ending c.status.result config h.0 taken now noted noted_now is
+          (checks asks);
+      passes =
+          λ asks. c.certificate_law.ensures.passes ending c.status.result config h.0 taken now noted noted_now read.2
+          is (checks asks);
     } in
     subst (λ (j : Job). Answers c.status.result (command_of j) (configuration_of j.raw) call) same
     (subst (λ (x : Configuration). Answers c.status.result command x call) (sym read.1) answer)
@@ -86,7 +108,9 @@ pub returns-in-Ok-clause-refusal : goal.returns-in-Ok-clause-refusal
 returns-in-Ok-clause-refusal g c = λ two. absurd (never-two_or_five c.in-Ok.ending (inl (sym c.status.ensures ∙ two)))
 
 pub returns-in-Ok-clause-unread : goal.returns-in-Ok-clause-unread
-returns-in-Ok-clause-unread g c = λ which. absurd (never-two_or_five c.in-Ok.ending (elim which [ inl two ↦ inl (sym c.status.ensures ∙ two) | inr five ↦ inr (sym c.status.ensures ∙ five) ]))
+returns-in-Ok-clause-unread g c =
+    λ which. absurd (never-two_or_five c.in-Ok.ending
+    (elim which [ inl two ↦ inl (sym c.status.ensures ∙ two) | inr five ↦ inr (sym c.status.ensures ∙ five) ]))
 
 pub returns-in-Ok-clause-memory : goal.returns-in-Ok-clause-memory
 returns-in-Ok-clause-memory g c = λ five. absurd (never-two_or_five c.in-Ok.ending (inr (sym c.status.ensures ∙ five)))
@@ -97,5 +121,6 @@ returns-in-Ok-clause-statuses g c = subst (λ (s : ℕ). s ≤ 7) (sym c.status.
 pub returns-in-Ok-clause-only_words : goal.returns-in-Ok-clause-only_words
 returns-in-Ok-clause-only_words g c = λ job asked none.
     let read = c.in-Command.ensures.command c.in-Command.job c.in-Command.config refl in
-    let same : job ≡ c.in-Command.job = same-job (map string_bytes c.args.words.now) job c.in-Command.job asked read.0 in
+    let same : job ≡ c.in-Command.job = same-job (map string_bytes c.args.words.now) job c.in-Command.job asked read.0
+    in
     c.in-Ok.ensures.unread (subst (λ (j : Job). reads (command_of j) ≡ false) same none)

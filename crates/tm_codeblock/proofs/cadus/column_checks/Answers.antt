@@ -5,5 +5,6 @@ use Rattle.tm_codeblock.proofs.cadus.column_checks.Goals as goal
 
 pub returns : goal.returns
 returns c =
-    coded-is c.args.basis c.args.params.now.e c.args.word.now _ _ _ (are_octets c.args.word.now (λ i. omega (arith, c.type_inv.word i)))
+    coded-is c.args.basis c.args.params.now.e c.args.word.now _ _ _
+    (are_octets c.args.word.now (λ i. omega (arith, c.type_inv.word i)))
     c.octets_to_elements.ensures c.checks.ensures.codeword c.elements_to_octets.ensures

@@ -21,6 +21,7 @@ pub returns-else-is_coded : goal.returns-else-is_coded
 returns-else-is_coded c =
     let config = c.args.config.now in
     let none : config.code ≡ Uncoded = c.has_code-is_coded.ensures.uncoded c.if-is_coded.false in
-    let empty : length c.split_at_mut-data.result.1.now ≡ 0 = grind (arith, common_steps, c.split_at_mut-data.ensures.back_len, none) in
+    let empty : length c.split_at_mut-data.result.1.now ≡ 0 =
+    grind (arith, common_steps, c.split_at_mut-data.ensures.back_len, none) in
     ap (λ (l : List ℕ). l ++ c.split_at_mut-data.result.1.now) c.copy_from_slice.ensures.after
     ∙ codeblock-uncoded config c.args.frame.now c.split_at_mut-data.result.1.now none empty

@@ -21,4 +21,5 @@ loop-k-preserved c =
 pub returns : goal.returns
 returns c =
     let eight : 8 ≡ c.loop-k.k = omega arith in
-    ap (λ n. low_bits n c.loop-k.octet) eight ∙ c.loop-k.invariant ∙ ap (map (λ bit. bit == 1)) (take_all c.loop-k.k c.args.bits.now (omega arith))
+    ap (λ n. low_bits n c.loop-k.octet) eight ∙ c.loop-k.invariant
+    ∙ ap (map (λ bit. bit == 1)) (take_all c.loop-k.k c.args.bits.now (omega arith))

@@ -15,7 +15,8 @@ loop-k-preserved c =
     let prefix = take (8 * k) bits in
     let next = take (8 * k + 8 - 8 * k) (drop (8 * k) bits) in
     let long : 8 * (k + 1) ≡ 8 * k + (8 * k + 8 - 8 * k) = omega arith in
-    let more : take (8 * (k + 1)) bits ≡ prefix ++ next = ap (λ n. take n bits) long ∙ take-add (8 * k) (8 * k + 8 - 8 * k) bits in
+    let more : take (8 * (k + 1)) bits ≡ prefix ++ next = ap (λ n. take n bits) long
+    ∙ take-add (8 * k) (8 * k + 8 - 8 * k) bits in
     ap bits_of (take-set_at octets k (k + 1) x (omega arith) (omega arith))
     ∙ bits_of-append (take k octets) (x ∷ []) ∙ ap (λ l. bits_of (take k octets) ++ l) (append-nil (bits_of_octet x))
     ∙ ap (λ l. l ++ bits_of_octet x) c.loop-k.invariant

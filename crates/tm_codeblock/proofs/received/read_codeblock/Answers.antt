@@ -9,9 +9,14 @@ use Rattle.tm_codeblock.proofs.received.read_codeblock.Goals.{then-inverted, els
 pub returns-then-is_randomized : goal.returns-then-is_randomized
 returns-then-is_randomized c =
     let before = c.args.received.now in
-    let upright : c.if-inverted.codeblock ≡ octets_of (in_polarity c.args.inverted (bits_of before)) = elim c.if-inverted.branch [
-      | then-inverted w ↦ upright-complemented c.args.inverted before _ w.if-inverted.true (w.codeblock-is ∙ w.complement_octets.ensures ∙ ap (λ l. octets_of (complement (bits_of l))) c.copy_from_slice.ensures.after)
-      | else-inverted w ↦ upright-same c.args.inverted before _ (are_octets before (λ i. omega (arith, c.type_inv.received i))) w.if-inverted.false (w.codeblock-is ∙ c.copy_from_slice.ensures.after)
+    let upright : c.if-inverted.codeblock ≡ octets_of (in_polarity c.args.inverted (bits_of before)) =
+    elim c.if-inverted.branch [
+      | then-inverted w ↦ upright-complemented c.args.inverted before _ w.if-inverted.true
+          (w.codeblock-is ∙ w.complement_octets.ensures
+          ∙ ap (λ l. octets_of (complement (bits_of l))) c.copy_from_slice.ensures.after)
+      | else-inverted w ↦ upright-same c.args.inverted before _
+          (are_octets before (λ i. omega (arith, c.type_inv.received i))) w.if-inverted.false
+          (w.codeblock-is ∙ c.copy_from_slice.ensures.after)
     ] in
     codeblock-masked c.args.config.now c.args.inverted (bits_of before) c.if-inverted.codeblock _
     (sym c.is_randomized.ensures ∙ c.if-is_randomized.true) upright c.mask.ensures
@@ -19,9 +24,14 @@ returns-then-is_randomized c =
 pub returns-else-is_randomized : goal.returns-else-is_randomized
 returns-else-is_randomized c =
     let before = c.args.received.now in
-    let upright : c.if-inverted.codeblock ≡ octets_of (in_polarity c.args.inverted (bits_of before)) = elim c.if-inverted.branch [
-      | then-inverted w ↦ upright-complemented c.args.inverted before _ w.if-inverted.true (w.codeblock-is ∙ w.complement_octets.ensures ∙ ap (λ l. octets_of (complement (bits_of l))) c.copy_from_slice.ensures.after)
-      | else-inverted w ↦ upright-same c.args.inverted before _ (are_octets before (λ i. omega (arith, c.type_inv.received i))) w.if-inverted.false (w.codeblock-is ∙ c.copy_from_slice.ensures.after)
+    let upright : c.if-inverted.codeblock ≡ octets_of (in_polarity c.args.inverted (bits_of before)) =
+    elim c.if-inverted.branch [
+      | then-inverted w ↦ upright-complemented c.args.inverted before _ w.if-inverted.true
+          (w.codeblock-is ∙ w.complement_octets.ensures
+          ∙ ap (λ l. octets_of (complement (bits_of l))) c.copy_from_slice.ensures.after)
+      | else-inverted w ↦ upright-same c.args.inverted before _
+          (are_octets before (λ i. omega (arith, c.type_inv.received i))) w.if-inverted.false
+          (w.codeblock-is ∙ c.copy_from_slice.ensures.after)
     ] in
     codeblock-plain c.args.config.now c.args.inverted (bits_of before) c.if-inverted.codeblock
     (sym c.is_randomized.ensures ∙ c.if-is_randomized.false) upright

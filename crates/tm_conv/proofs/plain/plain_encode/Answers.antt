@@ -17,9 +17,13 @@ loop-k-preserved c =
       invert = c.step-symbols.ensures.invert ∙ now.invert;
       count = omega (arith, c.store-count.ensures.at_most, now.count);
       length = c.store-count.ensures.length ∙ now.length;
-      stands = λ given stood. subst (EncoderStandsFor c.step-symbols.new.self) (given-more given (bits_of octets) k _ more) (c.step-symbols.ensures.stands _ (now.stands given stood));
+      stands =
+          λ given stood. subst (EncoderStandsFor c.step-symbols.new.self) (given-more given (bits_of octets) k _ more)
+          (c.step-symbols.ensures.stands _ (now.stands given stood));
       sent = λ given stood.
-          levels-more c.args.encoder.now c.loop-k.encoder c.args.low given (bits_of octets) k _ _ (take c.loop-k.count c.loop-k.out) (take c.store-count.result c.store-count.new.out) now.rate now.invert more
+          levels-more c.args.encoder.now c.loop-k.encoder c.args.low given (bits_of octets) k _ _
+          (take c.loop-k.count c.loop-k.out)
+          (take c.store-count.result c.store-count.new.out) now.rate now.invert more
           (c.step-symbols.ensures.sent _ (now.stands given stood)) (now.sent given stood) c.store-count.ensures.stored;
     }
 
@@ -29,8 +33,10 @@ all_taken k octets end = take_all k (bits_of octets) (omega (arith, length-bits_
 
 pub returns-clause-stands : goal.returns-clause-stands
 returns-clause-stands c = λ given stood.
-    subst (λ l. EncoderStandsFor c.loop-k.encoder (given ++ l)) (all_taken c.loop-k.k c.args.octets.now c.loop-k-test.false) (c.loop-k.invariant.stands given stood)
+    subst (λ l. EncoderStandsFor c.loop-k.encoder (given ++ l))
+    (all_taken c.loop-k.k c.args.octets.now c.loop-k-test.false) (c.loop-k.invariant.stands given stood)
 
 pub returns-clause-sent : goal.returns-clause-sent
 returns-clause-sent c = λ given stood.
-    ap (λ l. levels c.args.low (sent_for c.args.encoder.now.rate c.args.encoder.now.invert (given ++ l))) (sym (all_taken c.loop-k.k c.args.octets.now c.loop-k-test.false)) ∙ c.loop-k.invariant.sent given stood
+    ap (λ l. levels c.args.low (sent_for c.args.encoder.now.rate c.args.encoder.now.invert (given ++ l)))
+    (sym (all_taken c.loop-k.k c.args.octets.now c.loop-k-test.false)) ∙ c.loop-k.invariant.sent given stood

@@ -9,7 +9,8 @@ invariant-loop-k l = record {
   invert : l.encoder.invert ≡ l.fn.encoder.invert;
   count : l.count ≤ 2 * l.k;
   length : length l.out ≡ length l.fn.out;
-  stands : (given : List Bool) → EncoderStandsFor l.fn.encoder given → EncoderStandsFor l.encoder (given ++ take l.k (bits_of l.octets));
+  stands : (given : List Bool) → EncoderStandsFor l.fn.encoder given
+      → EncoderStandsFor l.encoder (given ++ take l.k (bits_of l.octets));
   sent : (given : List Bool) → EncoderStandsFor l.fn.encoder given
       → levels l.low (sent_for l.fn.encoder.rate l.fn.encoder.invert (given ++ take l.k (bits_of l.octets)))
       ≡ levels l.low (sent_for l.fn.encoder.rate l.fn.encoder.invert given) ++ take l.count l.out;

@@ -14,6 +14,11 @@ returns c =
     mapped_fewer dual_element xs (numbers c.loop-group.elements) (n - 16) (16 * c.loop-group.group) last
     (sym (numbers-take (16 * c.loop-group.group) c.loop-group.elements) ∙ c.loop-group.invariant) in
     mapped_all dual_element xs (numbers c.put_elements-2.new.elements) (n - 16 + 16) (omega arith)
-    (omega (arith, length-numbers c.put_elements-2.new.elements, c.put_elements-2.auto.elements, c.loop-group.auto.elements))
+    (omega (
+      arith,
+      length-numbers c.put_elements-2.new.elements,
+      c.put_elements-2.auto.elements,
+      c.loop-group.auto.elements,
+    ))
     (sym (numbers-take (n - 16 + 16) c.put_elements-2.new.elements)
     ∙ c.put_elements-2.ensures (numbers-take (n - 16) c.loop-group.elements ∙ prefix))

@@ -9,4 +9,5 @@ swizzle-by_high c = high_fit c.args.octets c.fits-octets.0 (octets_small c.args.
 
 pub returns : goal.returns
 returns c f are =
-    mapped_by_halves f c.args.low c.args.high c.args.octets are c.fits-octets.0 (octets_small c.args.octets c.fits-octets.0 c.fits-octets.1)
+    mapped_by_halves f c.args.low c.args.high c.args.octets are c.fits-octets.0
+    (octets_small c.args.octets c.fits-octets.0 c.fits-octets.1)

@@ -4,7 +4,8 @@ use Rattle.tm_dual.proofs.plain.all_from_numbers.Goals as goal
 
 pub loop-i-preserved : goal.loop-i-preserved
 loop-i-preserved c =
-    elements_more (λ z. z) c.args.octets.now c.loop-i.elements c.loop-i.i (record { 0 = get_or c.args.octets.now c.loop-i.i 0 })
+    elements_more (λ z. z) c.args.octets.now c.loop-i.elements c.loop-i.i
+    (record { 0 = get_or c.args.octets.now c.loop-i.i 0 })
     (omega arith) (omega arith) refl c.loop-i.invariant
 
 pub returns : goal.returns

@@ -10,4 +10,5 @@ loop-i-preserved c =
 
 pub returns : goal.returns
 returns c =
-    all_elements dual_element c.args.octets.now c.loop-i.elements c.loop-i.i (omega arith) (omega arith) c.loop-i.invariant
+    all_elements dual_element c.args.octets.now c.loop-i.elements c.loop-i.i (omega arith)
+    (omega arith) c.loop-i.invariant

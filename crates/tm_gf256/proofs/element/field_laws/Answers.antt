@@ -30,7 +30,8 @@ pub returns-clause-has_inverse : goal.returns-clause-has_inverse
 returns-clause-has_inverse c a h ne = (inverse a, inverse-lt a, times-inverse a h ne)
 
 pub returns-clause-powers_are_all : goal.returns-clause-powers_are_all
-returns-clause-powers_are_all c a h ne = let p : (log_of a < 255) × (power 2 (log_of a) ≡ a) = log_power a h ne in (log_of a, p.0, p.1)
+returns-clause-powers_are_all c a h ne =
+    let p : (log_of a < 255) × (power 2 (log_of a) ≡ a) = log_power a h ne in (log_of a, p.0, p.1)
 
 pub returns-clause-powers_differ : goal.returns-clause-powers_differ
 returns-clause-powers_differ c = power_apart

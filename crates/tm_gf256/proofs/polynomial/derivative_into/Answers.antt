@@ -27,7 +27,8 @@ loop-place-preserved c =
 whole : (xs out : List Gf) (i : ℕ) → length out ≤ i → length out ≡ length xs - 1
     → numbers (take i out) ≡ take i (derivative (numbers xs)) → numbers out ≡ derivative (numbers xs)
 whole xs out i past size done =
-    let as_long : length (derivative (numbers xs)) ≤ i = rw (length-derivative (numbers xs), length-numbers xs) (omega arith) in
+    let as_long : length (derivative (numbers xs)) ≤ i = rw (length-derivative (numbers xs), length-numbers xs)
+    (omega arith) in
     sym (ap numbers (take_all i out past)) ∙ done ∙ take_all i (derivative (numbers xs)) as_long
 
 pub returns : goal.returns

@@ -19,16 +19,20 @@ one_more f out i y lt is done =
 pub loop-place-preserved : goal.loop-place-preserved
 loop-place-preserved c =
     one_more (λ m. convolution (numbers c.args.a.now) (numbers c.args.b.now) m (suc m))
-    c.loop-place.out c.loop-place.place c.product_coefficient.result (omega arith) c.product_coefficient.ensures c.loop-place.invariant
+    c.loop-place.out c.loop-place.place c.product_coefficient.result
+    (omega arith) c.product_coefficient.ensures c.loop-place.invariant
 
 whole : (a b out : List Gf) (i : ℕ) → length out ≡ i → length out ≡ length a + length b - 1
     → numbers (take i out) ≡ map (λ m. convolution (numbers a) (numbers b) m (suc m)) (range_with_len 0 i)
     → numbers out ≡ product (numbers a) (numbers b)
 unfolding product
 whole a b out i full size done =
-    let long : i ≡ length (numbers a) + length (numbers b) - 1 = rw (length-numbers a, length-numbers b) (omega arith) in
+    let long : i ≡ length (numbers a) + length (numbers b) - 1 =
+    rw (length-numbers a, length-numbers b) (omega arith) in
     sym (ap numbers (take_all i out (omega arith))) ∙ done
     ∙ ap (λ (n : ℕ). map (λ m. convolution (numbers a) (numbers b) m (suc m)) (range_with_len 0 n)) long
 
 pub returns : goal.returns
-returns c = whole c.args.a.now c.args.b.now c.loop-place.out c.loop-place.place (omega arith) (omega arith) c.loop-place.invariant
+returns c =
+    whole c.args.a.now c.args.b.now c.loop-place.out c.loop-place.place (omega arith)
+    (omega arith) c.loop-place.invariant

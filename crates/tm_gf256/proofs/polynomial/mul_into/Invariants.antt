@@ -5,4 +5,5 @@ use Rattle.tm_gf256.proofs.polynomial.mul_into.Given as goal
 
 abbrev pub invariant-loop-place : goal.invariant-loop-place
 invariant-loop-place l =
-    numbers (take l.place l.out) ≡ map (λ m. convolution (numbers l.a) (numbers l.b) m (suc m)) (range_with_len 0 l.place)
+    numbers (take l.place l.out) ≡ map (λ m. convolution (numbers l.a) (numbers l.b) m (suc m))
+    (range_with_len 0 l.place)

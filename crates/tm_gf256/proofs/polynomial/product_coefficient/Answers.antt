@@ -22,7 +22,8 @@ one_more a b m i s p d r before partner product sum =
 
 pub loop-i-preserved : goal.loop-i-preserved
 loop-i-preserved c =
-    one_more c.args.a.now c.args.b.now c.args.place c.loop-i.i c.loop-i.sum.0 c.mul.result.0 c.coefficient_or_zero.result.0
+    one_more c.args.a.now c.args.b.now c.args.place c.loop-i.i c.loop-i.sum.0 c.mul.result.0
+    c.coefficient_or_zero.result.0
     c.add-sum.result.0 c.loop-i.invariant c.coefficient_or_zero.ensures c.mul.ensures c.add-sum.ensures
 
 -- the terms that were added are all
@@ -34,7 +35,8 @@ all_terms a b m i sum (inr e) is =
 
 pub returns : goal.returns
 returns c =
-    let counted : (c.loop-i.i ≡ suc c.args.place) ⊎ ((length c.args.a.now ≡ c.loop-i.i) × (c.loop-i.i ≤ suc c.args.place)) =
+    let counted : (c.loop-i.i ≡ suc c.args.place) ⊎ ((length c.args.a.now ≡ c.loop-i.i)
+    × (c.loop-i.i ≤ suc c.args.place)) =
     elim c.if-place-a.branch [
       | then-place-a w ↦ inl (omega (arith, w.terms-is))
       | else-place-a w ↦ inr (omega (arith, w.terms-is), omega (arith, w.terms-is))

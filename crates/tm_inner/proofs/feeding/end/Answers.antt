@@ -16,8 +16,10 @@ returns-in-Err-clause-prefix g c =
       last.0,
       last.1,
       λ config phase given done of stood.
-          let decodes = subst (λ (o : Option InnerDecoder). DecodesFor o (soft_octets config phase given) done) c.in-Some.is stood in
-          prefix-of config d phase given (done ++ last.0) (subst (IsDecoderOf config) c.in-Some.is of) (last.2 (soft_octets config phase given) done decodes),
+          let decodes = subst (λ (o : Option InnerDecoder). DecodesFor o (soft_octets config phase given) done)
+          c.in-Some.is stood in
+          prefix-of config d phase given (done ++ last.0) (subst (IsDecoderOf config) c.in-Some.is of)
+          (last.2 (soft_octets config phase given) done decodes),
     )
 
 pub returns-in-Ok-clause-handed : goal.returns-in-Ok-clause-handed
@@ -26,9 +28,11 @@ returns-in-Ok-clause-handed g c =
       last.0,
       last.1,
       λ config phase given done of stood.
-          let decodes = subst (λ (o : Option InnerDecoder). DecodesFor o (soft_octets config phase given) done) c.in-Some.is stood in
+          let decodes = subst (λ (o : Option InnerDecoder). DecodesFor o (soft_octets config phase given) done)
+          c.in-Some.is stood in
           let all = last.2 (soft_octets config phase given) done decodes in (
-            blocks-of config c.in-Some.decoder phase given (done ++ last.0) c.in-Ok.left (subst (IsDecoderOf config) c.in-Some.is of) all.0,
+            blocks-of config c.in-Some.decoder phase given (done ++ last.0) c.in-Ok.left
+                (subst (IsDecoderOf config) c.in-Some.is of) all.0,
             all.1,
           ),
     )
@@ -38,7 +42,8 @@ returns-in-None-clause-handed g c = (
   [],
   refl,
   λ config phase given done of stood.
-      let none = subst (λ (o : Option InnerDecoder). DecodesFor o (soft_octets config phase given) done) c.in-None.is stood in
+      let none = subst (λ (o : Option InnerDecoder). DecodesFor o (soft_octets config phase given) done) c.in-None.is
+      stood in
       let all : done ++ [] ≡ [] = append-nil done ∙ none in (
         blocks-none config phase given (done ++ []) (subst (IsDecoderOf config) c.in-None.is of) all,
         subst (λ (o : Option InnerDecoder). HasCountedAll o (done ++ [])) (sym c.in-None.is) all,

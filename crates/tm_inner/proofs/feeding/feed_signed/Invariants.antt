@@ -10,7 +10,8 @@ invariant-loop-done g l = record {
   windows : windows_in l.decoder ≡ windows_in l.fn.decoder;
   fresh : has_stopped_in l.decoder ≡ false;
   faults : g.B.BlockTaker.faults l.blocks ≡ g.B.BlockTaker.faults l.fn.blocks;
-  handed : Hands g.B.BlockTaker.took StandsIn l.fn.decoder l.decoder l.fn.blocks l.blocks (from_form true (take l.done l.octets));
+  handed : Hands g.B.BlockTaker.took StandsIn l.fn.decoder l.decoder l.fn.blocks l.blocks
+      (from_form true (take l.done l.octets));
 }
 
 abbrev pub decreases-loop-done : goal.decreases-loop-done

@@ -13,7 +13,8 @@ returns-then-gather g c = record {
     more = [];
     handed = refl;
     stands = λ given done few stands.
-        subst (λ (l : List WindowBlock). StandsIn c.gather.new.decoder (given ++ c.args.soft.now) l) (sym (append-nil done))
+        subst (λ (l : List WindowBlock). StandsIn c.gather.new.decoder (given ++ c.args.soft.now) l)
+        (sym (append-nil done))
         (c.gather.ensures.gathered c.if-gather.true given done stands);
   };
   prefix = search rules;

@@ -5,7 +5,11 @@ use Rattle.tm_inner.specs.Receiving.{HasCountedAll}
 use Rattle.tm_inner.proofs.feeding.slips.Goals as goal
 
 pub returns-in-Some : goal.returns-in-Some
-returns-in-Some c = λ blocks counted. c.slip_count.ensures blocks (subst (λ (o : Option InnerDecoder). HasCountedAll o blocks) c.in-Some.is counted)
+returns-in-Some c =
+    λ blocks counted. c.slip_count.ensures blocks
+    (subst (λ (o : Option InnerDecoder). HasCountedAll o blocks) c.in-Some.is counted)
 
 pub returns-in-None : goal.returns-in-None
-returns-in-None c = λ blocks counted. sym (ap slips_of (subst (λ (o : Option InnerDecoder). HasCountedAll o blocks) c.in-None.is counted))
+returns-in-None c =
+    λ blocks counted. sym (ap slips_of
+    (subst (λ (o : Option InnerDecoder). HasCountedAll o blocks) c.in-None.is counted))

@@ -8,7 +8,8 @@ use Rattle.tm_inner.proofs.feeding.steps.Goals as goal
 
 pub returns-in-Some-clause-some : goal.returns-in-Some-clause-some
 returns-in-Some-clause-some c =
-    subst (λ (o : Option InnerDecoder). IfSome c.step_count.result (λ steps. (blocks : List WindowBlock) → HasCountedAll o blocks → steps ≡ kept_of blocks))
+    subst (λ (o : Option InnerDecoder). IfSome c.step_count.result
+    (λ steps. (blocks : List WindowBlock) → HasCountedAll o blocks → steps ≡ kept_of blocks))
     (sym c.in-Some.is) c.step_count.ensures.some
 
 pub returns-in-Some-clause-coded : goal.returns-in-Some-clause-coded
@@ -23,4 +24,5 @@ returns-in-Some-clause-none c = λ none config of.
     inr (unseen-unfollowed config is.0 (sym (ap (λ (w : Windows). w.seen) is.2) ∙ c.step_count.ensures.none none))
 
 pub returns-in-None-clause-none : goal.returns-in-None-clause-none
-returns-in-None-clause-none c = λ none config of. inl (subst (λ (o : Option InnerDecoder). IsDecoderOf config o) c.in-None.is of)
+returns-in-None-clause-none c =
+    λ none config of. inl (subst (λ (o : Option InnerDecoder). IsDecoderOf config o) c.in-None.is of)

@@ -9,8 +9,10 @@ pub returns-in-Some : goal.returns-in-Some
 returns-in-Some c = λ given blocks left long few are counted.
     let config = c.args.config.now in
     let some : config.inner ≡ None → ⊥ = λ none.
-    c.steps.ensures.coded (subst (λ (o : Option ℕ). IsSome o) (sym c.in-Some.is) refl) (ap (λ (k : Configuration). k.inner) c.requires ∙ none) in
-    c.in-Some.ensures.some blocks counted ∙ sym (inner-kept config (skip_of c.args.phased.now.chosen) given blocks left some are)
+    c.steps.ensures.coded (subst (λ (o : Option ℕ). IsSome o) (sym c.in-Some.is) refl)
+    (ap (λ (k : Configuration). k.inner) c.requires ∙ none) in
+    c.in-Some.ensures.some blocks counted ∙ sym (inner-kept config
+    (skip_of c.args.phased.now.chosen) given blocks left some are)
 
 pub count_bits-requires : goal.count_bits-requires
 count_bits-requires c =
@@ -18,4 +20,5 @@ count_bits-requires c =
 
 pub returns-in-None : goal.returns-in-None
 returns-in-None c = λ given blocks left long few are counted.
-    c.count_bits.ensures given blocks left long few (subst (λ (n : ℕ). AreInnerBlocks c.args.config.now n given blocks left) (sym c.skip.ensures) are)
+    c.count_bits.ensures given blocks left long few (subst (λ (n : ℕ). AreInnerBlocks c.args.config.now n given blocks
+    left) (sym c.skip.ensures) are)

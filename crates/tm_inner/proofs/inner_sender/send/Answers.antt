@@ -12,7 +12,8 @@ returns-then-is_packed-clause-sent g c =
     let small : AreOctets octets = are_octets octets (λ i. omega (arith, c.type_inv.octets i)) in
     on_ok_weaker c.put_all.result (λ wrote config of same low.
     fed-plain config c.args.encoder.now _ _ octets octets
-    (plain-octets config c.args.encoder.now octets c.in-None.is of (sym same ∙ c.if-is_packed.true) small) wrote) c.put_all.ensures.ok
+    (plain-octets config c.args.encoder.now octets c.in-None.is of (sym same ∙ c.if-is_packed.true) small) wrote)
+    c.put_all.ensures.ok
 
 pub returns-then-is_packed-clause-prefix : goal.returns-then-is_packed-clause-prefix
 returns-then-is_packed-clause-prefix g c =
@@ -20,18 +21,21 @@ returns-then-is_packed-clause-prefix g c =
     let small : AreOctets octets = are_octets octets (λ i. omega (arith, c.type_inv.octets i)) in
     on_err_weaker c.put_all.result (λ part config of same low.
     fed-plain_prefix config c.args.encoder.now _ _ octets octets
-    (plain-octets config c.args.encoder.now octets c.in-None.is of (sym same ∙ c.if-is_packed.true) small) (part.0, part.2)) c.put_all.ensures.err
+    (plain-octets config c.args.encoder.now octets c.in-None.is of (sym same ∙ c.if-is_packed.true) small)
+    (part.0, part.2)) c.put_all.ensures.err
 
 pub returns-else-is_packed-clause-sent : goal.returns-else-is_packed-clause-sent
 returns-else-is_packed-clause-sent g c =
     let octets = c.args.octets.now in
     on_ok_weaker c.send_bits.result (λ wrote config of same low.
     fed-plain config c.args.encoder.now _ _ octets (spread c.args.low octets)
-    (plain-spread config c.args.encoder.now c.args.low octets c.in-None.is of (sym same ∙ c.if-is_packed.false) low) wrote) c.send_bits.ensures.sent
+    (plain-spread config c.args.encoder.now c.args.low octets c.in-None.is of (sym same ∙ c.if-is_packed.false) low)
+    wrote) c.send_bits.ensures.sent
 
 pub returns-else-is_packed-clause-prefix : goal.returns-else-is_packed-clause-prefix
 returns-else-is_packed-clause-prefix g c =
     let octets = c.args.octets.now in
     on_err_weaker c.send_bits.result (λ part config of same low.
     fed-plain_prefix config c.args.encoder.now _ _ octets (spread c.args.low octets)
-    (plain-spread config c.args.encoder.now c.args.low octets c.in-None.is of (sym same ∙ c.if-is_packed.false) low) part) c.send_bits.ensures.prefix
+    (plain-spread config c.args.encoder.now c.args.low octets c.in-None.is of (sym same ∙ c.if-is_packed.false) low)
+    part) c.send_bits.ensures.prefix

@@ -16,9 +16,11 @@ returns-in_err-put_all-clause-prefix g c =
     let part = c.in_err-put_all.ensures.err in
     let are = c.spread.ensures.bits in
     on_err_of c.from_residual.result _ c.from_residual.ensures.0 (
-    spread-prefix low (g.O.Sink.taken c.args.out.now) (g.O.Sink.taken c.loop-done.out) (g.O.Sink.taken c.put_all.new.out)
+    spread-prefix low (g.O.Sink.taken c.args.out.now) (g.O.Sink.taken c.loop-done.out)
+    (g.O.Sink.taken c.put_all.new.out)
     (take done octets) piece (drop end octets) octets part.0
-    (sym (append_assoc (take done octets) piece (drop end octets)) ∙ ap (λ l. l ++ drop end octets) (joined done c.min.result octets) ∙ take-append-drop end octets)
+    (sym (append_assoc (take done octets) piece (drop end octets))
+    ∙ ap (λ l. l ++ drop end octets) (joined done c.min.result octets) ∙ take-append-drop end octets)
     c.loop-done.invariant.wrote
     (subst (λ l. part.0 ≤ length l) are part.1)
     (subst (λ l. Wrote (g.O.Sink.taken c.loop-done.out) (g.O.Sink.taken c.put_all.new.out) (take part.0 l)) are part.2)
@@ -35,7 +37,10 @@ loop-done-preserved g c =
       within = grind (arith, common_steps);
       room = c.spread.ensures.length ∙ c.loop-done.invariant.room;
       faults = grind (arith, common_steps);
-      wrote = spread-more low (g.O.Sink.taken c.args.out.now) (g.O.Sink.taken c.loop-done.out) (g.O.Sink.taken c.put_all.new.out)
+      wrote =
+          spread-more low (g.O.Sink.taken c.args.out.now) (g.O.Sink.taken c.loop-done.out)
+          (g.O.Sink.taken c.put_all.new.out)
           (take done octets) piece (take end octets) (joined done c.min.result octets) c.loop-done.invariant.wrote
-          (subst (Wrote (g.O.Sink.taken c.loop-done.out) (g.O.Sink.taken c.put_all.new.out)) c.spread.ensures.bits c.in_ok-put_all.ensures.ok);
+          (subst (Wrote (g.O.Sink.taken c.loop-done.out) (g.O.Sink.taken c.put_all.new.out)) c.spread.ensures.bits
+          c.in_ok-put_all.ensures.ok);
     }

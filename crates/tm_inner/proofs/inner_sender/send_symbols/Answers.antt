@@ -11,14 +11,18 @@ use Rattle.tm_viterbi.proofs.Handing.{on_err_of}
 use Rattle.tm_inner.proofs.inner_sender.send_symbols.Goals as goal
 
 -- the same, where rate and inversion are those of an encoder before
-same-code : (before here now : Encoding) (low : ℕ) (taken taken_now : Option (List ℕ)) (piece : List ℕ) → here.rate ≡ before.rate → here.invert ≡ before.invert
-    → Fed EncodesFor (encoded here.rate here.invert low) here now taken taken_now piece → Fed EncodesFor (encoded before.rate before.invert low) here now taken taken_now piece
+same-code : (before here now : Encoding) (low : ℕ) (taken taken_now : Option (List ℕ)) (piece : List ℕ)
+    → here.rate ≡ before.rate → here.invert ≡ before.invert
+    → Fed EncodesFor (encoded here.rate here.invert low) here now taken taken_now piece
+    → Fed EncodesFor (encoded before.rate before.invert low) here now taken taken_now piece
 same-code before here now low taken taken_now piece rate invert fed =
     subst (λ (i : Bool). Fed EncodesFor (encoded before.rate i low) here now taken taken_now piece) invert
     (subst (λ (r : Rate). Fed EncodesFor (encoded r here.invert low) here now taken taken_now piece) rate fed)
 
-same-code_prefix : (before here : Encoding) (low : ℕ) (taken taken_now : Option (List ℕ)) (piece : List ℕ) → here.rate ≡ before.rate → here.invert ≡ before.invert
-    → FedPrefix EncodesFor (encoded here.rate here.invert low) here taken taken_now piece → FedPrefix EncodesFor (encoded before.rate before.invert low) here taken taken_now piece
+same-code_prefix : (before here : Encoding) (low : ℕ) (taken taken_now : Option (List ℕ)) (piece : List ℕ)
+    → here.rate ≡ before.rate → here.invert ≡ before.invert
+    → FedPrefix EncodesFor (encoded here.rate here.invert low) here taken taken_now piece
+    → FedPrefix EncodesFor (encoded before.rate before.invert low) here taken taken_now piece
 same-code_prefix before here low taken taken_now piece rate invert fed =
     subst (λ (i : Bool). FedPrefix EncodesFor (encoded before.rate i low) here taken taken_now piece) invert
     (subst (λ (r : Rate). FedPrefix EncodesFor (encoded r here.invert low) here taken taken_now piece) rate fed)
@@ -36,16 +40,20 @@ returns-in_err-put_all-clause-prefix g c =
     let on = encoded-goes_on before.rate before.invert low in
     let taken = g.O.Sink.taken c.args.out.now in
     let taken_now = g.O.Sink.taken c.put_all.new.out in
-    let by : GoesOnBy here c.encode-count.new.self low piece symbols = record { stands = c.encode-count.ensures.stands; sent = c.encode-count.ensures.sent } in
+    let by : GoesOnBy here c.encode-count.new.self low piece symbols =
+    record { stands = c.encode-count.ensures.stands; sent = c.encode-count.ensures.sent } in
     let part = c.in_err-put_all.ensures.err in
     let one =
-    same-code_prefix before here low (g.O.Sink.taken c.loop-done.out) taken_now piece c.loop-done.invariant.rate c.loop-done.invariant.invert
-    (fed-piece_prefix here c.encode-count.new.self low piece symbols (g.O.Sink.taken c.loop-done.out) taken_now by (part.0, part.2)) in
+    same-code_prefix before here low (g.O.Sink.taken c.loop-done.out) taken_now piece c.loop-done.invariant.rate
+    c.loop-done.invariant.invert
+    (fed-piece_prefix here c.encode-count.new.self low piece symbols (g.O.Sink.taken c.loop-done.out) taken_now by
+    (part.0, part.2)) in
     on_err_of c.from_residual.result _ c.from_residual.ensures.0 (
     subst (FedPrefix EncodesFor due before taken taken_now) (take-append-drop end octets)
     (fed-prefix_of_longer EncodesFor due on before taken taken_now (take end octets) (drop end octets)
     (subst (FedPrefix EncodesFor due before taken taken_now) (joined c.loop-done.done c.min.result octets)
-    (fed-prefix EncodesFor due on before here taken (g.O.Sink.taken c.loop-done.out) taken_now (take c.loop-done.done octets) piece c.loop-done.invariant.fed one)))
+    (fed-prefix EncodesFor due on before here taken (g.O.Sink.taken c.loop-done.out) taken_now
+    (take c.loop-done.done octets) piece c.loop-done.invariant.fed one)))
     )
 
 pub loop-done-preserved : goal.loop-done-preserved
@@ -62,9 +70,13 @@ loop-done-preserved g c =
     let on = encoded-goes_on before.rate before.invert low in
     let taken = g.O.Sink.taken c.args.out.now in
     let taken_now = g.O.Sink.taken c.put_all.new.out in
-    let by : GoesOnBy here now low piece symbols = record { stands = c.encode-count.ensures.stands; sent = c.encode-count.ensures.sent } in
+    let by : GoesOnBy here now low piece symbols = record {
+      stands = c.encode-count.ensures.stands;
+      sent = c.encode-count.ensures.sent;
+    } in
     let one =
-    same-code before here now low (g.O.Sink.taken c.loop-done.out) taken_now piece c.loop-done.invariant.rate c.loop-done.invariant.invert
+    same-code before here now low (g.O.Sink.taken c.loop-done.out) taken_now piece c.loop-done.invariant.rate
+    c.loop-done.invariant.invert
     (fed-piece here now low piece symbols (g.O.Sink.taken c.loop-done.out) taken_now by c.in_ok-put_all.ensures.ok) in
     record {
       within = grind (arith, common_steps);
@@ -73,5 +85,6 @@ loop-done-preserved g c =
       invert = c.encode-count.ensures.invert ∙ c.loop-done.invariant.invert;
       faults = grind (arith, common_steps);
       fed = subst (Fed EncodesFor due before now taken taken_now) (joined c.loop-done.done c.min.result octets)
-          (fed-more EncodesFor due on before here now taken (g.O.Sink.taken c.loop-done.out) taken_now (take c.loop-done.done octets) piece c.loop-done.invariant.fed one);
+          (fed-more EncodesFor due on before here now taken (g.O.Sink.taken c.loop-done.out) taken_now
+          (take c.loop-done.done octets) piece c.loop-done.invariant.fed one);
     }

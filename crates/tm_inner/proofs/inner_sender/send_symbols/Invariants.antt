@@ -10,7 +10,8 @@ invariant-loop-done g l = record {
   rate : l.encoder.rate ≡ l.fn.encoder.rate;
   invert : l.encoder.invert ≡ l.fn.encoder.invert;
   faults : g.O.Sink.faults l.out ≡ g.O.Sink.faults l.fn.out;
-  fed : Fed EncodesFor (encoded l.fn.encoder.rate l.fn.encoder.invert l.low) l.fn.encoder l.encoder (g.O.Sink.taken l.fn.out) (g.O.Sink.taken l.out) (take l.done l.octets);
+  fed : Fed EncodesFor (encoded l.fn.encoder.rate l.fn.encoder.invert l.low) l.fn.encoder l.encoder
+      (g.O.Sink.taken l.fn.out) (g.O.Sink.taken l.out) (take l.done l.octets);
 }
 
 abbrev pub decreases-loop-done : goal.decreases-loop-done

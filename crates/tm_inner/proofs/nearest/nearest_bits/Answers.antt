@@ -17,15 +17,19 @@ loop-k-preserved c =
     let near = nearest_bit c.args.config.now in
     let bit : (value == 1) ≡ near octet =
     top_bit c.unsigned.result (omega arith)
-    ∙ ap (nat_le 128) (c.unsigned.ensures ∙ ap (λ (b : Bool). if b then (octet + 128) % 256 else octet) c.is_signed-is_signed.ensures) in
+    ∙ ap (nat_le 128) (c.unsigned.ensures ∙ ap (λ (b : Bool). if b then (octet + 128) % 256 else octet)
+    c.is_signed-is_signed.ensures) in
     let more = take-set_at bits k (k + 1) value refl (omega arith) in
     record {
       size = length-set bits k value ∙ c.loop-k.invariant.size;
-      are_bits = subst AreBits (sym more) (All-push (λ b. b < 2) (take k bits) value c.loop-k.invariant.are_bits (omega arith));
+      are_bits =
+          subst AreBits (sym more)
+          (All-push (λ b. b < 2) (take k bits) value c.loop-k.invariant.are_bits (omega arith));
       bits = ap (map (λ b. b == 1)) more
           ∙ map-append (λ b. b == 1) (take k bits) (value ∷ [])
           ∙ (λ i. c.loop-k.invariant.bits i ++ bit i ∷ [])
-          ∙ sym (ap (map near) (take_more octets k 0 (omega (arith, c.loop-k.invariant.size))) ∙ map-append near (take k octets) (octet ∷ []));
+          ∙ sym (ap (map near) (take_more octets k 0 (omega (arith, c.loop-k.invariant.size)))
+          ∙ map-append near (take k octets) (octet ∷ []));
     }
 
 pub returns-clause-are_bits : goal.returns-clause-are_bits
@@ -34,4 +38,5 @@ returns-clause-are_bits c = subst AreBits (take_all c.loop-k.k c.loop-k.bits (om
 pub returns-clause-bits : goal.returns-clause-bits
 returns-clause-bits c =
     ap (map (λ b. b == 1)) (sym (take_all c.loop-k.k c.loop-k.bits (omega arith))) ∙ c.loop-k.invariant.bits
-    ∙ ap (map (nearest_bit c.args.config.now)) (take_all c.loop-k.k c.args.octets.now (omega (arith, c.loop-k.invariant.size)))
+    ∙ ap (map (nearest_bit c.args.config.now)) (take_all c.loop-k.k c.args.octets.now
+    (omega (arith, c.loop-k.invariant.size)))

@@ -7,6 +7,9 @@ loop-k-preserved c =
     let k = c.loop-k.k in
     record {
       long = search rules;
-      prefix = spread-next c.args.low k (8 * k + 8 - 8 * k) c.args.octets.now c.loop-k.room c.copy_from_slice.new.self (omega arith)
-          (omega (arith, c.requires, c.loop-k.invariant.long)) (c.copy_from_slice.ensures.after ∙ c.spread_octet.ensures) c.loop-k.invariant.prefix;
+      prefix =
+          spread-next c.args.low k (8 * k + 8 - 8 * k) c.args.octets.now c.loop-k.room c.copy_from_slice.new.self
+          (omega arith)
+          (omega (arith, c.requires, c.loop-k.invariant.long))
+          (c.copy_from_slice.ensures.after ∙ c.spread_octet.ensures) c.loop-k.invariant.prefix;
     }

@@ -42,7 +42,8 @@ pub returns-in-Many-clause-due : goal.returns-in-Many-clause-due
 returns-in-Many-clause-due c =
     let count = c.count_closed.result in
     subst (λ (d : InnerDecoder). (given : List ℕ) (done : List WindowBlock) → StandsIn d given done
-    → (more : List WindowBlock) × (length more ≤ count) × ((windows_in d).seen ≡ None → length more ≡ count) × AreDueIn (windows_in d) given (done ++ more))
+    → (more : List WindowBlock) × (length more ≤ count) × ((windows_in d).seen ≡ None → length more ≡ count)
+    × AreDueIn (windows_in d) given (done ++ more))
     (sym c.in-Many.is) c.count_closed.ensures.due
 
 pub returns-in-Many-clause-most : goal.returns-in-Many-clause-most

@@ -7,5 +7,6 @@ use Rattle.tm_inner.proofs.workers.gather.Goals as goal
 
 pub returns-in-Many-clause-gathered : goal.returns-in-Many-clause-gathered
 returns-in-Many-clause-gathered c =
-    subst (λ (d : InnerDecoder). IsTrue c.gather.result → (given : List ℕ) (done : List WindowBlock) → StandsIn d given done
+    subst (λ (d : InnerDecoder). IsTrue c.gather.result → (given : List ℕ) (done : List WindowBlock)
+    → StandsIn d given done
     → StandsIn (Many c.gather.new.self) (given ++ c.args.piece.now) done) (sym c.in-Many.is) c.gather.ensures.gathered

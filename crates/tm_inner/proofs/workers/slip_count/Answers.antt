@@ -7,4 +7,6 @@ pub returns-in-One : goal.returns-in-One
 returns-in-One c = λ blocks counted. sym (subst (λ (d : InnerDecoder). HasCounted d blocks) c.in-One.is counted)
 
 pub returns-in-Many : goal.returns-in-Many
-returns-in-Many c = λ blocks counted. c.slips.ensures.value ∙ sym (subst (λ (d : InnerDecoder). HasCounted d blocks) c.in-Many.is counted).0
+returns-in-Many c =
+    λ blocks counted. c.slips.ensures.value
+    ∙ sym (subst (λ (d : InnerDecoder). HasCounted d blocks) c.in-Many.is counted).0

@@ -6,7 +6,11 @@ pub new-check-requires-clause-steps : goal.new-check-requires-clause-steps
 new-check-requires-clause-steps c = (1, omega arith, sym one_step)
 
 pub column-requires : goal.column-requires
-column-requires c = record { more = room c.new-check.result.claim _ c.new-check.result.count 0 c.new-check.ensures.claim c.new-check.ensures.count (omega (arith, no_step)) }
+column-requires c =
+    record {
+      more = room c.new-check.result.claim _ c.new-check.result.count 0 c.new-check.ensures.claim
+          c.new-check.ensures.count (omega (arith, no_step));
+    }
 
 pub column-requires-2 : goal.column-requires-2
 column-requires-2 c = record {
@@ -15,4 +19,6 @@ column-requires-2 c = record {
 }
 
 pub finish-requires-clause-steps : goal.finish-requires-clause-steps
-finish-requires-clause-steps c = room_end c.column-2.new.self.claim _ (c.column-2.ensures.claim ∙ c.column.ensures.claim ∙ c.new-check.ensures.claim) (sym one_step)
+finish-requires-clause-steps c =
+    room_end c.column-2.new.self.claim _
+    (c.column-2.ensures.claim ∙ c.column.ensures.claim ∙ c.new-check.ensures.claim) (sym one_step)

@@ -6,4 +6,5 @@ pub returns-clause-exists : goal.returns-clause-exists
 returns-clause-exists c = IsVerdict-exists
 
 pub returns-clause-least : goal.returns-clause-least
-returns-clause-least c claim columns metric steps initial others pass covers long candidate = Pass-least claim columns metric steps initial others pass long covers candidate
+returns-clause-least c claim columns metric steps initial others pass covers long candidate =
+    Pass-least claim columns metric steps initial others pass long covers candidate

@@ -27,9 +27,11 @@ returns-clause-answered g c =
     c.limit.result c.limit.ensures.value _ _ c.drive-ending.result h.0 h.3 in
     let source = source_call g.S.Source.given g.S.Source.left g.S.Source.ended g.S.Source.faults g.S.Source.is_last
     c.args.source.now c.drive-ending.new.source in
-    let same : (noted : Option (List ℕ)) → Ends c.drive-ending.result (certify_meaning c.args.config.now) c.args.config.now.limit h.0
+    let same : (noted : Option (List ℕ)) → Ends c.drive-ending.result
+    (certify_meaning c.args.config.now) c.args.config.now.limit h.0
     (taken_by (g.O.Sink.taken c.args.out.now) (g.O.Sink.taken now.out.now) noted noted) =
     λ noted. subst (λ (k : Configuration). Ends c.drive-ending.result (certified_meaning k) k.limit h.0
     (taken_by (g.O.Sink.taken c.args.out.now) (g.O.Sink.taken now.out.now) noted noted)) is (done noted) in
-    answered-alone h.0 _ _ _ _ source _ (c.limit.ensures.value ∙ ap (λ (k : Configuration). k.limit) is) h.1 h.2 (search rules) c.drive-ending.ensures.source
+    answered-alone h.0 _ _ _ _ source _ (c.limit.ensures.value ∙ ap (λ (k : Configuration). k.limit) is) h.1 h.2
+    (search rules) c.drive-ending.ensures.source
     (search rules)

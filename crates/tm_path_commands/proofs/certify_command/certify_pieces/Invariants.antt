@@ -8,7 +8,8 @@ abbrev pub invariant-loop-done : goal.invariant-loop-done
 invariant-loop-done g l = record {
   within : l.done ≤ length l.octets;
   ready : l.receiver.has_stopped ≡ false;
-  holds : (c : Configuration) (start : Option (List ℕ)) (given : List ℕ) → IsAccepted c → length given + length l.octets < 2 ^ 44
+  holds : (c : Configuration) (start : Option (List ℕ)) (given : List ℕ) → IsAccepted c
+      → length given + length l.octets < 2 ^ 44
       → Certifies c l.fn.receiver l.fn.certifying start (g.O.Sink.taken l.fn.out) given
       → Certifies c l.receiver l.certifying start (g.O.Sink.taken l.out) (given ++ take l.done l.octets);
   same : g.O.Sink.faults l.out ≡ g.O.Sink.faults l.fn.out;

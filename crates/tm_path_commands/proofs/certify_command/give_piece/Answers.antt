@@ -12,12 +12,21 @@ returns c =
     let before = c.args.certifying.now in
     record {
       soft = drop skipped converted;
-      few = omega (arith, length-drop skipped converted, c.to_soft-skipped.ensures.size, ap length c.copy_from_slice.ensures.after, c.requires);
+      few =
+          omega (
+            arith,
+            length-drop skipped converted,
+            c.to_soft-skipped.ensures.size,
+            ap length c.copy_from_slice.ensures.after,
+            c.requires,
+          );
       are_soft = λ octets handed stands.
-          subst (λ (l : List ℕ). phase_octets config (octets ++ l) ≡ phase_octets config octets ++ drop skipped converted) c.copy_from_slice.ensures.after
+          subst (λ (l : List ℕ). phase_octets config (octets ++ l) ≡ phase_octets config octets
+          ++ drop skipped converted) c.copy_from_slice.ensures.after
           (c.to_soft-skipped.ensures.soft octets handed stands);
       given = c.give.ensures
-          ∙ ap (λ (l : List ℕ). with_octets before (before.place.octets ++ take (before.room - length before.place.octets) l))
+          ∙ ap (λ (l : List ℕ). with_octets before (before.place.octets
+          ++ take (before.room - length before.place.octets) l))
           (take_all (length converted - skipped) (drop skipped converted)
           (omega (arith, length-drop skipped converted)));
     }

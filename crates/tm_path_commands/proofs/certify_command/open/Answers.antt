@@ -8,7 +8,8 @@ use Rattle.tm_path_commands.proofs.certify_command.open.Goals as goal
 
 pub returns : goal.returns
 returns c = IfOk-weaker c.open.result _ _ (λ v is receiver taken same stands.
-    certifies-new c.args.config.now receiver v taken c.values-values.ensures.accepted c.requires same stands (λ rate some.
+    certifies-new c.args.config.now receiver v taken c.values-values.ensures.accepted c.requires same stands
+    (λ rate some.
     let other : c.unwrap_or-rate.result ≡ rate = search rules in
     let shape = c.shape_of-shape.result in
     let is_shape = c.shape_of-shape.ensures in

@@ -26,4 +26,5 @@ returns-clause-answered g c =
     c.limit.result c.limit.ensures.value _ _ c.drive-ending.result h.0 h.3 in
     let source = source_call g.S.Source.given g.S.Source.left g.S.Source.ended g.S.Source.faults g.S.Source.is_last
     c.args.source.now c.drive-ending.new.source in
-    answered-alone h.0 _ _ _ _ source _ c.limit.ensures.value h.1 h.2 (search rules) c.drive-ending.ensures.source (search rules)
+    answered-alone h.0 _ _ _ _ source _ c.limit.ensures.value h.1 h.2 (search rules) c.drive-ending.ensures.source
+    (search rules)

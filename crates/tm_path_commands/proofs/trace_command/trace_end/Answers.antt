@@ -60,7 +60,8 @@ returns-in-Err-clause-prefix g c = λ config start octets accepted t.
     (g.O.Sink.faults t.lines.now) in
     let last : Trace g.row.O.Denot → Type 0 = λ t. g.O.Sink.is_last t.lines.now in
     let count : Trace g.row.O.Denot → Tally = λ t. t.tally in
-    cut-last c.one_windows_law.ensures.exists c.due_windows_law.ensures.first name lines last count config c.args.receiver.now was
+    cut-last c.one_windows_law.ensures.exists c.due_windows_law.ensures.first name lines last count config
+    c.args.receiver.now was
     now start octets h.0 accepted t
     (took-part name lines last count h.0 was now h.1) h.2
 

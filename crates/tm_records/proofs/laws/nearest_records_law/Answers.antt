@@ -11,7 +11,8 @@ returns-clause-one c coding octets a b short h k = nearest_only coding octets a 
 
 pub returns-clause-exists_due : goal.returns-clause-exists_due
 returns-clause-exists_due c coding octets =
-    let some = has_first coding (in_batches (record_count coding octets)) octets in (some.0, record { each = some.1; all = some.2 })
+    let some = has_first coding (in_batches (record_count coding octets)) octets in
+    (some.0, record { each = some.1; all = some.2 })
 
 pub returns-clause-one_due : goal.returns-clause-one_due
 returns-clause-one_due c coding octets a b short h k = nearest_due_only coding octets a b short h k

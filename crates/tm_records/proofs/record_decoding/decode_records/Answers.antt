@@ -11,6 +11,8 @@ returns-clause-nearest g c =
     let coding = c.args.coding.now in
     let octets = c.args.octets.now in
     let now = c.decode_erased_batch.new.words in
-    let prefix = take_at now (drop c.args.count c.args.words.now) c.args.count (c.decode_erased_batch.auto.words ∙ c.read_records.ensures.length ∙ length-take-le c.args.count c.args.words.now c.requires.count) in
+    let prefix = take_at now (drop c.args.count c.args.words.now) c.args.count
+    (c.decode_erased_batch.auto.words ∙ c.read_records.ensures.length
+    ∙ length-take-le c.args.count c.args.words.now c.requires.count) in
     subst (λ (words : List ErasedWord). AreFirstNearest coding octets (all_nearest coding words)) (sym prefix)
     (nearest-are coding octets c.read_records.new.words now c.read_records.ensures.read c.decode_erased_batch.ensures)

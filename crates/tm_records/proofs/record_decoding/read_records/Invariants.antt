@@ -5,4 +5,6 @@ use Rattle.tm_workers.specs.declared.words.ErasedWord.{ErasedWord}
 use Rattle.tm_records.proofs.record_decoding.read_records.Given as goal
 
 abbrev pub invariant-loop-index : goal.invariant-loop-index
-invariant-loop-index l = (j : ℕ) (w : ErasedWord) → j < l.index → IsRead l.coding (drop (j * record_size l.coding) l.octets) (get_or l.words j w)
+invariant-loop-index l =
+    (j : ℕ) (w : ErasedWord) → j < l.index
+    → IsRead l.coding (drop (j * record_size l.coding) l.octets) (get_or l.words j w)

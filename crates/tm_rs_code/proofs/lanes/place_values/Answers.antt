@@ -21,14 +21,22 @@ loop-i-preserved c =
     let f : ℕ = c.number-factor.result in
     let held = c.loop-i.invariant in
     record {
-      long = length-zip2 bit_xor c.loop-i.sum c.product-sum.result (omega (arith, held.long, c.product-sum.ensures.long)) ∙ held.long;
+      long =
+          length-zip2 bit_xor c.loop-i.sum c.product-sum.result (omega (arith, held.long, c.product-sum.ensures.long))
+          ∙ held.long;
       part = λ m lm.
-          sum_more (place_of (16 * c.args.group + m)) c.args.poly.now c.loop-i.i m k (omega arith) (omega arith) lm c.loop-i.sum c.product-sum.result f
+          sum_more (place_of (16 * c.args.group + m)) c.args.poly.now c.loop-i.i m k (omega arith)
+          (omega arith) lm c.loop-i.sum c.product-sum.result f
           held.long c.product-sum.ensures.long c.number-factor.ensures.value
-          (c.product-sum.ensures.value f c.low_products-low.ensures c.high_products-high.ensures m lm ∙ ap (times f) (c.powers_of.ensures.each k m (omega arith) lm)) (held.part m lm);
-      next_long = length-zip2 bit_xor c.loop-i.next c.product-next.result (omega (arith, held.next_long, c.product-next.ensures.long)) ∙ held.next_long;
+          (c.product-sum.ensures.value f c.low_products-low.ensures c.high_products-high.ensures m lm
+          ∙ ap (times f) (c.powers_of.ensures.each k m (omega arith) lm)) (held.part m lm);
+      next_long =
+          length-zip2 bit_xor c.loop-i.next c.product-next.result
+          (omega (arith, held.next_long, c.product-next.ensures.long)) ∙ held.next_long;
       next_part = λ m lm.
-          sum_more (place_of (16 * (c.args.group + 1) + m)) c.args.poly.now c.loop-i.i m k (omega arith) (omega arith) lm c.loop-i.next c.product-next.result f
+          sum_more (place_of (16 * (c.args.group + 1) + m)) c.args.poly.now c.loop-i.i m k (omega arith)
+          (omega arith) lm c.loop-i.next c.product-next.result f
           held.next_long c.product-next.ensures.long c.number-factor.ensures.value
-          (c.product-next.ensures.value f c.low_products-low.ensures c.high_products-high.ensures m lm ∙ ap (times f) (c.powers_of-2.ensures.each k m (omega arith) lm)) (held.next_part m lm);
+          (c.product-next.ensures.value f c.low_products-low.ensures c.high_products-high.ensures m lm
+          ∙ ap (times f) (c.powers_of-2.ensures.each k m (omega arith) lm)) (held.next_part m lm);
     }

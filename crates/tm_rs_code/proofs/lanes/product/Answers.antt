@@ -12,4 +12,5 @@ returns-clause-long c = length-product c.args.low c.args.high c.args.lows c.args
 
 pub returns-clause-value : goal.returns-clause-value
 returns-clause-value c factor low high m lt =
-    product_at factor c.args.low c.args.high c.args.lows c.args.highs c.fits-lows.0 c.fits-highs.0 c.requires.lows c.requires.highs low high m lt
+    product_at factor c.args.low c.args.high c.args.lows c.args.highs c.fits-lows.0 c.fits-highs.0 c.requires.lows
+    c.requires.highs low high m lt

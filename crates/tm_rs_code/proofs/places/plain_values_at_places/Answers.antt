@@ -12,8 +12,10 @@ loop-p-preserved c = record {
     | inl e ↦ ap (λ (k : ℕ). get_or (set c.loop-p.values c.loop-p.p c.number.result) k 0) e
         ∙ get_or-set_same c.loop-p.values c.loop-p.p c.number.result 0 (omega (arith, c.loop-p.invariant.size))
         ∙ c.number.ensures.value
-        ∙ sym (at_place (numbers c.args.poly.now) c.loop-p.p c.exp.result.0 c.eval.result.0 c.exp.ensures c.eval.ensures)
+        ∙ sym (at_place (numbers c.args.poly.now) c.loop-p.p c.exp.result.0 c.eval.result.0 c.exp.ensures
+        c.eval.ensures)
         ∙ ap (λ (k : ℕ). value_at (numbers c.args.poly.now) (place_of k)) (sym e)
-    | inr ne ↦ get_or-set_other c.loop-p.values c.loop-p.p q c.number.result 0 ne ∙ c.loop-p.invariant.done q (omega arith)
+    | inr ne ↦ get_or-set_other c.loop-p.values c.loop-p.p q c.number.result 0 ne
+        ∙ c.loop-p.invariant.done q (omega arith)
   ];
 }

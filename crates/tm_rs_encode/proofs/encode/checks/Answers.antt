@@ -12,6 +12,9 @@ returns-then-e-eq16-clause-codeword c =
 
 pub returns-else-e-eq16-clause-codeword : goal.returns-else-e-eq16-clause-codeword
 returns-else-e-eq16-clause-codeword c =
-    let is : c.args.params.now.e ≡ 8 = elim c.e.ensures.strength [ inl long ↦ absurd (c.if-e-eq16.false (c.e.ensures.value ∙ long)) | inr short ↦ short ] in
-    encoded 8 c.args.params.now.e (numbers c.args.info.now) c.remainder-else-e-eq16.result (numbers c.store-else-e-eq16.new.out) is
-    (omega (arith, length-numbers c.args.info.now, c.e.ensures.range)) c.store-else-e-eq16.ensures c.remainder-else-e-eq16.ensures.systematic
+    let is : c.args.params.now.e ≡ 8 = elim c.e.ensures.strength
+    [ inl long ↦ absurd (c.if-e-eq16.false (c.e.ensures.value ∙ long)) | inr short ↦ short ] in
+    encoded 8 c.args.params.now.e (numbers c.args.info.now) c.remainder-else-e-eq16.result
+    (numbers c.store-else-e-eq16.new.out) is
+    (omega (arith, length-numbers c.args.info.now, c.e.ensures.range)) c.store-else-e-eq16.ensures
+    c.remainder-else-e-eq16.ensures.systematic

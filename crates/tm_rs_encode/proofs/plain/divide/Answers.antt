@@ -13,9 +13,13 @@ loop-symbol-init c e gen =
 
 pub loop-symbol-preserved : goal.loop-symbol-preserved
 loop-symbol-preserved c e gen =
-    takes_next e c.args.generator.now gen c.args.info.now c.loop-symbol.symbol-index (numbers c.loop-symbol.register) (numbers c.shift_in.new.register)
+    takes_next e c.args.generator.now gen c.args.info.now c.loop-symbol.symbol-index (numbers c.loop-symbol.register)
+    (numbers c.shift_in.new.register)
     (entry c.args.info.now c.loop-symbol.symbol-index) (omega arith) refl c.number-range.ensures.small
-    (length-numbers c.loop-symbol.register ∙ (omega (arith, c.requires.room, gen.degree))) c.shift_in.ensures (c.loop-symbol.invariant e gen)
+    (length-numbers c.loop-symbol.register ∙ (omega (arith, c.requires.room, gen.degree))) c.shift_in.ensures
+    (c.loop-symbol.invariant e gen)
 
 pub returns : goal.returns
-returns c e gen = all_taken e c.loop-symbol.symbol-index c.args.info.now (numbers c.loop-symbol.register) (omega arith) (c.loop-symbol.invariant e gen)
+returns c e gen =
+    all_taken e c.loop-symbol.symbol-index c.args.info.now (numbers c.loop-symbol.register) (omega arith)
+    (c.loop-symbol.invariant e gen)

@@ -5,4 +5,7 @@ use Rattle.tm_rs_encode.specs.Generator.{IsGenerator}
 use Rattle.tm_rs_encode.proofs.plain.divide.Given as goal
 
 abbrev pub invariant-loop-symbol : goal.invariant-loop-symbol
-invariant-loop-symbol l = (e : ℕ) → IsGenerator e l.generator → IsSystematic e (numbers (take l.symbol-index l.info)) (numbers (take l.symbol-index l.info) ++ numbers l.register)
+invariant-loop-symbol l =
+    (e : ℕ) → IsGenerator e l.generator
+    → IsSystematic e (numbers (take l.symbol-index l.info))
+    (numbers (take l.symbol-index l.info) ++ numbers l.register)

@@ -6,6 +6,7 @@ use Rattle.tm_rs_encode.proofs.plain.shift_in.Given as goal
 
 abbrev pub invariant-loop-i : goal.invariant-loop-i
 invariant-loop-i l = record {
-  done : (j : ℕ) → j < l.i → entry l.register j ≡ bit_xor (entry l.initial.register (suc j)) (times l.factor.0 (get_or l.generator j 0));
+  done : (j : ℕ) → j < l.i → entry l.register j ≡ bit_xor (entry l.initial.register (suc j))
+      (times l.factor.0 (get_or l.generator j 0));
   left : (j : ℕ) → l.i ≤ j → entry l.register j ≡ entry l.initial.register j;
 }

@@ -6,5 +6,6 @@ use Rattle.tm_rs_encode.proofs.rs16.remainder.Given as goal
 abbrev pub invariant-loop-symbol : goal.invariant-loop-symbol
 invariant-loop-symbol l = record {
   size : length l.register ≡ 32;
-  systematic : IsSystematic 16 (numbers (take l.symbol-index l.info)) (numbers (take l.symbol-index l.info) ++ l.register);
+  systematic : IsSystematic 16 (numbers (take l.symbol-index l.info))
+      (numbers (take l.symbol-index l.info) ++ l.register);
 }

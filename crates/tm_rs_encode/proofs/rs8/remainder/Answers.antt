@@ -13,8 +13,12 @@ loop-symbol-preserved c =
     let size = c.loop-symbol.invariant.size in
     let same : length GENERATOR ≡ length c.loop-symbol.register = generator_8.degree ∙ sym size in
     record {
-      size = ap length c.shift_in-register.ensures ∙ length-shift GENERATOR c.number.result c.loop-symbol.register same ∙ size;
+      size =
+          ap length c.shift_in-register.ensures ∙ length-shift GENERATOR c.number.result c.loop-symbol.register same
+          ∙ size;
       systematic =
-          takes_next 8 GENERATOR generator_8 c.args.info.now c.loop-symbol.symbol-index c.loop-symbol.register c.shift_in-register.result c.number.result (omega arith)
-          c.number.ensures.value (omega (arith, c.number.ensures.value, c.number.ensures.small)) size c.shift_in-register.ensures c.loop-symbol.invariant.systematic;
+          takes_next 8 GENERATOR generator_8 c.args.info.now c.loop-symbol.symbol-index c.loop-symbol.register
+          c.shift_in-register.result c.number.result (omega arith)
+          c.number.ensures.value (omega (arith, c.number.ensures.value, c.number.ensures.small)) size
+          c.shift_in-register.ensures c.loop-symbol.invariant.systematic;
     }

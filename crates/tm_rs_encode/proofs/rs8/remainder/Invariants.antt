@@ -6,5 +6,6 @@ use Rattle.tm_rs_encode.proofs.rs8.remainder.Given as goal
 abbrev pub invariant-loop-symbol : goal.invariant-loop-symbol
 invariant-loop-symbol l = record {
   size : length l.register ≡ 16;
-  systematic : IsSystematic 8 (numbers (take l.symbol-index l.info)) (numbers (take l.symbol-index l.info) ++ l.register);
+  systematic : IsSystematic 8 (numbers (take l.symbol-index l.info))
+      (numbers (take l.symbol-index l.info) ++ l.register);
 }

@@ -5,4 +5,6 @@ use Rattle.tm_rs_encode.proofs.Rows.{stepped}
 use Rattle.tm_rs_encode.proofs.rs8.shift_in.Goals as goal
 
 pub returns : goal.returns
-returns c = stepped 16 GENERATOR c.args.symbol c.args.register c.row_of.result (replicate 15 0) (omega arith) c.requires c.row_of.ensures
+returns c =
+    stepped 16 GENERATOR c.args.symbol c.args.register c.row_of.result (replicate 15 0)
+    (omega arith) c.requires c.row_of.ensures

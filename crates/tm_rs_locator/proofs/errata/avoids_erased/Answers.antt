@@ -19,12 +19,14 @@ loop-i-preserved c = λ j below f z.
     elim (cases_eq j c.loop-i.i) [
       | inr ne ↦ c.loop-i.invariant j (omega arith) f z
       | inl e ↦
-          let f' : slice_index_or c.args.erased.now c.loop-i.i false ≡ true = ap (λ (k : ℕ). slice_index_or c.args.erased.now k false) (sym e) ∙ f in
+          let f' : slice_index_or c.args.erased.now c.loop-i.i false ≡ true =
+          ap (λ (k : ℕ). slice_index_or c.args.erased.now k false) (sym e) ∙ f in
           let z' : slice_index_or c.args.values.now (length c.args.erased.now - 1 - c.loop-i.i) 0 ≡ 0 =
           ap (λ (k : ℕ). slice_index_or c.args.values.now (length c.args.erased.now - 1 - k) 0) (sym e) ∙ z in
           elim c.else-erased-i.branch [
             | else-erased-i-via-then-erased-i+else-values-n-eq0 w ↦ w.if-values-n-eq0.false z'
-            | else-erased-i-via-else-erased-i w ↦ not_both (slice_index_or c.args.erased.now c.loop-i.i false) w.if-erased-i.false f'
+            | else-erased-i-via-else-erased-i w ↦ not_both (slice_index_or c.args.erased.now c.loop-i.i false)
+                w.if-erased-i.false f'
           ]
     ]
 

@@ -26,9 +26,12 @@ loop-i-preserved g c = record {
             ∙ ap (bit_xor (entry c.args.coefs.now c.loop-i.i)) c.product.ensures.value
             ∙ sym (patched_high (entry c.args.coefs.now) (entry c.args.coefs.now) c.args.x.0 1 c.loop-i.i (omega arith))
             ∙ ap (patched (entry c.args.coefs.now) c.args.x.0 1 (entry c.args.coefs.now)) (sym e)
-        | inr ne ↦ entry-set_other c.loop-i.coefs c.loop-i.i j c.add.result ne ∙ c.loop-i.invariant.done j (omega arith) inside
+        | inr ne ↦ entry-set_other c.loop-i.coefs c.loop-i.i j c.add.result ne
+            ∙ c.loop-i.invariant.done j (omega arith) inside
       ];
   room = length-set c.loop-i.coefs c.loop-i.i c.add.result ∙ c.loop-i.invariant.room;
   counted = omega (arith, c.loop-i.invariant.counted, c.product.ensures.counted);
-  left = λ j above. entry-set_other c.loop-i.coefs c.loop-i.i j c.add.result (omega arith) ∙ c.loop-i.invariant.left j above;
+  left =
+      λ j above. entry-set_other c.loop-i.coefs c.loop-i.i j c.add.result (omega arith)
+      ∙ c.loop-i.invariant.left j above;
 }

@@ -5,7 +5,8 @@ use Rattle.tm_rs_locator.proofs.factors.times_factor.Given as goal
 
 abbrev pub invariant-loop-i : goal.invariant-loop-i
 invariant-loop-i g l = record {
-  done : (j : ℕ) → j < l.i → j < l.degree + 2 → entry l.coefs j ≡ patched (entry l.initial.coefs) l.x.0 1 (entry l.initial.coefs) j;
+  done : (j : ℕ) → j < l.i → j < l.degree + 2 → entry l.coefs j
+      ≡ patched (entry l.initial.coefs) l.x.0 1 (entry l.initial.coefs) j;
   room : length l.coefs ≡ 33;
   counted : l.steps + 1 ≡ l.initial.steps + l.i;
   left : (j : ℕ) → l.degree + 2 ≤ j → entry l.coefs j ≡ entry l.initial.coefs j;

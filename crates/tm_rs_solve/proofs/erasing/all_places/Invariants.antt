@@ -8,7 +8,8 @@ use Rattle.tm_rs_solve.proofs.erasing.all_places.Given as goal
 
 abbrev pub invariant-loop-p : goal.invariant-loop-p
 invariant-loop-p g l = record {
-  product : IsListed (entry l.coefs) l.degree (with_roots (numbers l.poly) (drop (length l.erased - l.p) l.erased) (locator_of (marks l.erased)));
+  product : IsListed (entry l.coefs) l.degree (with_roots (numbers l.poly) (drop (length l.erased - l.p) l.erased)
+      (locator_of (marks l.erased)));
   counted : l.degree ≡ l.count + roots (numbers l.poly) (drop (length l.erased - l.p) l.erased);
   room : length l.coefs ≡ 33;
   cost : 2 * l.steps + l.count * (l.count + 1) ≡ 2 * l.initial.steps + l.degree * (l.degree + 1);

@@ -20,13 +20,18 @@ loop-j-preserved c = record {
         ∙ c.add.ensures
         ∙ ap (λ (y : ℕ). bit_xor y c.error_at-error.result.0) (c.loop-j.invariant.left c.loop-j.j (omega arith))
         ∙ ap (bit_xor (entry c.args.word.now c.loop-j.j))
-        (by_index w (length c.args.word.now) c.loop-j.j c.error_at-error.result.0 size (omega arith) (c.error_at-error.ensures u w h))
+        (by_index w (length c.args.word.now) c.loop-j.j c.error_at-error.result.0 size (omega arith)
+        (c.error_at-error.ensures u w h))
         ∙ ap (λ (k : ℕ). bit_xor (entry c.args.word.now k) (get_or w k 0)) (sym e)
-    | inr ne ↦ entry-set_other c.loop-j.word c.loop-j.j i c.add.result ne ∙ c.loop-j.invariant.done u w h size i (omega arith)
+    | inr ne ↦ entry-set_other c.loop-j.word c.loop-j.j i c.add.result ne
+        ∙ c.loop-j.invariant.done u w h size i (omega arith)
   ];
-  left = λ i above. entry-set_other c.loop-j.word c.loop-j.j i c.add.result (omega arith) ∙ c.loop-j.invariant.left i (omega arith);
+  left =
+      λ i above. entry-set_other c.loop-j.word c.loop-j.j i c.add.result (omega arith)
+      ∙ c.loop-j.invariant.left i (omega arith);
 }
 
 pub returns : goal.returns
 returns c = λ u w h size.
-    sums_by_entries c.loop-j.word c.args.word.now w (omega arith) size (λ i lt. c.loop-j.invariant.done u w h size i (omega arith))
+    sums_by_entries c.loop-j.word c.args.word.now w (omega arith) size
+    (λ i lt. c.loop-j.invariant.done u w h size i (omega arith))

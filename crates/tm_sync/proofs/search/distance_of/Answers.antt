@@ -4,7 +4,8 @@ use Rattle.tm_sync.proofs.Matches.{wrong-inverted}
 use Rattle.tm_sync.proofs.search.distance_of.Goals as goal
 
 pub returns-then-inverted : goal.returns-then-inverted
-returns-then-inverted c = λ bits long is. wrong-inverted _ bits long is ∙ ap (λ (v : Bool). wrong_bits v bits) (sym c.if-inverted.true)
+returns-then-inverted c =
+    λ bits long is. wrong-inverted _ bits long is ∙ ap (λ (v : Bool). wrong_bits v bits) (sym c.if-inverted.true)
 
 pub returns-else-inverted : goal.returns-else-inverted
 returns-else-inverted c = λ bits long is. is ∙ ap (λ (v : Bool). wrong_bits v bits) (sym c.if-inverted.false)

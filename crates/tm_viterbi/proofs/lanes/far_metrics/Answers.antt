@@ -8,4 +8,8 @@ pub returns : goal.returns
 returns c =
     let metrics = c.args.metrics.now in
     let h = far_lanes (metrics ++ metrics) in
-    record { long = h.long; each = λ i lt. h.each i lt ∙ get_or_append_left metrics metrics 0 (2 * c1 (2 * i + 1) 0 + c2 (2 * i + 1) 0) (omega arith) }
+    record {
+      long = h.long;
+      each = λ i lt. h.each i lt ∙ get_or_append_left metrics metrics 0
+          (2 * c1 (2 * i + 1) 0 + c2 (2 * i + 1) 0) (omega arith);
+    }

@@ -12,4 +12,8 @@ pub returns-clause-odd : goal.returns-clause-odd
 returns-clause-odd c =
     let xs = c.args.sums.now in
     let h = odd_lanes (take 32 (take 32 xs) ++ take 32 (take 32 (drop 32 xs))) in
-    record { long = h.long; each = λ i lt. h.each i lt ∙ ap (λ v. get_or v (2 * i + 1) 0) (loaded_halves xs (omega arith)) }
+    record {
+      long = h.long;
+      each = λ i lt. h.each i lt ∙ ap (λ v. get_or v (2 * i + 1) 0)
+          (loaded_halves xs (omega arith));
+    }

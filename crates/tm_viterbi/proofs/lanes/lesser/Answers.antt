@@ -11,15 +11,20 @@ length-add : (xs ys : List ℕ) → length xs ≡ 32 → length ys ≡ 32 → le
 unfolding add
 length-add xs ys lx ly = omega (arith, length-zip2 (λ a b. a + b) xs ys (omega arith))
 
-get_or-add : (xs ys : List ℕ) (i : ℕ) → length xs ≡ 32 → length ys ≡ 32 → i < 32 → get_or (add xs ys) i 0 ≡ get_or xs i 0 + get_or ys i 0
+get_or-add : (xs ys : List ℕ) (i : ℕ) → length xs ≡ 32 → length ys ≡ 32 → i < 32
+    → get_or (add xs ys) i 0 ≡ get_or xs i 0 + get_or ys i 0
 unfolding add
 get_or-add xs ys i lx ly lt = get_or-zip2 (λ a b. a + b) xs ys i 0 0 0 (omega arith) (omega arith)
 
 pub overflow_add-one : goal.overflow_add-one
-overflow_add-one c = Each2-from_get_or c.args.first c.args.near (omega arith) (λ i lt. record { fits = c.requires.first_fits i (omega arith) })
+overflow_add-one c =
+    Each2-from_get_or c.args.first c.args.near (omega arith)
+    (λ i lt. record { fits = c.requires.first_fits i (omega arith) })
 
 pub overflow_add-other : goal.overflow_add-other
-overflow_add-other c = Each2-from_get_or c.args.second c.args.far (omega arith) (λ i lt. record { fits = c.requires.second_fits i (omega arith) })
+overflow_add-other c =
+    Each2-from_get_or c.args.second c.args.far (omega arith)
+    (λ i lt. record { fits = c.requires.second_fits i (omega arith) })
 
 pub returns-clause-sums : goal.returns-clause-sums
 unfolding add
@@ -33,7 +38,8 @@ returns-clause-sums c =
       long = h.long;
       each = λ i lt. h.each i lt
           ∙ ap (λ v. min v (get_or ys i 0)) (get_or-add c.args.first c.args.near i (omega arith) (omega arith) lt)
-          ∙ ap (λ v. min (get_or c.args.first i 0 + get_or c.args.near i 0) v) (get_or-add c.args.second c.args.far i (omega arith) (omega arith) lt);
+          ∙ ap (λ v. min (get_or c.args.first i 0 + get_or c.args.near i 0) v)
+          (get_or-add c.args.second c.args.far i (omega arith) (omega arith) lt);
     }
 
 pub returns-clause-bits : goal.returns-clause-bits
@@ -45,10 +51,12 @@ returns-clause-bits c i lt =
     let ly = length-add c.args.second c.args.far (omega arith) (omega arith) in
     lesser_bits xs ys lx ly i lt
     ∙ ap (λ v. cond (ltb (get_or ys i 0) v) 1 0) (get_or-add c.args.first c.args.near i (omega arith) (omega arith) lt)
-    ∙ ap (λ v. cond (ltb v (get_or c.args.first i 0 + get_or c.args.near i 0)) 1 0) (get_or-add c.args.second c.args.far i (omega arith) (omega arith) lt)
+    ∙ ap (λ v. cond (ltb v (get_or c.args.first i 0 + get_or c.args.near i 0)) 1 0)
+    (get_or-add c.args.second c.args.far i (omega arith) (omega arith) lt)
 
 pub returns-clause-small : goal.returns-clause-small
 unfolding add
 returns-clause-small c =
     lesser_small (add c.args.first c.args.near) (add c.args.second c.args.far)
-    (length-add c.args.first c.args.near (omega arith) (omega arith)) (length-add c.args.second c.args.far (omega arith) (omega arith))
+    (length-add c.args.first c.args.near (omega arith) (omega arith))
+    (length-add c.args.second c.args.far (omega arith) (omega arith))

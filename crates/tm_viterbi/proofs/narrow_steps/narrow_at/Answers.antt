@@ -3,8 +3,10 @@ use Rattle.tm_conv.specs.declared.rates.Rate.{Rate}
 use Rattle.tm_viterbi.specs.Carries.{Carries}
 use Rattle.tm_viterbi.proofs.narrow_steps.narrow_at.Goals as goal
 
-at_rate : (rate other : Rate) (invert : Bool) (t : ℕ) (octets sums next survivors : List ℕ) → rate ≡ other → Carries other invert t octets sums next survivors → Carries rate invert t octets sums next survivors
-at_rate rate other invert t octets sums next survivors e h = subst (λ (v : Rate). Carries v invert t octets sums next survivors) (sym e) h
+at_rate : (rate other : Rate) (invert : Bool) (t : ℕ) (octets sums next survivors : List ℕ) → rate ≡ other
+    → Carries other invert t octets sums next survivors → Carries rate invert t octets sums next survivors
+at_rate rate other invert t octets sums next survivors e h =
+    subst (λ (v : Rate). Carries v invert t octets sums next survivors) (sym e) h
 
 pub returns-in-R12-clause-carries : goal.returns-in-R12-clause-carries
 returns-in-R12-clause-carries c base = at_rate _ _ _ _ _ _ _ _ c.in-R12.is (c.narrow_half_rate.ensures.carries base)

@@ -16,8 +16,10 @@ loop-s-preserved c =
       sums = sum_more G c.loop-s.next s c.min.result (omega arith) (cc) c.loop-s.invariant.sums;
       bits = elim c.if-second-first.branch [
         | then-second-first w ↦ subst P (sym w.survivors-is) (bit_set_more F c.loop-s.survivors s (omega arith)
-            (choice_second _ _ _ _ c.path_metric-first.ensures c.path_metric-second.ensures w.if-second-first.true) c.loop-s.invariant.bits)
+            (choice_second _ _ _ _ c.path_metric-first.ensures c.path_metric-second.ensures w.if-second-first.true)
+            c.loop-s.invariant.bits)
         | else-second-first w ↦ subst P (sym w.survivors-is) (bit_clear_more F c.loop-s.survivors s
-            (choice_first _ _ _ _ c.path_metric-first.ensures c.path_metric-second.ensures w.if-second-first.false) c.loop-s.invariant.bits)
+            (choice_first _ _ _ _ c.path_metric-first.ensures c.path_metric-second.ensures w.if-second-first.false)
+            c.loop-s.invariant.bits)
       ];
     }

@@ -7,5 +7,6 @@ abbrev pub invariant-loop-s : goal.invariant-loop-s
 invariant-loop-s l = record {
   sums : (k : ℕ) → k < l.s → slice_index l.next k
       ≡ min (first_metric l.sums l.metrics k) (second_metric l.sums l.metrics k);
-  bits : HoldsBelow (λ k. if nat_lt (second_metric l.sums l.metrics k) (first_metric l.sums l.metrics k) then 1 else 0) l.survivors l.s;
+  bits : HoldsBelow (λ k. if nat_lt (second_metric l.sums l.metrics k)
+      (first_metric l.sums l.metrics k) then 1 else 0) l.survivors l.s;
 }

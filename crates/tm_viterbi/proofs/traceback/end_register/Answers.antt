@@ -10,8 +10,10 @@ returns-clause-value c =
     let from = c.saturating_sub.result in
     let last : List ℕ = take (length bits - from) (drop from bits) in
     let end : drop c.loop-b.b-index last ≡ [] = drop_all c.loop-b.b-index last (omega (arith, c.loop-b-test.false)) in
-    let whole : last ≡ drop from bits = take_all (length bits - from) (drop from bits) (omega (arith, length-drop from bits)) in
+    let whole : last ≡ drop from bits = take_all (length bits - from) (drop from bits)
+    (omega (arith, length-drop from bits)) in
     let place : from ≡ length bits - 6 = omega arith in
     ap (λ (v : List ℕ). register_after c.loop-b.register v) (sym end) ∙ c.loop-b.invariant.rest
-    ∙ ap (λ (v : List ℕ). register_after c.args.first v) whole ∙ ap (λ (n : ℕ). register_after c.args.first (drop n bits)) place
+    ∙ ap (λ (v : List ℕ). register_after c.args.first v) whole
+    ∙ ap (λ (n : ℕ). register_after c.args.first (drop n bits)) place
     ∙ last_six c.args.first bits c.requires.register c.requires.bits

@@ -6,7 +6,8 @@ abbrev pub invariant-loop-i : goal.invariant-loop-i
 invariant-loop-i l = record {
   register : l.s < 64;
   within : l.i ≤ length l.survivors;
-  bits : past_of (reverse l.survivors) l.register ≡ reverse (drop l.i l.bits) ++ past_of (reverse (take l.i l.survivors)) l.s;
+  bits : past_of (reverse l.survivors) l.register ≡ reverse (drop l.i l.bits)
+      ++ past_of (reverse (take l.i l.survivors)) l.s;
   start : start_of (reverse l.survivors) l.register ≡ start_of (reverse (take l.i l.survivors)) l.s;
 }
 

@@ -20,7 +20,9 @@ returns-then-size-eq0 c =
     record {
       steps = found.0;
       compared = found.1;
-      least = IsFirstLeast-nothing c.args.rate c.args.invert found.0 c.args.soft.now c.cost_at-first.result none (c.cost_at-first.ensures.cost found.0 found.2);
+      least =
+          IsFirstLeast-nothing c.args.rate c.args.invert found.0 c.args.soft.now c.cost_at-first.result none
+          (c.cost_at-first.ensures.cost found.0 found.2);
     }
 
 pub first_least-requires-clause-inside : goal.first_least-requires-clause-inside

@@ -6,4 +6,5 @@ pub overflow_add-result : goal.overflow_add-result
 overflow_add-result c = omega (arith, c.symbols_of.ensures, steps_size-most c.args.rate 0 c.from.result)
 
 pub returns-clause-at_most : goal.returns-clause-at_most
-returns-clause-at_most c = omega (arith, c.symbols_of.ensures, c.from.ensures, steps_size-most c.args.rate 0 c.from.result)
+returns-clause-at_most c =
+    omega (arith, c.symbols_of.ensures, c.from.ensures, steps_size-most c.args.rate 0 c.from.result)

@@ -36,12 +36,28 @@ returns-clause-candidate c =
     let P : WindowShape → ℕ → List ℕ → Type 0
     = λ w m v. IsBlock w.rate w.invert w.keep w.ahead c.args.from.now.starts c.args.from.now.t all
     c.args.from.now.octets.now
-    (record { start = path.start; steps = m; kept = s.keep; metric = path.metric; bits = v; end_state = path.end_state; dropped = 0 }) in
-    let steps : n ≡ window_steps d.keep d.ahead all = omega (arith, long, ap (λ (w : WindowShape). w.keep) c.requires.shape, ap (λ (w : WindowShape). w.ahead) c.requires.shape) in
-    let kept : s.keep ≡ kept_steps d.keep d.ahead all = full_kept s.keep s.ahead ∙ ap (λ (w : WindowShape). kept_steps w.keep w.ahead all) (sym c.requires.shape) in
-    let written = with_items_is bits new (c.decode-candidate.auto.bits ∙ ap length c.as_mut_slice-bits.ensures.value ∙ sym bits.ok.0) in
+    (record {
+      start = path.start;
+      steps = m;
+      kept = s.keep;
+      metric = path.metric;
+      bits = v;
+      end_state = path.end_state;
+      dropped = 0;
+    }) in
+    let steps : n ≡ window_steps d.keep d.ahead all = omega (
+      arith,
+      long,
+      ap (λ (w : WindowShape). w.keep) c.requires.shape,
+      ap (λ (w : WindowShape). w.ahead) c.requires.shape,
+    ) in
+    let kept : s.keep ≡ kept_steps d.keep d.ahead all = full_kept s.keep s.ahead
+    ∙ ap (λ (w : WindowShape). kept_steps w.keep w.ahead all) (sym c.requires.shape) in
+    let written = with_items_is bits new (c.decode-candidate.auto.bits ∙ ap length c.as_mut_slice-bits.ensures.value
+    ∙ sym bits.ok.0) in
     record {
       room = c.requires.room;
       is_block = subst (λ (v : List ℕ). P s (s.keep + s.ahead) v) (sym written)
-          (subst (λ (m : ℕ). P s m new) long (subst (λ (w : WindowShape). P w n new) c.requires.shape (c.decode-candidate.ensures.block all steps kept)));
+          (subst (λ (m : ℕ). P s m new) long (subst (λ (w : WindowShape). P w n new) c.requires.shape
+          (c.decode-candidate.ensures.block all steps kept)));
     }

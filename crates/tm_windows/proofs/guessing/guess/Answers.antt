@@ -15,10 +15,15 @@ decode-path-requires-clause-octets c =
     let bits = c.as_mut_slice-bits.result.now in
     let prefix = c.args.at - c.steps_len-size.result in
     let n = length (take (before + after) bits) in
-    let long : n ≡ before + after = length-take-le (before + after) bits (omega (arith, c.as_mut_slice-bits.ensures.len, c.requires.bits, c.min-before.ensures, c.min-after.ensures)) in
+    let long : n ≡ before + after = length-take-le (before + after) bits
+    (omega (arith, c.as_mut_slice-bits.ensures.len, c.requires.bits, c.min-before.ensures, c.min-after.ensures))
+    in
     let same : steps_size c.args.decoder.now.rate first n ≡ steps_size s.rate first (before + after)
-    = ap (λ (w : WindowShape). steps_size w.rate first n) c.requires.shape ∙ ap (λ (m : ℕ). steps_size s.rate first m) long in
-    let there : steps_size s.rate (first + before) after ≡ steps_size s.rate c.args.t after = ap (λ (u : ℕ). steps_size s.rate u after) (omega (arith, c.if-t-before.false)) in
+    =
+    ap (λ (w : WindowShape). steps_size w.rate first n) c.requires.shape
+    ∙ ap (λ (m : ℕ). steps_size s.rate first m) long in
+    let there : steps_size s.rate (first + before) after ≡ steps_size s.rate c.args.t after =
+    ap (λ (u : ℕ). steps_size s.rate u after) (omega (arith, c.if-t-before.false)) in
     omega (
       arith,
       same,

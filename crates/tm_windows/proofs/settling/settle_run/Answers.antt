@@ -73,7 +73,8 @@ returns-in-Err-clause-err g c =
     let here = stretch_place l.here in
     let closes = subst (λ (w : WindowShape). ClosesWith w here failed.0) l.invariant.here.shape failed.2 in (
       more ++ failed.0 ∷ [],
-      HandedPart-after _ _ c.args.blocks.now l.blocks c.settle.new.blocks more (failed.0 ∷ []) l.invariant.handed.1 (HandedPart-first _ _ l.blocks c.settle.new.blocks failed.0 [] failed.1),
+      HandedPart-after _ _ c.args.blocks.now l.blocks c.settle.new.blocks more (failed.0 ∷ []) l.invariant.handed.1
+          (HandedPart-first _ _ l.blocks c.settle.new.blocks failed.0 [] failed.1),
       after_block s.rate here failed.0,
       Closed-push s.rate s.invert s.keep s.ahead _ here more failed.0 l.invariant.handed.2 closes,
     )

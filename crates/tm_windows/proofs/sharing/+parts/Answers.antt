@@ -8,7 +8,8 @@ use Rattle.tm_windows.proofs.Runs.{parts_of, joined, All-first_part, All-other_p
 use Rattle.tm_windows.proofs.sharing.+parts.Goals as goal
 
 -- how many octets the first part goes on by, from the number of its windows that was taken to that of its candidates
-size-first : (s : WindowShape) (t middle count size : ℕ) → size ≡ steps_size s.rate t (middle * s.keep) → count ≡ middle → size ≡ steps_size s.rate t (count * s.keep)
+size-first : (s : WindowShape) (t middle count size : ℕ) → size ≡ steps_size s.rate t (middle * s.keep)
+    → count ≡ middle → size ≡ steps_size s.rate t (count * s.keep)
 size-first s t middle count size is same = is ∙ ap (λ (m : ℕ). steps_size s.rate t (m * s.keep)) (sym same)
 
 pub decode_evenly-overflow_add-place : goal.decode_evenly-overflow_add-place
@@ -16,7 +17,8 @@ decode_evenly-overflow_add-place g t c =
     let n = length c.args.candidates.now in
     let low = n / c.min-parts.result in
     let le : low ≤ n = div-le_self n c.min-parts.result in
-    let parts = parts_of c.args.shape c.args.t c.args.at low (n - low) n c.steps_len.result (length c.args.octets.now) (omega (arith, le)) c.steps_len.ensures c.requires.room c.requires.few in
+    let parts = parts_of c.args.shape c.args.t c.args.at low (n - low) n c.steps_len.result (length c.args.octets.now)
+    (omega (arith, le)) c.steps_len.ensures c.requires.room c.requires.few in
     record { fits = omega (arith, parts.within, c.requires.long.1) }
 
 pub decode_evenly-decode_both-requires-clause-first_part : goal.decode_evenly-decode_both-requires-clause-first_part
@@ -26,9 +28,12 @@ decode_evenly-decode_both-requires-clause-first_part g t c κs within =
     let first_part = cut.result.0.now in
     let other_part = cut.result.1.now in
     let all = c.args.candidates.now in
-    let sum : length first_part + length other_part ≡ length all = omega (arith, ap length cut.ensures.value, length-append first_part other_part) in
-    let size = size-first s c.args.t (length all / c.min-parts.result) (length first_part) c.steps_len.result c.steps_len.ensures cut.ensures.front_len in
-    let parts = parts_of s c.args.t c.args.at (length first_part) (length other_part) (length all) c.steps_len.result (length c.args.octets.now) sum size c.requires.room c.requires.few in (
+    let sum : length first_part + length other_part ≡ length all =
+    omega (arith, ap length cut.ensures.value, length-append first_part other_part) in
+    let size = size-first s c.args.t (length all / c.min-parts.result)
+    (length first_part) c.steps_len.result c.steps_len.ensures cut.ensures.front_len in
+    let parts = parts_of s c.args.t c.args.at (length first_part) (length other_part) (length all) c.steps_len.result
+    (length c.args.octets.now) sum size c.requires.room c.requires.few in (
       All-first_part (λ (x : Candidate). vec_len x.bits ≡ s.keep + s.ahead) all first_part other_part
           cut.ensures.value c.requires.bits,
       omega (arith, sum, c.requires.long.0),
@@ -44,9 +49,12 @@ decode_evenly-decode_both-requires-clause-other_part g t c κs within =
     let first_part = cut.result.0.now in
     let other_part = cut.result.1.now in
     let all = c.args.candidates.now in
-    let sum : length first_part + length other_part ≡ length all = omega (arith, ap length cut.ensures.value, length-append first_part other_part) in
-    let size = size-first s c.args.t (length all / c.min-parts.result) (length first_part) c.steps_len.result c.steps_len.ensures cut.ensures.front_len in
-    let parts = parts_of s c.args.t c.args.at (length first_part) (length other_part) (length all) c.steps_len.result (length c.args.octets.now) sum size c.requires.room c.requires.few in
+    let sum : length first_part + length other_part ≡ length all =
+    omega (arith, ap length cut.ensures.value, length-append first_part other_part) in
+    let size = size-first s c.args.t (length all / c.min-parts.result)
+    (length first_part) c.steps_len.result c.steps_len.ensures cut.ensures.front_len in
+    let parts = parts_of s c.args.t c.args.at (length first_part) (length other_part) (length all) c.steps_len.result
+    (length c.args.octets.now) sum size c.requires.room c.requires.few in
     let steps = ap (λ (m : ℕ). m * s.keep) cut.ensures.front_len in
     let later = ap (λ (m : ℕ). steps_size s.rate (c.args.t + m) (length other_part * s.keep + s.ahead + 1)) steps in (
       All-other_part (λ (x : Candidate). vec_len x.bits ≡ s.keep + s.ahead) all first_part other_part
@@ -64,18 +72,25 @@ decode_evenly-returns-clause-candidates g t c =
     let cut = c.split_at_mut-first_part in
     let first_part = cut.result.0.now in
     let other_part = cut.result.1.now in
-    let sum : length first_part + length other_part ≡ length c.args.candidates.now = omega (arith, ap length cut.ensures.value, length-append first_part other_part) in
-    let size = size-first s c.args.t (length c.args.candidates.now / c.min-parts.result) (length first_part) c.steps_len.result c.steps_len.ensures cut.ensures.front_len in
-    joined s c.args.t c.args.at (length first_part) (length other_part) (length c.args.candidates.now) _ _ c.args.octets.now c.decode_both.new.first_part c.decode_both.new.other_part c.decode_both.auto.first_part sum
-    (ap (λ (m : ℕ). c.args.t + m * s.keep) (sym cut.ensures.front_len)) (ap (λ (m : ℕ). c.args.at + m) size) both.first_part.0 both.other_part.0
+    let sum : length first_part + length other_part ≡ length c.args.candidates.now =
+    omega (arith, ap length cut.ensures.value, length-append first_part other_part) in
+    let size = size-first s c.args.t (length c.args.candidates.now / c.min-parts.result)
+    (length first_part) c.steps_len.result c.steps_len.ensures cut.ensures.front_len in
+    joined s c.args.t c.args.at (length first_part) (length other_part)
+    (length c.args.candidates.now) _ _ c.args.octets.now c.decode_both.new.first_part c.decode_both.new.other_part
+    c.decode_both.auto.first_part sum
+    (ap (λ (m : ℕ). c.args.t + m * s.keep) (sym cut.ensures.front_len))
+    (ap (λ (m : ℕ). c.args.at + m) size) both.first_part.0 both.other_part.0
 
 pub decode_evenly-returns-clause-bits : goal.decode_evenly-returns-clause-bits
 decode_evenly-returns-clause-bits g t c =
     let s = c.args.shape in
     let both = c.decode_both.ensures in
-    All-append (λ (x : Candidate). vec_len x.bits ≡ s.keep + s.ahead) c.decode_both.new.first_part c.decode_both.new.other_part both.first_part.1 both.other_part.1
+    All-append (λ (x : Candidate). vec_len x.bits ≡ s.keep + s.ahead) c.decode_both.new.first_part
+    c.decode_both.new.other_part both.first_part.1 both.other_part.1
 
 pub decode_evenly-returns-clause-shape : goal.decode_evenly-returns-clause-shape
 decode_evenly-returns-clause-shape g t c =
     let both = c.decode_both.ensures in
-    All-append (λ (d : WindowShape). d ≡ c.args.shape) c.decode_both.new.first c.decode_both.new.others both.first_part.2 both.other_part.2
+    All-append (λ (d : WindowShape). d ≡ c.args.shape) c.decode_both.new.first c.decode_both.new.others
+    both.first_part.2 both.other_part.2

@@ -25,13 +25,15 @@ excess_at-moved-requires-clause-inside c =
     omega (arith, c.requires.octets, c.steps_len-size.ensures, least.below)
 
 pub excess_at-moved-requires-clause-few : goal.excess_at-moved-requires-clause-few
-excess_at-moved-requires-clause-few c = omega (arith, c.requires.steps, c.steps_len-size.ensures, steps_size-most c.args.rate c.args.t c.args.steps)
+excess_at-moved-requires-clause-few c =
+    omega (arith, c.requires.steps, c.steps_len-size.ensures, steps_size-most c.args.rate c.args.t c.args.steps)
 
 pub excess_at-still-requires-clause-inside : goal.excess_at-still-requires-clause-inside
 excess_at-still-requires-clause-inside c = omega (arith, c.requires.octets, c.steps_len-size.ensures)
 
 pub excess_at-still-requires-clause-few : goal.excess_at-still-requires-clause-few
-excess_at-still-requires-clause-few c = omega (arith, c.requires.steps, c.steps_len-size.ensures, steps_size-most c.args.rate c.args.t c.args.steps)
+excess_at-still-requires-clause-few c =
+    omega (arith, c.requires.steps, c.steps_len-size.ensures, steps_size-most c.args.rate c.args.t c.args.steps)
 
 pub taken-requires : goal.taken-requires
 taken-requires c = (

@@ -6,6 +6,7 @@ use Rattle.tm_words.proofs.commands.with_commands.Given as goal
 
 abbrev pub invariant-loop-name : goal.invariant-loop-name
 invariant-loop-name l = record {
-  app : app_of l.line ≡ with_commands (map (λ command. command_shape command.0.now command.1) (take l.name-index l.commands));
+  app : app_of l.line ≡ with_commands (map (λ command. command_shape command.0.now command.1)
+      (take l.name-index l.commands));
   local : (fields_of l.line).has_globals ≡ false;
 }

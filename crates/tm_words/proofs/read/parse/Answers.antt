@@ -17,9 +17,12 @@ returns-in-Ok-try_get_matches_from-clause-matches c =
 
 pub returns-in-Err-try_get_matches_from-clause-refused : goal.returns-in-Err-try_get_matches_from-clause-refused
 returns-in-Err-try_get_matches_from-clause-refused c = λ is taken.
-    let kinds = c.in-Err-try_get_matches_from.ensures.kinds (ap is_simple_and_free c.in-Ok.ensures.app ∙ line-is_free) in
-    let none : fault_of (app_of c.in-Ok.command) (map string_bytes c.args.words.now) ≡ [] = ap (λ (a : App). fault_of a (map string_bytes c.args.words.now)) c.in-Ok.ensures.app ∙ taken in
+    let kinds = c.in-Err-try_get_matches_from.ensures.kinds
+    (ap is_simple_and_free c.in-Ok.ensures.app ∙ line-is_free) in
+    let none : fault_of (app_of c.in-Ok.command) (map string_bytes c.args.words.now) ≡ [] =
+    ap (λ (a : App). fault_of a (map string_bytes c.args.words.now)) c.in-Ok.ensures.app ∙ taken in
     elim kinds [
       | inl oom ↦ let e : c.refusal.result ≡ Words = cc is in c.refusal.ensures e oom
-      | inr among ↦ let P : Kinds → Type 0 = λ ks. IsAmong (kind_of c.in-Err-try_get_matches_from.error) ks in subst P none among
+      | inr among ↦ let P : Kinds → Type 0 =
+          λ ks. IsAmong (kind_of c.in-Err-try_get_matches_from.error) ks in subst P none among
     ]

@@ -6,13 +6,15 @@ use Rattle.tm_workers.proofs.draws.+rooms.Goals as goal
 pub fill_all-fill_both-requires-clause-first_part : goal.fill_all-fill_both-requires-clause-first_part
 fill_all-fill_both-requires-clause-first_part g t c κs within =
     let cut = c.split_at_mut-first_part in
-    let parts = AreRooms-parts (limit_of c.args.tickets.now) c.args.rooms.now cut.result.0.now cut.result.1.now cut.ensures.value c.requires.rooms.2 in
+    let parts = AreRooms-parts (limit_of c.args.tickets.now) c.args.rooms.now cut.result.0.now cut.result.1.now
+    cut.ensures.value c.requires.rooms.2 in
     (search rules, search rules, parts.0)
 
 pub fill_all-fill_both-requires-clause-other_part : goal.fill_all-fill_both-requires-clause-other_part
 fill_all-fill_both-requires-clause-other_part g t c κs within =
     let cut = c.split_at_mut-first_part in
-    let parts = AreRooms-parts (limit_of c.args.tickets.now) c.args.rooms.now cut.result.0.now cut.result.1.now cut.ensures.value c.requires.rooms.2 in
+    let parts = AreRooms-parts (limit_of c.args.tickets.now) c.args.rooms.now cut.result.0.now cut.result.1.now
+    cut.ensures.value c.requires.rooms.2 in
     (search rules, search rules, parts.1)
 
 pub fill_all-returns-in_default-clause-rooms : goal.fill_all-returns-in_default-clause-rooms

@@ -10,7 +10,13 @@ keep-requires g c =
     let i = c.loop-number.invariant in
     let ok = c.loop-number.room.ok in
     let room = i.capacity in
-    omega (arith, length-numbers_of c.loop-number.room.items, ap length i.numbers, ap length c.in-Some.ensures.some.1, length-append c.loop-number.seat.place.me.0.drawn (c.in-Some.number ∷ []))
+    omega (
+      arith,
+      length-numbers_of c.loop-number.room.items,
+      ap length i.numbers,
+      ap length c.in-Some.ensures.some.1,
+      length-append c.loop-number.seat.place.me.0.drawn (c.in-Some.number ∷ []),
+    )
 
 pub loop-number-preserved : goal.loop-number-preserved
 loop-number-preserved g c =
@@ -21,6 +27,11 @@ loop-number-preserved g c =
       of = c.in-Some.ensures.of;
       shares = c.in-Some.ensures.shares ∙ i.shares;
       capacity = omega arith;
-      numbers = numbers_more c.loop-number.seat.place.me.0.drawn c.draw.new.seat.place.me.0.drawn c.loop-number.room.items c.keep.new.room.items drawn i.numbers c.in-Some.ensures.some.1 c.keep.ensures.items;
-      results = results_more (λ n x. g.F.Fn.post c.args.f.now (n, tt) x) (limit_of c.args.tickets.now) c.loop-number.room.items c.keep.new.room.items drawn i.results c.keep.ensures.items c.in-Some.ensures.some.0 c.f-value.ensures;
+      numbers =
+          numbers_more c.loop-number.seat.place.me.0.drawn c.draw.new.seat.place.me.0.drawn c.loop-number.room.items
+          c.keep.new.room.items drawn i.numbers c.in-Some.ensures.some.1 c.keep.ensures.items;
+      results =
+          results_more (λ n x. g.F.Fn.post c.args.f.now (n, tt) x)
+          (limit_of c.args.tickets.now) c.loop-number.room.items c.keep.new.room.items drawn i.results
+          c.keep.ensures.items c.in-Some.ensures.some.0 c.f-value.ensures;
     }

@@ -8,5 +8,7 @@ loop-preserved g c =
     let room = c.in_ok-with_capacity.field-0 in
     let was = c.loop.invariant.count in record {
       count = omega (arith, length-push c.push.new.self.items c.loop.rooms.items room items);
-      rooms = AreRooms-push c.args.n c.push.new.self.items c.loop.rooms.items room items c.loop.invariant.rooms (c.in_ok-with_capacity.ensures.items, c.in_ok-with_capacity.ensures.capacity);
+      rooms =
+          AreRooms-push c.args.n c.push.new.self.items c.loop.rooms.items room items c.loop.invariant.rooms
+          (c.in_ok-with_capacity.ensures.items, c.in_ok-with_capacity.ensures.capacity);
     }

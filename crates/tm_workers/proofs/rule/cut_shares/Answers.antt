@@ -6,5 +6,10 @@ use Rattle.tm_workers.proofs.rule.cut_shares.Goals as goal
 
 pub split_seat-requires : goal.split_seat-requires
 split_seat-requires g c =
-    let v = c.args.place.now.me.0 in
-    (search rules, search rules, subst (λ (k : ℕ). Splits (Rule c.args.shared.now.key) c.args.place.now.id v (remaining_part k v) (cut_part k v)) c.requires.part (splits c.args.shared.now.key c.args.place.now.id c.args.part v c.requires.fewer.0 c.requires.fewer.1))
+    let v = c.args.place.now.me.0 in (
+      search rules,
+      search rules,
+      subst (λ (k : ℕ). Splits (Rule c.args.shared.now.key) c.args.place.now.id v
+          (remaining_part k v) (cut_part k v)) c.requires.part
+          (splits c.args.shared.now.key c.args.place.now.id c.args.part v c.requires.fewer.0 c.requires.fewer.1),
+    )

@@ -10,4 +10,5 @@ split_evenly-returns g t c =
     let first_part = c.split_both.new.first_part in
     let other_part = c.split_both.new.other_part in
     subst (λ ws. EachBecomes becomes ws (first_part ++ other_part)) (sym cut.ensures.value)
-    (EachBecomes-append becomes cut.result.0.now first_part cut.result.1.now other_part c.split_both.ensures.first_part c.split_both.ensures.other_part)
+    (EachBecomes-append becomes cut.result.0.now first_part cut.result.1.now other_part
+    c.split_both.ensures.first_part c.split_both.ensures.other_part)

@@ -5,7 +5,9 @@ use Rattle.tm_workers.proofs.split.decode_part.Goals as goal
 pub loop-word-preserved : goal.loop-word-preserved
 loop-word-preserved g c =
     let l = c.loop-word in
-    let one = each_more (g.W.InPlace.becomes c.args.params.now c.args.repair) c.args.words.now l.word-items l.word-index c.decode.new.self _ c.loop-word-test.true l.auto.word-items l.invariant.rest c.decode.ensures l.invariant.done in
+    let one = each_more (g.W.InPlace.becomes c.args.params.now c.args.repair) c.args.words.now l.word-items
+    l.word-index c.decode.new.self _ c.loop-word-test.true l.auto.word-items l.invariant.rest c.decode.ensures
+    l.invariant.done in
     record {
       counted = omega arith;
       done = rw (add-one l.word-index) one.0;

@@ -20,7 +20,8 @@ returns-in-Some-finish-clause-finished c = λ config given done is room.
     let decoder = subst (λ (o : Option Stream). IsDecoder o config given done) held is in
     let there = c.in-Some-finish.ensures.decoded given done decoder.1
     (subst (λ (k : Configuration). has_room (bits_room k 0) (length c.args.bits.now) ≡ true) (sym decoder.0) room) in
-    let chosen = subst (λ (o : Option Chosen). IsChosen c.in-Decoder.decoder.config given o) (sym (c.phase_state.ensures ∙ c.chosen.ensures.value)) there.chosen in (
+    let chosen = subst (λ (o : Option Chosen). IsChosen c.in-Decoder.decoder.config given o)
+    (sym (c.phase_state.ensures ∙ c.chosen.ensures.value)) there.chosen in (
       record {
         last = there.last;
         left = there.left;
@@ -36,4 +37,5 @@ returns-in-None-clause-finished c = λ config given done is room.
     let held : c.args.handle.now.kept.value ≡ Some (Decoder c.in-Decoder.decoder) = search rules in
     let decoder = subst (λ (o : Option Stream). IsDecoder o config given done) held is in
     absurd (c.in-None.ensures.decoded given done decoder.1
-    (subst (λ (k : Configuration). has_room (bits_room k 0) (length c.args.bits.now) ≡ true) (sym decoder.0) room)).fills
+    (subst (λ (k : Configuration). has_room (bits_room k 0) (length c.args.bits.now) ≡ true)
+    (sym decoder.0) room)).fills

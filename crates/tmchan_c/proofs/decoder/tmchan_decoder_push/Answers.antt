@@ -21,14 +21,21 @@ returns-clause-pushed c = λ config given done is few room.
           let now : c.put.new.handle.kept.value ≡ Some (Decoder w.feed.new.self) = search rules in
           let reported : to_z w64 c.match-deref_mut.answer-bits ≡ number_answer None w.feed.result = search rules in
           let same : c.put.result ≡ to_z w64 (of_z w64 c.put.result) = search rules in
-          let answers : to_z w64 (of_z w64 c.put.result) ≡ number_answer None w.feed.result = sym same ∙ c.put.ensures.answer ∙ reported in
+          let answers : to_z w64 (of_z w64 c.put.result) ≡ number_answer None w.feed.result = sym same
+          ∙ c.put.ensures.answer ∙ reported in
           let decoder = subst (λ (o : Option Stream). IsDecoder o config given done) held is in
           let there = w.feed.ensures.decoded given done few decoder.1
-          (subst (λ (k : Configuration). has_room (bits_room k (length octets)) (length c.args.bits.now) ≡ true) (sym decoder.0) room) in
+          (subst (λ (k : Configuration). has_room (bits_room k (length octets)) (length c.args.bits.now) ≡ true)
+          (sym decoder.0) room) in
           record {
             more = there.more;
-            decoder = subst (λ (o : Option Stream). IsDecoder o config (given ++ octets) (done ++ there.more)) (sym now) (w.feed.ensures.config ∙ decoder.0, there.decoding);
-            wrote = wrote w.feed.result _ _ _ answers (subst (λ bits. Fills w.feed.result bits (kept_bits (items_of there.more))) (sym w.bits-is) there.fills);
+            decoder =
+                subst (λ (o : Option Stream). IsDecoder o config (given ++ octets) (done ++ there.more)) (sym now)
+                (w.feed.ensures.config ∙ decoder.0, there.decoding);
+            wrote =
+                wrote w.feed.result _ _ _ answers
+                (subst (λ bits. Fills w.feed.result bits (kept_bits (items_of there.more)))
+                (sym w.bits-is) there.fills);
           }
       | in_default-deref_mut w ↦ absurd (search rules)
     ]

@@ -12,4 +12,5 @@ returns-in-Ok-open-clause-opened c = λ free.
     let Is = λ (o : Option Stream). IsReceiver o (configuration c.args.options.now) [] [] in
     let same : c.open-in-Ok-open.result ≡ to_z w32 (of_z w32 c.open-in-Ok-open.result) = search rules in
     subst (λ (a : ℤ). Opens a c.open-in-Ok-open.new.handle.kept.value Is) same
-    (opens-as Is _ _ (Receiver c.in-Ok-open.receiver) c.open-in-Ok-open.ensures (c.in-Ok-open.ensures.config ∙ c.in-Ok.ensures.ok.1, c.in-Ok-open.ensures.fresh))
+    (opens-as Is _ _ (Receiver c.in-Ok-open.receiver) c.open-in-Ok-open.ensures
+    (c.in-Ok-open.ensures.config ∙ c.in-Ok.ensures.ok.1, c.in-Ok-open.ensures.fresh))

@@ -19,17 +19,24 @@ returns-clause-pushed c = λ config given done is few.
           let now : c.put.new.handle.kept.value ≡ Some (Receiver w.feed.new.self) = search rules in
           let reported : to_z w64 c.match-deref_mut.answer-bits ≡ number_answer None w.feed.result = search rules in
           let same : c.put.result ≡ to_z w64 (of_z w64 c.put.result) = search rules in
-          let answers : to_z w64 (of_z w64 c.put.result) ≡ number_answer None w.feed.result = sym same ∙ c.put.ensures.answer ∙ reported in
+          let answers : to_z w64 (of_z w64 c.put.result) ≡ number_answer None w.feed.result = sym same
+          ∙ c.put.ensures.answer ∙ reported in
           let receiver = subst (λ (o : Option Stream). IsReceiver o config given done) held is in
           let there = w.feed.ensures.received given done few receiver.1 in
           let written : HasWritten w.feed.result c.match-deref_mut.frames
           c.match-deref_mut.reports (items_of there.more) =
-          subst (λ reports. HasWritten w.feed.result c.match-deref_mut.frames reports (items_of there.more)) (sym w.reports-is)
-          (subst (λ frames. HasWritten w.feed.result frames w.feed.new.reports (items_of there.more)) (sym w.frames-is) there.written) in
+          subst (λ reports. HasWritten w.feed.result c.match-deref_mut.frames reports (items_of there.more))
+          (sym w.reports-is)
+          (subst (λ frames. HasWritten w.feed.result frames w.feed.new.reports (items_of there.more))
+          (sym w.frames-is) there.written) in
           record {
             more = there.more;
-            receiver = subst (λ (o : Option Stream). IsReceiver o config (given ++ octets) (done ++ there.more)) (sym now) (w.feed.ensures.config ∙ receiver.0, there.receiving);
-            due = subst (λ (k : Configuration). AreReceivedDue k (given ++ octets) (done ++ there.more)) receiver.0 there.due;
+            receiver =
+                subst (λ (o : Option Stream). IsReceiver o config (given ++ octets) (done ++ there.more)) (sym now)
+                (w.feed.ensures.config ∙ receiver.0, there.receiving);
+            due =
+                subst (λ (k : Configuration). AreReceivedDue k (given ++ octets) (done ++ there.more)) receiver.0
+                there.due;
             wrote = record { count = w.feed.result; answers = answers; written = written };
             enough = λ most more room. there.enough most more (search rules);
           }

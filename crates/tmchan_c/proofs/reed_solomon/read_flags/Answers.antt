@@ -5,5 +5,7 @@ use Rattle.tmchan_c.proofs.reed_solomon.read_flags.Goals as goal
 pub returns : goal.returns
 returns c =
     let flags = c.args.flags.now in
-    ext_get_or true c.loop-i.erased (map (λ flag. not (flag == 0)) flags) (c.loop-i.auto.erased ∙ c.requires ∙ sym (length-map flags (λ flag. not (flag == 0))))
-    (λ i below. c.loop-i.invariant i true (omega (arith, c.loop-i.auto.erased)) ∙ sym (get_or-map (λ flag. not (flag == 0)) flags i 0 true (omega (arith, c.loop-i.auto.erased))))
+    ext_get_or true c.loop-i.erased (map (λ flag. not (flag == 0)) flags)
+    (c.loop-i.auto.erased ∙ c.requires ∙ sym (length-map flags (λ flag. not (flag == 0))))
+    (λ i below. c.loop-i.invariant i true (omega (arith, c.loop-i.auto.erased))
+    ∙ sym (get_or-map (λ flag. not (flag == 0)) flags i 0 true (omega (arith, c.loop-i.auto.erased))))

@@ -17,19 +17,30 @@ returns-clause-decoded c = λ given done few is room.
     let due = subst (λ (d : InnerReceiving). AreHandedDue d.config given done) (sym c.self.view_is) is.due in
     let keep = ap (λ (d : InnerReceiving). d.config.keep) c.self.view_is in
     let ahead = ap (λ (d : InnerReceiving). d.config.ahead) c.self.view_is in
-    let going : inner.has_stopped ≡ false = subst (λ (d : InnerReceiving). d.has_stopped ≡ false) (sym c.self.view_is) is.going in
+    let going : inner.has_stopped ≡ false = subst (λ (d : InnerReceiving). d.has_stopped ≡ false)
+    (sym c.self.view_is) is.going in
     elim c.match-fed.branch [
       | in-Ok w ↦
           let h = w.in-Ok.ensures.handed in
           let there = h.2 given done few stood in
           let taker = c.feed-fed.new.blocks in
-          let kept = kept-all (λ (b : BufferBits). b.buffer.ghost_name) (λ b. length b.buffer.now) (λ b. take b.count b.buffer.now) _ taker h.0 h.1 in
+          let kept = kept-all (λ (b : BufferBits). b.buffer.ghost_name) (λ b. length b.buffer.now)
+          (λ b. take b.count b.buffer.now) _ taker h.0 h.1 in
           let loan : taker.buffer.ghost_name ≡ _ = kept.loan in
           let most = handed-more-few inner.config given c.args.octets.now done h.0 due there.1 in
           let on : now.has_stopped ≡ false = search rules in
-          let due_now = subst (λ (k : Configuration). AreHandedDue k (given ++ c.args.octets.now) (done ++ h.0)) (sym w.in-Ok.ensures.config) there.1 in
-          let fills = kept-fills _ _ c.args.bits.now _ taker.buffer.now _ taker.count h.0 c.over-taker.ensures.buffer c.over-taker.ensures.none kept taker.within
-          (omega (arith, most, needed-few inner.config.inner inner.config, needed _ (nat_le (length c.args.octets.now) (2 ^ 40)) (length c.args.bits.now) room, keep, ahead)) in
+          let due_now = subst (λ (k : Configuration). AreHandedDue k (given ++ c.args.octets.now) (done ++ h.0))
+          (sym w.in-Ok.ensures.config) there.1 in
+          let fills = kept-fills _ _ c.args.bits.now _ taker.buffer.now _ taker.count h.0 c.over-taker.ensures.buffer
+          c.over-taker.ensures.none kept taker.within
+          (omega (
+            arith,
+            most,
+            needed-few inner.config.inner inner.config,
+            needed _ (nat_le (length c.args.octets.now) (2 ^ 40)) (length c.args.bits.now) room,
+            keep,
+            ahead,
+          )) in
           record { more = h.0; decoding = record { going = on; stands = there.0; due = due_now }; fills = search rules }
       | in-Err w ↦ absurd (search rules)
     ]

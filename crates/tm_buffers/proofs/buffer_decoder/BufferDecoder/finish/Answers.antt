@@ -16,24 +16,38 @@ returns-clause-decoded c = λ given done is room.
     let due = subst (λ (d : InnerReceiving). AreHandedDue d.config given done) (sym c.self.view_is) is.due in
     let keep = ap (λ (d : InnerReceiving). d.config.keep) c.self.view_is in
     let ahead = ap (λ (d : InnerReceiving). d.config.ahead) c.self.view_is in
-    let going : inner.has_stopped ≡ false = subst (λ (d : InnerReceiving). d.has_stopped ≡ false) (sym c.self.view_is) is.going in
+    let going : inner.has_stopped ≡ false = subst (λ (d : InnerReceiving). d.has_stopped ≡ false)
+    (sym c.self.view_is) is.going in
     elim c.match-ended.branch [
       | in-Ok w ↦
           let h = w.in-Ok.ensures.handed in
           let there = h.2 given done stood in
           let taker = c.finish-ended.new.blocks in
-          let kept = kept-all (λ (b : BufferBits). b.buffer.ghost_name) (λ b. length b.buffer.now) (λ b. take b.count b.buffer.now) _ taker h.0 h.1 in
+          let kept = kept-all (λ (b : BufferBits). b.buffer.ghost_name) (λ b. length b.buffer.now)
+          (λ b. take b.count b.buffer.now) _ taker h.0 h.1 in
           let loan : taker.buffer.ghost_name ≡ _ = kept.loan in
           let most = handed-last-few inner.config given done h.0 w.in-Ok.field-0.leftover due there.0 in
-          let fills = kept-fills _ _ c.args.bits.now _ taker.buffer.now _ taker.count h.0 c.over-taker.ensures.buffer c.over-taker.ensures.none kept taker.within
-          (omega (arith, most, needed-few inner.config.inner inner.config, needed _ true (length c.args.bits.now) room, keep, ahead)) in
+          let fills = kept-fills _ _ c.args.bits.now _ taker.buffer.now _ taker.count h.0 c.over-taker.ensures.buffer
+          c.over-taker.ensures.none kept taker.within
+          (omega (
+            arith,
+            most,
+            needed-few inner.config.inner inner.config,
+            needed _ true (length c.args.bits.now) room,
+            keep,
+            ahead,
+          )) in
           let chosen = w.in-Ok.ensures.chosen given done stood going in
           record {
             last = h.0;
             left = w.in-Ok.field-0.leftover;
-            all = subst (λ (d : InnerReceiving). AreHanded d.config given (done ++ h.0) w.in-Ok.field-0.leftover) c.self.view_is there.0;
+            all =
+                subst (λ (d : InnerReceiving). AreHanded d.config given (done ++ h.0) w.in-Ok.field-0.leftover)
+                c.self.view_is there.0;
             fills = search rules;
-            chosen = subst (λ (d : InnerReceiving). IsChosen d.config given c.finish-ended.new.self.phased.chosen) c.self.view_is chosen;
+            chosen =
+                subst (λ (d : InnerReceiving). IsChosen d.config given c.finish-ended.new.self.phased.chosen)
+                c.self.view_is chosen;
           }
       | in-Err w ↦ absurd (search rules)
     ]

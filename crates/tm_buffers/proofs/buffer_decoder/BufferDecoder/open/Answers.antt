@@ -12,5 +12,7 @@ returns-clause-fresh c =
     record {
       going = opened.fresh;
       stands = opened.stands;
-      due = subst (λ (k : Configuration). AreHandedDue k [] []) (sym opened.config) (handed-due-none c.args.config (omega (arith, accepted.some_keep)));
+      due =
+          subst (λ (k : Configuration). AreHandedDue k [] []) (sym opened.config)
+          (handed-due-none c.args.config (omega (arith, accepted.some_keep)));
     }

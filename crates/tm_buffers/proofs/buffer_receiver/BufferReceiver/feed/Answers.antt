@@ -13,21 +13,33 @@ pub returns-clause-received : goal.returns-clause-received
 returns-clause-received c = λ given done few is.
     let was = c.self.inside.receiver in
     let stood = subst (λ (r : OctetReceiving). ReceiverStandsFor r given done) (sym c.self.view_is) is.stands in
-    let going : was.has_stopped ≡ false = subst (λ (r : OctetReceiving). r.has_stopped ≡ false) (sym c.self.view_is) is.going in
+    let going : was.has_stopped ≡ false = subst (λ (r : OctetReceiving). r.has_stopped ≡ false)
+    (sym c.self.view_is) is.going in
     elim c.match-fed.branch [
       | in-Ok w ↦
           let h = w.in-Ok.ensures.handed in
           let there = h.2 given done few stood in
           let taker = c.feed_in_order-fed.new.taker in
           let now = c.feed_in_order-fed.new.self in
-          let took = handled (λ (b : BufferItems). b.frames.ghost_name) (λ b. b.reports.ghost_name) collected _ taker h.0 h.1 in
+          let took = handled (λ (b : BufferItems). b.frames.ghost_name)
+          (λ b. b.reports.ghost_name) collected _ taker h.0 h.1 in
           let frames_loan : taker.frames.ghost_name ≡ _ = took.frames_loan in
           let reports_loan : taker.reports.ghost_name ≡ _ = took.reports_loan in
           let on : now.has_stopped ≡ false = search rules in
-          let due = subst (λ (r : OctetReceiving). AreReceivedDue r.config (given ++ c.args.octets.now) (done ++ h.0)) c.self.view_is there.1 in
-          let all_new = subst (λ (a : Collected). All a (collected taker) (items_of h.0)) c.over-taker.ensures.none took.all in
+          let due = subst (λ (r : OctetReceiving). AreReceivedDue r.config (given ++ c.args.octets.now) (done ++ h.0))
+          c.self.view_is there.1 in
+          let all_new = subst (λ (a : Collected). All a (collected taker) (items_of h.0)) c.over-taker.ensures.none
+          took.all in
           let written = has-written c.args.frames.now c.args.reports.now taker (items_of h.0) all_new in
-          let few_items = subst (λ (r : OctetReceiving). AreFew r.config (length c.args.octets.now) (items_of h.0)) c.self.view_is (h.3 given done few stood) in
-          record { more = h.0; receiving = record { going = on; stands = there.0 }; due = due; written = search rules; enough = enough c.args.self.now.config (length c.args.octets.now) _ _ _ (items_of h.0) few_items (search rules) }
+          let few_items = subst (λ (r : OctetReceiving). AreFew r.config (length c.args.octets.now) (items_of h.0))
+          c.self.view_is (h.3 given done few stood) in
+          record {
+            more = h.0;
+            receiving = record { going = on; stands = there.0 };
+            due = due;
+            written = search rules;
+            enough = enough c.args.self.now.config (length c.args.octets.now) _ _ _ (items_of h.0) few_items
+                (search rules);
+          }
       | in-Err w ↦ absurd (search rules)
     ]

@@ -15,20 +15,35 @@ pub returns-clause-received : goal.returns-clause-received
 returns-clause-received c = λ given done is.
     let was = c.self.inside.receiver in
     let stood = subst (λ (r : OctetReceiving). ReceiverStandsFor r given done) (sym c.self.view_is) is.stands in
-    let going : was.has_stopped ≡ false = subst (λ (r : OctetReceiving). r.has_stopped ≡ false) (sym c.self.view_is) is.going in
+    let going : was.has_stopped ≡ false = subst (λ (r : OctetReceiving). r.has_stopped ≡ false)
+    (sym c.self.view_is) is.going in
     elim c.match-ended.branch [
       | in-Ok w ↦
           let h = w.in-Ok.ensures.handed in
           let there = h.2 given done stood in
           let taker = c.finish_in_order-ended.new.taker in
-          let took = handled (λ (b : BufferItems). b.frames.ghost_name) (λ b. b.reports.ghost_name) collected _ taker h.0 h.1 in
+          let took = handled (λ (b : BufferItems). b.frames.ghost_name)
+          (λ b. b.reports.ghost_name) collected _ taker h.0 h.1 in
           let frames_loan : taker.frames.ghost_name ≡ _ = took.frames_loan in
           let reports_loan : taker.reports.ghost_name ≡ _ = took.reports_loan in
-          let all = subst (λ (r : OctetReceiving). AreReceived r.config given (done ++ h.0) w.in-Ok.received) c.self.view_is there in
-          let chosen = subst (λ (r : OctetReceiving). IsChosen r.config given c.finish_in_order-ended.new.self.stages.inner.phased.chosen) c.self.view_is (w.in-Ok.ensures.chosen given done stood going) in
-          let all_new = subst (λ (a : Collected). All a (collected taker) (items_of h.0)) c.over-taker.ensures.none took.all in
+          let all = subst (λ (r : OctetReceiving). AreReceived r.config given (done ++ h.0) w.in-Ok.received)
+          c.self.view_is there in
+          let chosen = subst (λ (r : OctetReceiving). IsChosen r.config given
+          c.finish_in_order-ended.new.self.stages.inner.phased.chosen) c.self.view_is
+          (w.in-Ok.ensures.chosen given done stood going) in
+          let all_new = subst (λ (a : Collected). All a (collected taker) (items_of h.0)) c.over-taker.ensures.none
+          took.all in
           let written = has-written c.args.frames.now c.args.reports.now taker (items_of h.0) all_new in
-          let few_items = subst (λ (r : OctetReceiving). AreFew r.config 0 (items_of h.0)) c.self.view_is (h.3 given done stood) in
-          record { last = h.0; all = subst (λ (t : Totals). AreReceived c.args.self.now.config given (done ++ h.0) t) (sym w.totals-is) all; written = search rules; enough = enough c.args.self.now.config 0 _ _ _ (items_of h.0) few_items (search rules); chosen = chosen }
+          let few_items = subst (λ (r : OctetReceiving). AreFew r.config 0 (items_of h.0)) c.self.view_is
+          (h.3 given done stood) in
+          record {
+            last = h.0;
+            all = subst (λ (t : Totals). AreReceived c.args.self.now.config given (done ++ h.0) t)
+                (sym w.totals-is) all;
+            written = search rules;
+            enough =
+                enough c.args.self.now.config 0 _ _ _ (items_of h.0) few_items (search rules);
+            chosen = chosen;
+          }
       | in-Err w ↦ absurd (search rules)
     ]

@@ -12,8 +12,10 @@ pub returns-clause-pushed : goal.returns-clause-pushed
 returns-clause-pushed c = λ given is room.
     let config = c.self.inside.sender.config in
     let stood = subst (λ (s : Sending). SenderStandsFor s given) (sym c.self.view_is) is.stands in
-    let going : c.self.inside.sender.inner.has_failed ≡ false = subst (λ (s : Sending). s.inner.has_failed ≡ false) (sym c.self.view_is) is.going in
-    let both = All-append (λ octet. octet < 256) given c.args.octets.now is.octets (are_octets c.args.octets.now (λ i. omega (arith, c.type_inv.octets i))) in
+    let going : c.self.inside.sender.inner.has_failed ≡ false =
+    subst (λ (s : Sending). s.inner.has_failed ≡ false) (sym c.self.view_is) is.going in
+    let both = All-append (λ octet. octet < 256) given c.args.octets.now is.octets
+    (are_octets c.args.octets.now (λ i. omega (arith, c.type_inv.octets i))) in
     elim c.match-pushed.branch [
       | in-Ok w ↦
           let sent = w.in-Ok.ensures.sent in
@@ -24,8 +26,11 @@ returns-clause-pushed c = λ given is room.
           let fills = fills _ _ _ _ _ _ wrote out.within in
           (record { octets = both; going = more; stands = sent.fed.stands given stood }, search rules)
       | in-Err w ↦
-          let sink = sink_alone w.in-Err.field-0 (λ stopped. true≢false (sym (w.in-Err.ensures.stopped.0 stopped) ∙ going)) in
+          let sink = sink_alone w.in-Err.field-0 (λ stopped. true≢false
+          (sym (w.in-Err.ensures.stopped.0 stopped) ∙ going)) in
           let prefix = w.in-Err.ensures.prefix sink in
-          absurd (not-full _ _ _ _ _ c.push-pushed.new.out.is_full _ (prefix.prefix given stood) c.push-pushed.new.out.full (w.in-Err.ensures.rose sink)
-          (symbols-fit config given c.args.octets.now _ (subst IsAccepted (sym c.self.invariant) c.symbols_room.ensures.accepted) is.octets both (search rules)))
+          absurd (not-full _ _ _ _ _ c.push-pushed.new.out.is_full _
+          (prefix.prefix given stood) c.push-pushed.new.out.full (w.in-Err.ensures.rose sink)
+          (symbols-fit config given c.args.octets.now _ (subst IsAccepted
+          (sym c.self.invariant) c.symbols_room.ensures.accepted) is.octets both (search rules)))
     ]

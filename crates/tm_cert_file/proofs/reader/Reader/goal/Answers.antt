@@ -20,16 +20,22 @@ module _ (c : After-read_u32-steps) where
   steps = c.read_u32-steps.ensures ∙ ap (from_be_bytes w32) same
 
   due : is_over c.args.self.now.before.next ≡ false
-  due = ap is_over (sym (ap (λ v. v.before.next) c.self.view_is)) ∙ elim c.in-May.is [ inl e ↦ ap is_over e | inr e ↦ ap is_over e ]
+  due =
+      ap is_over (sym (ap (λ v. v.before.next) c.self.view_is))
+      ∙ elim c.in-May.is [ inl e ↦ ap is_over e | inr e ↦ ap is_over e ]
 
-  shaped : Shaped c.args.self.now.rules.keep c.args.self.now.rules.ahead (steps_in c.args.self.now.octets) (kept_in c.args.self.now.octets) (start_in c.args.self.now.octets)
+  shaped : Shaped c.args.self.now.rules.keep c.args.self.now.rules.ahead (steps_in c.args.self.now.octets)
+      (kept_in c.args.self.now.octets) (start_in c.args.self.now.octets)
   shaped =
       Shaped-from_shape c.args.self.now.rules c.args.self.now.before c.args.self.now.octets
-      ((Holds-from_none c.args.self.now.rules c.args.self.now.before c.args.self.now.octets c.requires.0).shape (omega (arith, ap length same)))
+      ((Holds-from_none c.args.self.now.rules c.args.self.now.before c.args.self.now.octets c.requires.0).shape
+      (omega (arith, ap length same)))
 
 size_is : (c : After-span) → c.read_u32-steps.result ≡ steps_in c.args.self.now.octets
     → c.span.result ≡ steps_size c.args.self.now.rules.rate c.args.self.now.before.t (steps_in c.args.self.now.octets)
-size_is c steps_are = same_size c.span.ensures (ap (λ v. v.rules.rate) c.self.view_is) (ap (λ v. v.before.t) c.self.view_is) (c.from.ensures ∙ steps_are)
+size_is c steps_are =
+    same_size c.span.ensures (ap (λ v. v.rules.rate) c.self.view_is) (ap (λ v. v.before.t) c.self.view_is)
+    (c.from.ensures ∙ steps_are)
 
 -- ---- the answers
 
@@ -43,11 +49,14 @@ returns-then-held-lt-HEADER c =
     let s = c.args.self.now in
     let held = ap length c.as_slice-held.ensures.octets ∙ ap (λ v. length v.octets) c.self.view_is in
     let few : length s.octets < 17 = omega (arith, held) in
-    let comes : is_over s.before.next ≡ false = ap is_over (sym (ap (λ v. v.before.next) c.self.view_is)) ∙ elim c.in-May.is [ inl e ↦ ap is_over e | inr e ↦ ap is_over e ] in
+    let comes : is_over s.before.next ≡ false = ap is_over (sym (ap (λ v. v.before.next) c.self.view_is))
+    ∙ elim c.in-May.is [ inl e ↦ ap is_over e | inr e ↦ ap is_over e ] in
     record {
       more = few;
       room = omega arith;
-      «open» = λ more less. open-more s.rules s.before s.octets more c.requires comes (λ h. omega arith) (λ h k. absurd (omega arith)) (λ h k. absurd (omega arith)) (λ h. absurd (omega arith));
+      «open» =
+          λ more less. open-more s.rules s.before s.octets more c.requires comes (λ h. omega arith)
+          (λ h k. absurd (omega arith)) (λ h k. absurd (omega arith)) (λ h. absurd (omega arith));
     }
 
 pub returns-then-held-bits_end : goal.returns-then-held-bits_end
@@ -61,7 +70,9 @@ returns-then-held-bits_end c =
       room = omega (arith, (shaped k).most, steps k);
       «open» = λ more less.
           let below : length s.octets + length more < 17 + steps_in s.octets = omega (arith, less, steps k) in
-          open-more s.rules s.before s.octets more c.requires (due k) (λ h. omega (arith, long)) (λ h u. absurd (omega (arith, below, u))) (λ h u. absurd (omega (arith, below, u))) (λ h. omega (arith, below));
+          open-more s.rules s.before s.octets more c.requires (due k) (λ h. omega (arith, long))
+          (λ h u. absurd (omega (arith, below, u))) (λ h u. absurd (omega (arith, below, u)))
+          (λ h. omega (arith, below));
     }
 
 pub overflow_add-soft_end : goal.overflow_add-soft_end
@@ -71,8 +82,24 @@ overflow_add-soft_end c =
     let long = ap length (same k) in
     let keep = ap (λ v. v.rules.keep) c.self.view_is in
     let ahead = ap (λ v. v.rules.ahead) c.self.view_is in
-    let most : c.read_u32-steps.result ≤ 69632 = omega (arith, (shaped k).most, steps k, keep, ahead, c.self.invariant.0, c.self.invariant.1) in
-    record { fits = omega (arith, most, c.from.ensures, c.span.ensures, steps_size-most c.self.inside.rate c.self.inside.t c.from.result) }
+    let most : c.read_u32-steps.result ≤ 69632 = omega (
+      arith,
+      (shaped k).most,
+      steps k,
+      keep,
+      ahead,
+      c.self.invariant.0,
+      c.self.invariant.1,
+    ) in
+    record {
+      fits = omega (
+        arith,
+        most,
+        c.from.ensures,
+        c.span.ensures,
+        steps_size-most c.self.inside.rate c.self.inside.t c.from.result,
+      );
+    }
 
 pub returns-then-held-soft_end : goal.returns-then-held-soft_end
 returns-then-held-soft_end c =
@@ -81,13 +108,16 @@ returns-then-held-soft_end c =
     let long = ap length (same k) in
     let size = size_is (goal.at.returns-then-held-soft_end c).After-span (steps k) in
     let bits : 17 + steps_in s.octets ≤ length s.octets = omega (arith, long, steps k) in
-    let few : length s.octets < 17 + steps_in s.octets + steps_size s.rules.rate s.before.t (steps_in s.octets) = omega (arith, long, steps k, size) in
+    let few : length s.octets < 17 + steps_in s.octets + steps_size s.rules.rate s.before.t (steps_in s.octets) =
+    omega (arith, long, steps k, size) in
     record {
       more = omega (arith, few, steps k, size);
       room = omega (arith, (shaped k).most, steps k, size, steps_size-most s.rules.rate s.before.t (steps_in s.octets));
       «open» = λ more less.
-          let below : length s.octets + length more < 17 + steps_in s.octets + steps_size s.rules.rate s.before.t (steps_in s.octets) = omega (arith, less, steps k, size) in
-          open-more s.rules s.before s.octets more c.requires (due k) (λ h. omega (arith, bits)) (λ h u. bits) (λ h u. absurd (omega (arith, below, u))) (λ h. omega (arith, below));
+          let below : length s.octets + length more < 17 + steps_in s.octets + steps_size s.rules.rate s.before.t
+          (steps_in s.octets) = omega (arith, less, steps k, size) in
+          open-more s.rules s.before s.octets more c.requires (due k) (λ h. omega (arith, bits)) (λ h u. bits)
+          (λ h u. absurd (omega (arith, below, u))) (λ h. omega (arith, below));
     }
 
 pub returns : goal.returns
@@ -97,11 +127,14 @@ returns c =
     let long = ap length (same k) in
     let size = size_is (goal.at.returns c).After-span (steps k) in
     let bits : 17 + steps_in s.octets ≤ length s.octets = omega (arith, long, steps k) in
-    let soft : 17 + steps_in s.octets + steps_size s.rules.rate s.before.t (steps_in s.octets) ≤ length s.octets = omega (arith, long, steps k, size) in
+    let soft : 17 + steps_in s.octets + steps_size s.rules.rate s.before.t (steps_in s.octets) ≤ length s.octets =
+    omega (arith, long, steps k, size) in
     record {
       more = omega (arith, c.requires.1, steps k, size);
       room = omega (arith, (shaped k).most, steps k, size, steps_size-most s.rules.rate s.before.t (steps_in s.octets));
       «open» = λ more less.
-          let below : length s.octets + length more < 17 + steps_in s.octets + steps_size s.rules.rate s.before.t (steps_in s.octets) + 256 * (steps_in s.octets + 1) = omega (arith, less, steps k, size) in
-          open-more s.rules s.before s.octets more c.requires (due k) (λ h. omega (arith, bits)) (λ h u. bits) (λ h u. soft) (λ h. omega (arith, below));
+          let below : length s.octets + length more < 17 + steps_in s.octets + steps_size s.rules.rate s.before.t
+          (steps_in s.octets) + 256 * (steps_in s.octets + 1) = omega (arith, less, steps k, size) in
+          open-more s.rules s.before s.octets more c.requires (due k) (λ h. omega (arith, bits)) (λ h u. bits)
+          (λ h u. soft) (λ h. omega (arith, below));
     }

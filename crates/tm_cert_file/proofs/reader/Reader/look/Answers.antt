@@ -28,90 +28,139 @@ module _ (c : After-read_u32-steps) where
   start = ap (λ v. get_or v 8 0) same
 
   due : is_over c.args.self.now.before.next ≡ false
-  due = ap is_over (sym (ap (λ v. v.before.next) c.self.view_is)) ∙ elim c.in-May.is [ inl e ↦ ap is_over e | inr e ↦ ap is_over e ]
+  due =
+      ap is_over (sym (ap (λ v. v.before.next) c.self.view_is))
+      ∙ elim c.in-May.is [ inl e ↦ ap is_over e | inr e ↦ ap is_over e ]
 
   held : HeldBefore c.args.self.now.rules c.args.self.now.before c.args.self.now.octets
-  held = HeldBefore-from_open c.args.self.now.rules c.args.self.now.before c.args.self.now.octets c.requires.some c.requires.open
+  held =
+      HeldBefore-from_open c.args.self.now.rules c.args.self.now.before c.args.self.now.octets c.requires.some
+      c.requires.open
 
-  few : shape_of c.args.self.now.rules c.args.self.now.before c.args.self.now.octets ≡ true → c.read_u32-steps.result ≤ 69632
+  few : shape_of c.args.self.now.rules c.args.self.now.before c.args.self.now.octets ≡ true
+      → c.read_u32-steps.result ≤ 69632
   few shape =
       let shaped = Shaped-from_shape c.args.self.now.rules c.args.self.now.before c.args.self.now.octets shape in
-      omega (arith, shaped.most, steps, ap (λ v. v.rules.keep) c.self.view_is, ap (λ v. v.rules.ahead) c.self.view_is, c.self.invariant.0, c.self.invariant.1)
+      omega (
+        arith,
+        shaped.most,
+        steps,
+        ap (λ v. v.rules.keep) c.self.view_is,
+        ap (λ v. v.rules.ahead) c.self.view_is,
+        c.self.invariant.0,
+        c.self.invariant.1,
+      )
 
 -- ---- what the tests say of the octets
 
 -- of its numbers
-shape_is : (c : After-has_shape-is_right) → c.as_slice-held.result.now ≡ c.args.self.now.octets → c.read_u32-steps.result ≡ steps_in c.args.self.now.octets
+shape_is : (c : After-has_shape-is_right) → c.as_slice-held.result.now ≡ c.args.self.now.octets
+    → c.read_u32-steps.result ≡ steps_in c.args.self.now.octets
     → c.has_shape-is_right.result ≡ shape_of c.args.self.now.rules c.args.self.now.before c.args.self.now.octets
 shape_is c read steps_are =
     let next = ap (λ v. v.before.next) c.self.view_is in
-    let kept : c.read_u32.result ≡ kept_in c.args.self.now.octets = c.read_u32.ensures ∙ ap (from_be_bytes w32) (take_rest c.as_slice-held.result.now 4 ∙ ap (drop 4) read) in
-    c.has_shape-is_right.ensures c.args.self.now.rules (sym (ap (λ v. v.rules.keep) c.self.view_is)) (sym (ap (λ v. v.rules.ahead) c.self.view_is))
+    let kept : c.read_u32.result ≡ kept_in c.args.self.now.octets = c.read_u32.ensures
+    ∙ ap (from_be_bytes w32) (take_rest c.as_slice-held.result.now 4 ∙ ap (drop 4) read) in
+    c.has_shape-is_right.ensures c.args.self.now.rules (sym (ap (λ v. v.rules.keep) c.self.view_is))
+    (sym (ap (λ v. v.rules.ahead) c.self.view_is))
     ∙ (λ i. has_shape c.args.self.now.rules (next i) (steps_are i) (kept i) (get_or (read i) 8 0))
 
 -- of its bits, where no octet is after them
-bits_are : (c : After-are_bits-is_right) → c.as_slice-held.result.now ≡ c.args.self.now.octets → length c.as_slice-held.result.now ≡ 17 + steps_in c.args.self.now.octets
+bits_are : (c : After-are_bits-is_right) → c.as_slice-held.result.now ≡ c.args.self.now.octets
+    → length c.as_slice-held.result.now ≡ 17 + steps_in c.args.self.now.octets
     → c.are_bits-is_right.result ≡ are_bits (bits_in c.args.self.now.octets)
 bits_are c read end =
     c.are_bits-is_right.ensures
-    ∙ ap are_bits (same_part c.as_slice-held.result.now c.args.self.now.octets 17 17 (length c.as_slice-held.result.now - 17) (steps_in c.args.self.now.octets) read refl (omega (arith, end)))
+    ∙ ap are_bits (same_part c.as_slice-held.result.now c.args.self.now.octets 17 17
+    (length c.as_slice-held.result.now - 17) (steps_in c.args.self.now.octets) read refl (omega (arith, end)))
 
 size_is : (c : After-span) → c.read_u32-steps.result ≡ steps_in c.args.self.now.octets
     → c.span.result ≡ steps_size c.args.self.now.rules.rate c.args.self.now.before.t (steps_in c.args.self.now.octets)
-size_is c steps_are = same_size c.span.ensures (ap (λ v. v.rules.rate) c.self.view_is) (ap (λ v. v.before.t) c.self.view_is) (c.from.ensures ∙ steps_are)
+size_is c steps_are =
+    same_size c.span.ensures (ap (λ v. v.rules.rate) c.self.view_is) (ap (λ v. v.before.t) c.self.view_is)
+    (c.from.ensures ∙ steps_are)
 
 -- of its joint, where no octet is after the soft ones
-joint_is : (c : After-is_joined-is_right) → c.as_slice-held.result.now ≡ c.args.self.now.octets → c.read_u32-steps.result ≡ steps_in c.args.self.now.octets
-    → length c.as_slice-held.result.now ≡ soft_end c.args.self.now.rules.rate c.args.self.now.before.t (steps_in c.args.self.now.octets)
+joint_is : (c : After-is_joined-is_right) → c.as_slice-held.result.now ≡ c.args.self.now.octets
+    → c.read_u32-steps.result ≡ steps_in c.args.self.now.octets
+    → length c.as_slice-held.result.now ≡ soft_end c.args.self.now.rules.rate c.args.self.now.before.t
+    (steps_in c.args.self.now.octets)
     → c.is_joined-is_right.result ≡ joined_of c.args.self.now.rules c.args.self.now.before c.args.self.now.octets
 joint_is c read steps_are end =
     let s = c.args.self.now in
     let bits_end = 17 + c.read_u32-steps.result in
-    let soft : take (length c.as_slice-held.result.now - bits_end) (drop bits_end c.as_slice-held.result.now) ≡ soft_in s.rules.rate s.before.t s.octets
-    = same_part c.as_slice-held.result.now s.octets bits_end (17 + steps_in s.octets) (length c.as_slice-held.result.now - bits_end)
-    (steps_size s.rules.rate s.before.t (steps_in s.octets)) read (ap (λ v. 17 + v) steps_are) (omega (arith, end, steps_are)) in
+    let soft : take (length c.as_slice-held.result.now - bits_end) (drop bits_end c.as_slice-held.result.now)
+    ≡ soft_in s.rules.rate s.before.t s.octets
+    =
+    same_part c.as_slice-held.result.now s.octets bits_end (17 + steps_in s.octets)
+    (length c.as_slice-held.result.now - bits_end)
+    (steps_size s.rules.rate s.before.t (steps_in s.octets)) read (ap (λ v. 17 + v) steps_are)
+    (omega (arith, end, steps_are)) in
     let tail = c.as_slice-tail.ensures.octets ∙ ap (λ v. v.before.octets) c.self.view_is in
-    c.is_joined-is_right.ensures s.before (sym (ap (λ v. v.before.starts) c.self.view_is)) (sym tail) ∙ (λ i. is_joined s.before (get_or (read i) 8 0) (soft i))
+    c.is_joined-is_right.ensures s.before (sym (ap (λ v. v.before.starts) c.self.view_is)) (sym tail)
+    ∙ (λ i. is_joined s.before (get_or (read i) 8 0) (soft i))
 
 -- ---- the whole window
 
-module _ (c : After-read_u64) (read : c.as_slice-held.result.now ≡ c.args.self.now.octets) (steps_are : c.read_u32-steps.result ≡ steps_in c.args.self.now.octets)
-    (size : c.span.result ≡ steps_size c.args.self.now.rules.rate c.args.self.now.before.t (steps_in c.args.self.now.octets)) where
-  place : 17 + c.read_u32-steps.result + c.span.result ≡ soft_end c.args.self.now.rules.rate c.args.self.now.before.t (steps_in c.args.self.now.octets)
+module _ (c : After-read_u64) (read : c.as_slice-held.result.now ≡ c.args.self.now.octets)
+    (steps_are : c.read_u32-steps.result ≡ steps_in c.args.self.now.octets)
+    (size : c.span.result ≡ steps_size c.args.self.now.rules.rate c.args.self.now.before.t
+    (steps_in c.args.self.now.octets)) where
+  place : 17 + c.read_u32-steps.result + c.span.result ≡ soft_end c.args.self.now.rules.rate c.args.self.now.before.t
+      (steps_in c.args.self.now.octets)
   place = omega (arith, steps_are, size)
 
-  its_bits : take (17 + c.read_u32-steps.result - 17) (drop 17 c.as_slice-held.result.now) ≡ bits_in c.args.self.now.octets
-  its_bits = same_part c.as_slice-held.result.now c.args.self.now.octets 17 17 (17 + c.read_u32-steps.result - 17) (steps_in c.args.self.now.octets) read refl (omega (arith, steps_are))
+  its_bits : take (17 + c.read_u32-steps.result - 17) (drop 17 c.as_slice-held.result.now)
+      ≡ bits_in c.args.self.now.octets
+  its_bits =
+      same_part c.as_slice-held.result.now c.args.self.now.octets 17 17 (17 + c.read_u32-steps.result - 17)
+      (steps_in c.args.self.now.octets) read refl (omega (arith, steps_are))
 
-  its_soft : take (17 + c.read_u32-steps.result + c.span.result - (17 + c.read_u32-steps.result)) (drop (17 + c.read_u32-steps.result) c.as_slice-held.result.now)
+  its_soft : take (17 + c.read_u32-steps.result + c.span.result - (17 + c.read_u32-steps.result))
+      (drop (17 + c.read_u32-steps.result) c.as_slice-held.result.now)
       ≡ soft_in c.args.self.now.rules.rate c.args.self.now.before.t c.args.self.now.octets
   its_soft =
-      same_part c.as_slice-held.result.now c.args.self.now.octets (17 + c.read_u32-steps.result) (17 + steps_in c.args.self.now.octets) (17 + c.read_u32-steps.result + c.span.result - (17 + c.read_u32-steps.result))
-      (steps_size c.args.self.now.rules.rate c.args.self.now.before.t (steps_in c.args.self.now.octets)) read (ap (λ v. 17 + v) steps_are) (omega (arith, size))
+      same_part c.as_slice-held.result.now c.args.self.now.octets (17 + c.read_u32-steps.result)
+      (17 + steps_in c.args.self.now.octets)
+      (17 + c.read_u32-steps.result + c.span.result - (17 + c.read_u32-steps.result))
+      (steps_size c.args.self.now.rules.rate c.args.self.now.before.t (steps_in c.args.self.now.octets)) read
+      (ap (λ v. 17 + v) steps_are) (omega (arith, size))
 
-  its_columns : take (length c.as_slice-held.result.now - (17 + c.read_u32-steps.result + c.span.result)) (drop (17 + c.read_u32-steps.result + c.span.result) c.as_slice-held.result.now)
-      ≡ drop (soft_end c.args.self.now.rules.rate c.args.self.now.before.t (steps_in c.args.self.now.octets)) c.args.self.now.octets
-  its_columns = take_rest c.as_slice-held.result.now (17 + c.read_u32-steps.result + c.span.result) ∙ (λ i. drop (place i) (read i))
+  its_columns : take (length c.as_slice-held.result.now - (17 + c.read_u32-steps.result + c.span.result))
+      (drop (17 + c.read_u32-steps.result + c.span.result) c.as_slice-held.result.now)
+      ≡ drop (soft_end c.args.self.now.rules.rate c.args.self.now.before.t (steps_in c.args.self.now.octets))
+      c.args.self.now.octets
+  its_columns =
+      take_rest c.as_slice-held.result.now (17 + c.read_u32-steps.result + c.span.result)
+      ∙ (λ i. drop (place i) (read i))
 
-  just : HeldBefore c.args.self.now.rules c.args.self.now.before c.args.self.now.octets → 17 < length c.args.self.now.octets
-      → length c.args.self.now.octets ≡ window_size c.args.self.now.rules.rate c.args.self.now.before.t (steps_in c.args.self.now.octets)
-  just held_before after = omega (arith, ap length read, steps_are, size, c.if-held-soft_end-2.false, held_before.size after)
+  just : HeldBefore c.args.self.now.rules c.args.self.now.before c.args.self.now.octets
+      → 17 < length c.args.self.now.octets
+      → length c.args.self.now.octets ≡ window_size c.args.self.now.rules.rate c.args.self.now.before.t
+      (steps_in c.args.self.now.octets)
+  just held_before after =
+      omega (arith, ap length read, steps_are, size, c.if-held-soft_end-2.false, held_before.size after)
 
-  bits_long : length c.args.self.now.octets ≡ window_size c.args.self.now.rules.rate c.args.self.now.before.t (steps_in c.args.self.now.octets) → length (bits_in c.args.self.now.octets) ≡ steps_in c.args.self.now.octets
-  bits_long end = length-take-le (steps_in c.args.self.now.octets) (drop 17 c.args.self.now.octets) (omega (arith, end, length-drop 17 c.args.self.now.octets))
+  bits_long : length c.args.self.now.octets ≡ window_size c.args.self.now.rules.rate c.args.self.now.before.t
+      (steps_in c.args.self.now.octets) → length (bits_in c.args.self.now.octets) ≡ steps_in c.args.self.now.octets
+  bits_long end =
+      length-take-le (steps_in c.args.self.now.octets) (drop 17 c.args.self.now.octets)
+      (omega (arith, end, length-drop 17 c.args.self.now.octets))
 
 -- ---- the answers
 
 pub returns-in-Never-clause-seen : goal.returns-in-Never-clause-seen
 returns-in-Never-clause-seen c =
     let s = c.args.self.now in
-    reason-over s.rules s.before s.octets c.requires.some (ap is_over (sym (ap (λ v. v.before.next) c.self.view_is) ∙ c.in-Never.is))
+    reason-over s.rules s.before s.octets c.requires.some (ap is_over
+    (sym (ap (λ v. v.before.next) c.self.view_is) ∙ c.in-Never.is))
 
 pub returns-then-held-lt-HEADER : goal.returns-then-held-lt-HEADER
 returns-then-held-lt-HEADER c =
     let s = c.args.self.now in
     let long = ap length c.as_slice-held.ensures.octets ∙ ap (λ v. length v.octets) c.self.view_is in
-    let comes : is_over s.before.next ≡ false = ap is_over (sym (ap (λ v. v.before.next) c.self.view_is)) ∙ elim c.in-May.is [ inl e ↦ ap is_over e | inr e ↦ ap is_over e ] in
+    let comes : is_over s.before.next ≡ false = ap is_over (sym (ap (λ v. v.before.next) c.self.view_is))
+    ∙ elim c.in-May.is [ inl e ↦ ap is_over e | inr e ↦ ap is_over e ] in
     record { seen = seen_header s.rules s.before s.octets comes (omega (arith, long)); just = λ e. absurd cc }
 
 pub returns-then-is_right : goal.returns-then-is_right
@@ -119,14 +168,24 @@ returns-then-is_right c =
     let s = c.args.self.now in
     let k = (goal.at.returns-then-is_right c).After-read_u32-steps in
     let is = shape_is (goal.at.returns-then-is_right c).After-has_shape-is_right (same k) (steps k) in
-    record { seen = seen_shape s.rules s.before s.octets (due k) (omega (arith, ap length (same k), c.if-held-eq-HEADER.true)) (sym is ∙ c.if-is_right.true); just = λ e. absurd cc }
+    record {
+      seen = seen_shape s.rules s.before s.octets (due k)
+          (omega (arith, ap length (same k), c.if-held-eq-HEADER.true)) (sym is ∙ c.if-is_right.true);
+      just =
+          λ e. absurd cc;
+    }
 
 pub returns-else-is_right : goal.returns-else-is_right
 returns-else-is_right c =
     let s = c.args.self.now in
     let k = (goal.at.returns-else-is_right c).After-read_u32-steps in
     let is = shape_is (goal.at.returns-else-is_right c).After-has_shape-is_right (same k) (steps k) in
-    record { seen = reason-shape s.rules s.before s.octets (due k) (omega (arith, ap length (same k), c.if-held-eq-HEADER.true)) (sym is ∙ c.if-is_right.false); just = λ e. absurd cc }
+    record {
+      seen = reason-shape s.rules s.before s.octets (due k)
+          (omega (arith, ap length (same k), c.if-held-eq-HEADER.true)) (sym is ∙ c.if-is_right.false);
+      just =
+          λ e. absurd cc;
+    }
 
 pub returns-then-is_right-2 : goal.returns-then-is_right-2
 returns-then-is_right-2 c =
@@ -137,7 +196,10 @@ returns-then-is_right-2 c =
     let shape = (held k).shape after in
     let end : length s.octets ≡ 17 + steps_in s.octets = omega (arith, long, steps k, c.if-held-bits_end.true) in
     let is = bits_are (goal.at.returns-then-is_right-2 c).After-are_bits-is_right (same k) (long ∙ end) in
-    record { seen = seen_bits s.rules s.before s.octets (due k) end shape (sym is ∙ c.if-is_right-2.true); just = λ e. absurd cc }
+    record {
+      seen = seen_bits s.rules s.before s.octets (due k) end shape (sym is ∙ c.if-is_right-2.true);
+      just = λ e. absurd cc;
+    }
 
 pub returns-else-is_right-2 : goal.returns-else-is_right-2
 returns-else-is_right-2 c =
@@ -148,7 +210,11 @@ returns-else-is_right-2 c =
     let shape = (held k).shape after in
     let end : length s.octets ≡ 17 + steps_in s.octets = omega (arith, long, steps k, c.if-held-bits_end.true) in
     let is = bits_are (goal.at.returns-else-is_right-2 c).After-are_bits-is_right (same k) (long ∙ end) in
-    record { seen = reason-bits s.rules s.before s.octets (due k) shape (omega (arith, end)) (sym is ∙ c.if-is_right-2.false); just = λ e. absurd cc }
+    record {
+      seen = reason-bits s.rules s.before s.octets (due k) shape (omega (arith, end))
+          (sym is ∙ c.if-is_right-2.false);
+      just = λ e. absurd cc;
+    }
 
 pub overflow_add-soft_end : goal.overflow_add-soft_end
 overflow_add-soft_end c =
@@ -157,7 +223,15 @@ overflow_add-soft_end c =
     let long = ap length (same k) in
     let after : 17 < length s.octets = omega (arith, long, c.if-held-eq-HEADER.false) in
     let shape = (held k).shape after in
-    record { fits = omega (arith, few k shape, c.from.ensures, c.span.ensures, steps_size-most c.self.inside.rate c.self.inside.t c.from.result) }
+    record {
+      fits = omega (
+        arith,
+        few k shape,
+        c.from.ensures,
+        c.span.ensures,
+        steps_size-most c.self.inside.rate c.self.inside.t c.from.result,
+      );
+    }
 
 pub overflow_add-soft_end-2 : goal.overflow_add-soft_end-2
 overflow_add-soft_end-2 c =
@@ -166,7 +240,15 @@ overflow_add-soft_end-2 c =
     let long = ap length (same k) in
     let after : 17 < length s.octets = omega (arith, long, c.if-held-eq-HEADER.false) in
     let shape = (held k).shape after in
-    record { fits = omega (arith, few k shape, c.from.ensures, c.span.ensures, steps_size-most c.self.inside.rate c.self.inside.t c.from.result) }
+    record {
+      fits = omega (
+        arith,
+        few k shape,
+        c.from.ensures,
+        c.span.ensures,
+        steps_size-most c.self.inside.rate c.self.inside.t c.from.result,
+      );
+    }
 
 pub returns-then-is_right-3 : goal.returns-then-is_right-3
 returns-then-is_right-3 c =
@@ -176,10 +258,19 @@ returns-then-is_right-3 c =
     let long = ap length (same k) in
     let after : 17 < length s.octets = omega (arith, long, c.if-held-eq-HEADER.false) in
     let shape = (held k).shape after in
-    let end : length s.octets ≡ soft_end s.rules.rate s.before.t (steps_in s.octets) = omega (arith, long, steps k, size, c.if-held-soft_end.true) in
-    let bits = (held k).bits (omega (arith, end, steps_size_ge s.rules.rate s.before.t (steps_in s.octets), (Shaped-from_shape s.rules s.before s.octets shape).some)) in
+    let end : length s.octets ≡ soft_end s.rules.rate s.before.t (steps_in s.octets) =
+    omega (arith, long, steps k, size, c.if-held-soft_end.true) in
+    let bits = (held k).bits (omega (
+      arith,
+      end,
+      steps_size_ge s.rules.rate s.before.t (steps_in s.octets),
+      (Shaped-from_shape s.rules s.before s.octets shape).some,
+    )) in
     let is = joint_is (goal.at.returns-then-is_right-3 c).After-is_joined-is_right (same k) (steps k) (long ∙ end) in
-    record { seen = seen_soft s.rules s.before s.octets (due k) end shape bits (sym is ∙ c.if-is_right-3.true); just = λ e. absurd cc }
+    record {
+      seen = seen_soft s.rules s.before s.octets (due k) end shape bits (sym is ∙ c.if-is_right-3.true);
+      just = λ e. absurd cc;
+    }
 
 pub returns-else-is_right-3 : goal.returns-else-is_right-3
 returns-else-is_right-3 c =
@@ -189,10 +280,20 @@ returns-else-is_right-3 c =
     let long = ap length (same k) in
     let after : 17 < length s.octets = omega (arith, long, c.if-held-eq-HEADER.false) in
     let shape = (held k).shape after in
-    let end : length s.octets ≡ soft_end s.rules.rate s.before.t (steps_in s.octets) = omega (arith, long, steps k, size, c.if-held-soft_end.true) in
-    let bits = (held k).bits (omega (arith, end, steps_size_ge s.rules.rate s.before.t (steps_in s.octets), (Shaped-from_shape s.rules s.before s.octets shape).some)) in
+    let end : length s.octets ≡ soft_end s.rules.rate s.before.t (steps_in s.octets) =
+    omega (arith, long, steps k, size, c.if-held-soft_end.true) in
+    let bits = (held k).bits (omega (
+      arith,
+      end,
+      steps_size_ge s.rules.rate s.before.t (steps_in s.octets),
+      (Shaped-from_shape s.rules s.before s.octets shape).some,
+    )) in
     let is = joint_is (goal.at.returns-else-is_right-3 c).After-is_joined-is_right (same k) (steps k) (long ∙ end) in
-    record { seen = reason-joint s.rules s.before s.octets (due k) shape bits (omega (arith, end)) (sym is ∙ c.if-is_right-3.false); just = λ e. absurd cc }
+    record {
+      seen = reason-joint s.rules s.before s.octets (due k) shape bits (omega (arith, end))
+          (sym is ∙ c.if-is_right-3.false);
+      just = λ e. absurd cc;
+    }
 
 pub returns-then-held-soft_end-2 : goal.returns-then-held-soft_end-2
 returns-then-held-soft_end-2 c =
@@ -202,10 +303,15 @@ returns-then-held-soft_end-2 c =
     let long = ap length (same k) in
     let after : 17 < length s.octets = omega (arith, long, c.if-held-eq-HEADER.false) in
     let shape = (held k).shape after in
-    let not_bits : ◌≢◌ {A = ℕ} (length s.octets) (17 + steps_in s.octets) = λ e. c.if-held-bits_end.false (omega (arith, e, long, steps k)) in
-    let not_soft : ◌≢◌ {A = ℕ} (length s.octets) (soft_end s.rules.rate s.before.t (steps_in s.octets)) = λ e. c.if-held-soft_end.false (omega (arith, e, long, steps k, size)) in
+    let not_bits : ◌≢◌ {A = ℕ} (length s.octets) (17 + steps_in s.octets) =
+    λ e. c.if-held-bits_end.false (omega (arith, e, long, steps k)) in
+    let not_soft : ◌≢◌ {A = ℕ} (length s.octets) (soft_end s.rules.rate s.before.t (steps_in s.octets)) =
+    λ e. c.if-held-soft_end.false (omega (arith, e, long, steps k, size)) in
     record {
-      seen = (seen_between s.rules s.before s.octets (due k) (held k) after not_bits not_soft, omega (arith, long, steps k, size, c.if-held-soft_end-2.true));
+      seen = (
+        seen_between s.rules s.before s.octets (due k) (held k) after not_bits not_soft,
+        omega (arith, long, steps k, size, c.if-held-soft_end-2.true),
+      );
       just = λ e. absurd cc;
     }
 
@@ -223,7 +329,9 @@ verdict_on-verdict-requires c =
     let soft = its_soft at (same k) (steps k) size in
     let columns = its_columns at (same k) (steps k) size in
     let count = bits_long at (same k) (steps k) size end in
-    let joined = and_parts (is_start s.before.starts (start_in s.octets)) (starts_with nat_eq (soft_in s.rules.rate s.before.t s.octets) s.before.octets) ((held k).joined (omega (arith, end))) in
+    let joined = and_parts (is_start s.before.starts (start_in s.octets))
+    (starts_with nat_eq (soft_in s.rules.rate s.before.t s.octets) s.before.octets)
+    ((held k).joined (omega (arith, end))) in
     let rate = ap (λ v. v.rules.rate) c.self.view_is in
     let t = ap (λ v. v.before.t) c.self.view_is in
     let starts = ap (λ v. v.before.starts) c.self.view_is in
@@ -234,9 +342,18 @@ verdict_on-verdict-requires c =
       first = omega (arith, c.self.invariant.2);
       starts = c.self.invariant.3;
       soft = ap length soft
-          ∙ length-take-le (steps_size s.rules.rate s.before.t (steps_in s.octets)) (drop (17 + steps_in s.octets) s.octets) (omega (arith, end, length-drop (17 + steps_in s.octets) s.octets))
+          ∙ length-take-le (steps_size s.rules.rate s.before.t (steps_in s.octets))
+          (drop (17 + steps_in s.octets) s.octets)
+          (omega (arith, end, length-drop (17 + steps_in s.octets) s.octets))
           ∙ sym (λ i. steps_size (rate i) (t i) (its_count i));
-      columns = omega (arith, ap length columns, length-drop (soft_end s.rules.rate s.before.t (steps_in s.octets)) s.octets, end, its_count);
+      columns =
+          omega (
+            arith,
+            ap length columns,
+            length-drop (soft_end s.rules.rate s.before.t (steps_in s.octets)) s.octets,
+            end,
+            its_count,
+          );
       register = omega (arith, start k, (Shaped-from_shape s.rules s.before s.octets shape).register);
       start = (λ i. is_start (starts i) (start k i)) ∙ joined.0;
     }
@@ -255,19 +372,32 @@ returns c =
     let soft = its_soft at (same k) (steps k) size in
     let columns = its_columns at (same k) (steps k) size in
     let count = bits_long at (same k) (steps k) size end in
-    let metric : c.read_u64.result ≡ metric_in s.octets = c.read_u64.ensures ∙ ap (from_be_bytes w64) (take_rest c.as_slice-held.result.now 9 ∙ ap (drop 9) (same k)) in
+    let metric : c.read_u64.result ≡ metric_in s.octets = c.read_u64.ensures
+    ∙ ap (from_be_bytes w64) (take_rest c.as_slice-held.result.now 9 ∙ ap (drop 9) (same k)) in
     let rate = ap (λ v. v.rules.rate) c.self.view_is in
     let invert = ap (λ v. v.rules.invert) c.self.view_is in
     let t = ap (λ v. v.before.t) c.self.view_is in
     let starts = ap (λ v. v.before.starts) c.self.view_is in
     let judged : IsJudged s.rules s.before s.octets c.verdict_on-verdict.result = record {
-      right = seen_between s.rules s.before s.octets (due k) (held k) after (λ e. absurd (omega (arith, e, end))) (λ e. absurd (omega (arith, e, end)));
+      right =
+          seen_between s.rules s.before s.octets (due k) (held k) after (λ e. absurd (omega (arith, e, end)))
+          (λ e. absurd (omega (arith, e, end)));
       whole = omega (arith, end);
       is_verdict = same_verdict _ _ _ _ _ _ _ _ _ _ c.verdict_on-verdict.result
           (λ i. record { rate = rate i; invert = invert i; first = t i; starts = starts i; soft = soft i })
-          ((λ i. columns_in (length (its i) + 1) (columns i)) ∙ ap (λ v. columns_in (v + 1) (drop (soft_end s.rules.rate s.before.t (steps_in s.octets)) s.octets)) count)
+          ((λ i. columns_in (length (its i) + 1) (columns i))
+          ∙ ap (λ v. columns_in (v + 1) (drop (soft_end s.rules.rate s.before.t (steps_in s.octets)) s.octets))
+          count)
           (start k) its metric c.verdict_on-verdict.ensures;
     } in
     let seen : IsSeen s.rules s.before s.octets c.seen_by.result
-    = subst (λ v. IsSeen s.rules s.before s.octets v) (sym c.seen_by.ensures) (seen-by_verdict s.rules s.before s.octets c.verdict_on-verdict.result judged) in
-    record { seen = seen; just = λ e. record { passed = subst (λ v. IsSeen s.rules s.before s.octets v) e seen; just = end } }
+    =
+    subst (λ v. IsSeen s.rules s.before s.octets v) (sym c.seen_by.ensures)
+    (seen-by_verdict s.rules s.before s.octets c.verdict_on-verdict.result judged) in
+    record {
+      seen = seen;
+      just = λ e. record {
+        passed = subst (λ v. IsSeen s.rules s.before s.octets v) e seen;
+        just = end;
+      };
+    }

@@ -10,27 +10,43 @@ use Rattle.tm_cert_file.proofs.reader.Reader.push.Goals.{After-fill-taken}
 -- ---- what is known once octets were taken
 
 module _ (c : After-fill-taken) where
-  rest_long : length (take (length c.args.piece.now - c.loop-taken.taken) (drop c.loop-taken.taken c.args.piece.now)) ≡ length c.args.piece.now - c.loop-taken.taken
+  rest_long : length (take (length c.args.piece.now - c.loop-taken.taken) (drop c.loop-taken.taken c.args.piece.now))
+      ≡ length c.args.piece.now - c.loop-taken.taken
   rest_long =
-      length-take-le (length c.args.piece.now - c.loop-taken.taken) (drop c.loop-taken.taken c.args.piece.now) (omega (arith, length-drop c.loop-taken.taken c.args.piece.now))
+      length-take-le (length c.args.piece.now - c.loop-taken.taken) (drop c.loop-taken.taken c.args.piece.now)
+      (omega (arith, length-drop c.loop-taken.taken c.args.piece.now))
 
-  count : c.fill-taken.result ≡ min (min (length c.args.piece.now - c.loop-taken.taken) (c.goal-goal.result - length c.loop-taken.self.octets)) (c.self.inside.octets.room - length c.loop-taken.self.octets)
-  count = omega (arith, c.fill-taken.ensures.count, rest_long, ap length c.as_slice.ensures.octets, ap (λ v. length v.octets) c.self.view_is)
+  count : c.fill-taken.result ≡ min (min (length c.args.piece.now - c.loop-taken.taken)
+      (c.goal-goal.result - length c.loop-taken.self.octets))
+      (c.self.inside.octets.room - length c.loop-taken.self.octets)
+  count =
+      omega (
+        arith,
+        c.fill-taken.ensures.count,
+        rest_long,
+        ap length c.as_slice.ensures.octets,
+        ap (λ v. length v.octets) c.self.view_is,
+      )
 
   some : 0 < c.fill-taken.result
   some =
       let keep = ap (λ v. v.rules.keep) c.self.view_is in
       let ahead = ap (λ v. v.rules.ahead) c.self.view_is in
-      let room : c.goal-goal.result ≤ c.self.inside.octets.room = omega (arith, c.goal-goal.ensures.room, keep, ahead, c.self.invariant) in
+      let room : c.goal-goal.result ≤ c.self.inside.octets.room =
+      omega (arith, c.goal-goal.ensures.room, keep, ahead, c.self.invariant) in
       omega (arith, count, room, c.goal-goal.ensures.more, c.loop-taken-test.true)
 
-  octets_are : c.fill-taken.new.self.octets ≡ c.args.self.now.octets ++ take (c.loop-taken.taken + c.fill-taken.result) c.args.piece.now
+  octets_are : c.fill-taken.new.self.octets ≡ c.args.self.now.octets
+      ++ take (c.loop-taken.taken + c.fill-taken.result) c.args.piece.now
   octets_are =
-      taken_more c.loop-taken.taken c.fill-taken.result c.args.self.now.octets c.self.inside.octets.octets c.fill-taken.new.self.octets c.args.piece.now
+      taken_more c.loop-taken.taken c.fill-taken.result c.args.self.now.octets c.self.inside.octets.octets
+      c.fill-taken.new.self.octets c.args.piece.now
       (ap (λ v. v.octets) c.self.view_is ∙ c.loop-taken.invariant.octets) c.fill-taken.ensures.octets
 
   -- nothing was seen by fewer octets
-  first : (count : ℕ) → count < c.loop-taken.taken + c.fill-taken.result → IsSeen c.args.self.now.rules c.args.self.now.before (c.args.self.now.octets ++ take count c.args.piece.now) More
+  first : (count : ℕ) → count < c.loop-taken.taken + c.fill-taken.result
+      → IsSeen c.args.self.now.rules c.args.self.now.before
+      (c.args.self.now.octets ++ take count c.args.piece.now) More
   first number less = elim (cases_lt number c.loop-taken.taken) [
     | inl lt ↦ c.loop-taken.invariant.first number lt
     | inr le ↦
@@ -40,11 +56,18 @@ module _ (c : After-fill-taken) where
         let rest = take (length piece - taken) (drop taken piece) in
         let part = take (number - taken) rest in
         let is : v.octets ++ part ≡ c.args.self.now.octets ++ take (taken + (number - taken)) piece =
-        taken_more taken (number - taken) c.args.self.now.octets v.octets (v.octets ++ part) piece c.loop-taken.invariant.octets refl in
+        taken_more taken (number - taken) c.args.self.now.octets v.octets
+        (v.octets ++ part) piece c.loop-taken.invariant.octets refl in
         let all : taken + (number - taken) ≡ number = omega arith in
-        same_seen v.rules _ v.before _ (v.octets ++ part) _ More c.loop-taken.invariant.rules c.loop-taken.invariant.before
+        same_seen v.rules _ v.before _ (v.octets ++ part) _ More c.loop-taken.invariant.rules
+        c.loop-taken.invariant.before
         (is ∙ ap (λ n. c.args.self.now.octets ++ take n piece) all)
-        (c.goal-goal.ensures.open part (omega (arith, length-take (number - taken) rest, count, c.goal-goal.ensures.more)))
+        (c.goal-goal.ensures.open part (omega (
+          arith,
+          length-take (number - taken) rest,
+          count,
+          c.goal-goal.ensures.more,
+        )))
   ]
 
 -- ---- the answers
@@ -55,11 +78,14 @@ look-requires-clause-open c =
     let k = (goal.at.look-requires-clause-open c).After-fill-taken in
     let rest = take (length c.args.piece.now - c.loop-taken.taken) (drop c.loop-taken.taken c.args.piece.now) in
     let part = take c.fill-taken.result rest in
-    let part_long : length part ≡ c.fill-taken.result = length-take-le c.fill-taken.result rest (omega (arith, count k, rest_long k)) in
+    let part_long : length part ≡ c.fill-taken.result = length-take-le c.fill-taken.result rest
+    (omega (arith, count k, rest_long k)) in
     let prefix = take (length part - 1) part in
     let prefix_long : length prefix ≡ length part - 1 = length-take-le (length part - 1) part (omega arith) in
-    let is : c.fill-taken.new.self.octets ≡ v.octets ++ part = c.fill-taken.ensures.octets ∙ ap (λ u. u.octets ++ part) c.self.view_is in
-    same_seen v.rules _ v.before _ (v.octets ++ prefix) _ More (sym (ap (λ u. u.rules) c.self.view_is)) (sym (ap (λ u. u.before) c.self.view_is))
+    let is : c.fill-taken.new.self.octets ≡ v.octets ++ part = c.fill-taken.ensures.octets
+    ∙ ap (λ u. u.octets ++ part) c.self.view_is in
+    same_seen v.rules _ v.before _ (v.octets ++ prefix) _ More (sym (ap (λ u. u.rules) c.self.view_is))
+    (sym (ap (λ u. u.before) c.self.view_is))
     (before_last v.octets part c.fill-taken.new.self.octets is (omega (arith, some k, part_long)))
     (c.goal-goal.ensures.open prefix (omega (arith, prefix_long, part_long, some k, count k, c.goal-goal.ensures.more)))
 
@@ -86,14 +112,22 @@ returns-in_default c =
       octets = octets_are k;
       rules = rules;
       before = before;
-      seen = same_seen _ c.args.self.now.rules _ c.args.self.now.before c.fill-taken.new.self.octets c.fill-taken.new.self.octets c.look.result rules before (λ i. c.fill-taken.new.self.octets) c.look.ensures.seen;
+      seen =
+          same_seen _ c.args.self.now.rules _ c.args.self.now.before c.fill-taken.new.self.octets
+          c.fill-taken.new.self.octets c.look.result rules before
+          (λ i. c.fill-taken.new.self.octets) c.look.ensures.seen;
       first = first k;
       all = λ e. absurd (c.in_default.not-More e);
       just = c.look.ensures.just;
-      stands = stands_more c.args.self.now.rules _ c.args.self.now.before _ c.args.self.now.octets c.fill-taken.new.self.octets (take (c.loop-taken.taken + c.fill-taken.result) c.args.piece.now) rules before (octets_are k);
+      stands =
+          stands_more c.args.self.now.rules _ c.args.self.now.before _ c.args.self.now.octets
+          c.fill-taken.new.self.octets (take (c.loop-taken.taken + c.fill-taken.result) c.args.piece.now) rules before
+          (octets_are k);
     }
 
 pub returns-clause-stands : goal.returns-clause-stands
 returns-clause-stands c =
-    stands_more c.args.self.now.rules c.loop-taken.self.rules c.args.self.now.before c.loop-taken.self.before c.args.self.now.octets c.loop-taken.self.octets
-    (take c.loop-taken.taken c.args.piece.now) c.loop-taken.invariant.rules c.loop-taken.invariant.before c.loop-taken.invariant.octets
+    stands_more c.args.self.now.rules c.loop-taken.self.rules c.args.self.now.before c.loop-taken.self.before
+    c.args.self.now.octets c.loop-taken.self.octets
+    (take c.loop-taken.taken c.args.piece.now) c.loop-taken.invariant.rules c.loop-taken.invariant.before
+    c.loop-taken.invariant.octets

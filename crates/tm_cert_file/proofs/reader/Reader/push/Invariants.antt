@@ -11,7 +11,8 @@ invariant-loop-taken l = record {
   before : l.self.before ≡ l.initial.self.before;
   octets : l.self.octets ≡ l.initial.self.octets ++ take l.taken l.piece;
   seen : IsOpen l.self;
-  first : (count : ℕ) → count < l.taken → IsSeen l.initial.self.rules l.initial.self.before (l.initial.self.octets ++ take count l.piece) More;
+  first : (count : ℕ) → count < l.taken → IsSeen l.initial.self.rules l.initial.self.before
+      (l.initial.self.octets ++ take count l.piece) More;
 }
 
 abbrev pub decreases-loop-taken : goal.decreases-loop-taken

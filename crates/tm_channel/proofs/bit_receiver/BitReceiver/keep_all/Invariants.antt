@@ -15,8 +15,13 @@ invariant-loop-self g l = record {
   faults : g.T.ItemTaker.faults l.taker ≡ g.T.ItemTaker.faults l.initial.taker;
   settling : (items : List ItemValue) × HandedOver g.T.ItemTaker.took l.initial.taker items l.taker
       × ((bits more : List Bool) → length (bits ++ more) < 2 ^ 63
-      → HoldsMore l.initial.self.search l.initial.self.room.items l.initial.self.batch (due_count l.initial.self.batch.config bits) bits more
-      → Settling (record { search = l.initial.self.search; room = l.initial.self.room.items; batch = l.initial.self.batch })
+      → HoldsMore l.initial.self.search l.initial.self.room.items l.initial.self.batch
+      (due_count l.initial.self.batch.config bits) bits more
+      → Settling (record {
+        search = l.initial.self.search;
+        room = l.initial.self.room.items;
+        batch = l.initial.self.batch;
+      })
       (record { search = l.self.search; room = l.self.room.items; batch = l.self.batch }) bits (bits ++ more) items);
 }
 

@@ -23,8 +23,10 @@ returns-in-None-clause-ready c = λ none.
 pub returns-in-None-clause-none : goal.returns-in-None-clause-none
 returns-in-None-clause-none c = λ none handed bits reported h.
     let was = c.args.self.now in
-    none-reported was.search c.next.new.self was.room.items was.batch handed bits reported c.requires.agree.same c.in-None.ensures.unchanged
-    (subst (λ (room : List ℕ). (l : List Bool) (found : List Found) → SearchStandsFor was.search room l found → places was.search.rules l ≡ found)
+    none-reported was.search c.next.new.self was.room.items was.batch handed bits reported c.requires.agree.same
+    c.in-None.ensures.unchanged
+    (subst (λ (room : List ℕ). (l : List Bool) (found : List Found) → SearchStandsFor was.search room l found
+    → places was.search.rules l ≡ found)
     c.as_slice.ensures.value c.in-None.ensures.none) h
 
 -- ---- one is
@@ -39,7 +41,12 @@ complete-requires-clause-none c =
 
 pub keep-requires-clause-room : goal.keep-requires-clause-room
 keep-requires-clause-room c =
-    omega (arith, ap length c.complete.ensures.stored, ap (λ (k : Configuration). k.batch) c.complete.ensures.config, c.requires.few)
+    omega (
+      arith,
+      ap length c.complete.ensures.stored,
+      ap (λ (k : Configuration). k.batch) c.complete.ensures.config,
+      c.requires.few,
+    )
 
 pub keep-requires-clause-whole : goal.keep-requires-clause-whole
 keep-requires-clause-whole c =
@@ -51,9 +58,11 @@ pub returns-in-Some-clause-agree : goal.returns-in-Some-clause-agree
 returns-in-Some-clause-agree c =
     let was = c.args.self.now in
     let whole = c.in-Some.ensures.whole in
-    agree-same c.next.new.self c.complete.new.self.search was.room.items c.complete.new.self.room.items c.keep.new.self c.keep.new.self
+    agree-same c.next.new.self c.complete.new.self.search was.room.items c.complete.new.self.room.items
+    c.keep.new.self c.keep.new.self
     c.complete.ensures.search c.complete.ensures.room refl refl
-    (agree-next was.search c.next.new.self was.room.items was.batch c.keep.new.self whole.0 c.requires.agree c.next.ensures.rules whole.1 whole.3
+    (agree-next was.search c.next.new.self was.room.items was.batch c.keep.new.self whole.0 c.requires.agree
+    c.next.ensures.rules whole.1 whole.3
     (c.keep.ensures.config ∙ c.complete.ensures.config) c.keep.ensures.part)
 
 pub returns-in-Some-clause-most : goal.returns-in-Some-clause-most
@@ -87,10 +96,14 @@ returns-in-Some-clause-stored c = λ one.
     let f = c.in-Some.found in
     let part = c.complete.new.self.batch.part in
     let tell : Reported was.search c.next.new.self was.room.items f =
-    subst (λ (room : List ℕ). Reported was.search c.next.new.self room f) c.as_slice.ensures.value c.in-Some.ensures.some in (
+    subst (λ (room : List ℕ). Reported was.search c.next.new.self room f) c.as_slice.ensures.value
+    c.in-Some.ensures.some in (
       f,
-      λ handed bits reported few h. keeps-reported was.search c.next.new.self c.complete.new.self.search was.room.items c.complete.new.self.room.items was.batch c.keep.new.self part whole.0 f
-          handed bits reported c.requires.agree whole.1 whole.2 tell c.complete.ensures.part c.complete.ensures.search c.complete.ensures.room
+      λ handed bits reported few h. keeps-reported was.search c.next.new.self c.complete.new.self.search
+          was.room.items c.complete.new.self.room.items was.batch c.keep.new.self part whole.0 f
+          handed bits reported c.requires.agree whole.1 whole.2 tell c.complete.ensures.part c.complete.ensures.search
+          c.complete.ensures.room
           (c.keep.ensures.config ∙ c.complete.ensures.config) c.keep.ensures.part
-          (c.keep.ensures.stored ∙ (λ i. c.complete.ensures.stored i ++ stored_of (c.complete.ensures.config i) f part ∷ [])) few h,
+          (c.keep.ensures.stored ∙ (λ i. c.complete.ensures.stored i ++ stored_of (c.complete.ensures.config i) f part
+          ∷ [])) few h,
     )

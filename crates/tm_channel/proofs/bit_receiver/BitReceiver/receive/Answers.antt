@@ -8,7 +8,11 @@ use Rattle.tm_channel.proofs.bit_receiver.BitReceiver.receive.Goals as goal
 
 pub loop-at-init : goal.loop-at-init
 loop-at-init g c =
-    let start : BitReceiving = record { search = c.args.self.now.search; room = c.args.self.now.room.items; batch = c.args.self.now.batch } in record {
+    let start : BitReceiving = record {
+      search = c.args.self.now.search;
+      room = c.args.self.now.room.items;
+      batch = c.args.self.now.batch;
+    } in record {
       first = omega arith;
       within = c.requires.from;
       ready = c.requires.ready;
@@ -21,7 +25,12 @@ loop-at-init g c =
 pub keep_all-requires-clause-few : goal.keep_all-requires-clause-few
 keep_all-requires-clause-few g c =
     let ready = c.loop-at.invariant.ready in
-    omega (arith, ready.few, ap length c.push-at.ensures.stored, ap (λ (k : Configuration). k.batch) c.push-at.ensures.config)
+    omega (
+      arith,
+      ready.few,
+      ap length c.push-at.ensures.stored,
+      ap (λ (k : Configuration). k.batch) c.push-at.ensures.config,
+    )
 
 pub loop-at-preserved : goal.loop-at-preserved
 loop-at-preserved g c =
@@ -30,13 +39,30 @@ loop-at-preserved g c =
     let at = c.loop-at.at in
     let to = at + c.push-at.result in
     let took = g.T.ItemTaker.took in
-    let start : BitReceiving = record { search = c.args.self.now.search; room = c.args.self.now.room.items; batch = c.args.self.now.batch } in
-    let before : BitReceiving = record { search = c.loop-at.self.search; room = c.loop-at.self.room.items; batch = c.loop-at.self.batch } in
-    let middle : BitReceiving = record { search = c.push-at.new.self.search; room = c.push-at.new.self.room.items; batch = c.push-at.new.self.batch } in
-    let now : BitReceiving = record { search = c.keep_all.new.self.search; room = c.keep_all.new.self.room.items; batch = c.keep_all.new.self.batch } in
+    let start : BitReceiving = record {
+      search = c.args.self.now.search;
+      room = c.args.self.now.room.items;
+      batch = c.args.self.now.batch;
+    } in
+    let before : BitReceiving = record {
+      search = c.loop-at.self.search;
+      room = c.loop-at.self.room.items;
+      batch = c.loop-at.self.batch;
+    } in
+    let middle : BitReceiving = record {
+      search = c.push-at.new.self.search;
+      room = c.push-at.new.self.room.items;
+      batch = c.push-at.new.self.batch;
+    } in
+    let now : BitReceiving = record {
+      search = c.keep_all.new.self.search;
+      room = c.keep_all.new.self.room.items;
+      batch = c.keep_all.new.self.batch;
+    } in
     let some = c.in-Ok.ensures.all in
     let first = i.first in
-    let turn = received-turn took before middle now c.loop-at.taker c.keep_all.new.taker (bits_between at to octets) some.0
+    let turn = received-turn took before middle now c.loop-at.taker c.keep_all.new.taker
+    (bits_between at to octets) some.0
     c.push-at.ensures.config c.push-at.ensures.holds c.keep_all.ensures.config some.2 some.1 in record {
       first = omega (arith, first);
       within = c.push-at.ensures.within;
@@ -57,13 +83,30 @@ returns-in-Err-clause-part g c =
     let to = at + c.push-at.result in
     let took = g.T.ItemTaker.took in
     let broke = g.T.ItemTaker.broke in
-    let start : BitReceiving = record { search = c.args.self.now.search; room = c.args.self.now.room.items; batch = c.args.self.now.batch } in
-    let before : BitReceiving = record { search = c.loop-at.self.search; room = c.loop-at.self.room.items; batch = c.loop-at.self.batch } in
-    let middle : BitReceiving = record { search = c.push-at.new.self.search; room = c.push-at.new.self.room.items; batch = c.push-at.new.self.batch } in
-    let now : BitReceiving = record { search = c.keep_all.new.self.search; room = c.keep_all.new.self.room.items; batch = c.keep_all.new.self.batch } in
+    let start : BitReceiving = record {
+      search = c.args.self.now.search;
+      room = c.args.self.now.room.items;
+      batch = c.args.self.now.batch;
+    } in
+    let before : BitReceiving = record {
+      search = c.loop-at.self.search;
+      room = c.loop-at.self.room.items;
+      batch = c.loop-at.self.batch;
+    } in
+    let middle : BitReceiving = record {
+      search = c.push-at.new.self.search;
+      room = c.push-at.new.self.room.items;
+      batch = c.push-at.new.self.batch;
+    } in
+    let now : BitReceiving = record {
+      search = c.keep_all.new.self.search;
+      room = c.keep_all.new.self.room.items;
+      batch = c.keep_all.new.self.batch;
+    } in
     let some = c.in-Err.ensures.broke in
     let first = i.first in
-    let turn = part-turn took broke before middle now c.loop-at.taker c.keep_all.new.taker (bits_between at to octets) some.0
+    let turn = part-turn took broke before middle now c.loop-at.taker c.keep_all.new.taker
+    (bits_between at to octets) some.0
     c.push-at.ensures.config c.push-at.ensures.holds c.keep_all.ensures.config some.2 some.1 in
     let part = subst (ReceivedPart took broke start now c.args.taker.now c.keep_all.new.taker)
     (between-joined c.args.from at to octets first (omega arith))
@@ -76,8 +119,16 @@ returns-in-Err-clause-part g c =
 
 pub returns-clause-handed : goal.returns-clause-handed
 returns-clause-handed g c =
-    let start : BitReceiving = record { search = c.args.self.now.search; room = c.args.self.now.room.items; batch = c.args.self.now.batch } in
-    let now : BitReceiving = record { search = c.loop-at.self.search; room = c.loop-at.self.room.items; batch = c.loop-at.self.batch } in
+    let start : BitReceiving = record {
+      search = c.args.self.now.search;
+      room = c.args.self.now.room.items;
+      batch = c.args.self.now.batch;
+    } in
+    let now : BitReceiving = record {
+      search = c.loop-at.self.search;
+      room = c.loop-at.self.room.items;
+      batch = c.loop-at.self.batch;
+    } in
     subst (Received g.T.ItemTaker.took start now c.args.taker.now c.loop-at.taker)
     (between-all c.args.from c.loop-at.at c.args.octets.now (omega (arith, c.loop-at-test.false)))
     c.loop-at.invariant.received

@@ -9,7 +9,9 @@ loop-self-preserved c =
     let i = c.loop-self.invariant in
     let config = c.clear.ensures.config ∙ c.keep_whole.ensures.config in
     record {
-      agree = agree-same now.search now.search now.room.items now.room.items now.batch c.clear.new.self refl refl c.clear.ensures.config c.clear.ensures.part
+      agree =
+          agree-same now.search now.search now.room.items now.room.items now.batch c.clear.new.self refl refl
+          c.clear.ensures.config c.clear.ensures.part
           c.keep_whole.ensures.agree;
       few = omega (arith, i.few, ap length c.clear.ensures.stored, ap (λ (k : Configuration). k.batch) config);
       config = config ∙ i.config;

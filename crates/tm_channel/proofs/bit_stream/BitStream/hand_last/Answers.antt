@@ -11,8 +11,10 @@ returns-clause-handed g c =
     let r = c.self.inside.receiver in
     let before : BitReceiving = record { search = r.search; room = r.room.items; batch = r.batch } in
     let b = r.batch in
-    let Said : BitReceiving → Result (Unit {0}) Failed → Type 0 = λ s result. OnOk result (ReceivedLast g.T.ItemTaker.took s c.args.taker.now c.hand_all.new.taker) in
-    subst (λ (s : BitReceiving). Said s c.match-hand_all.result) c.self.view_is (elim c.match-hand_all.branch as (λ _. Said before c.match-hand_all.result) [
+    let Said : BitReceiving → Result (Unit {0}) Failed → Type 0 =
+    λ s result. OnOk result (ReceivedLast g.T.ItemTaker.took s c.args.taker.now c.hand_all.new.taker) in
+    subst (λ (s : BitReceiving). Said s c.match-hand_all.result) c.self.view_is
+    (elim c.match-hand_all.branch as (λ _. Said before c.match-hand_all.result) [
       | in-Ok w ↦ (
           let some = w.in-Ok.ensures.all in
           let said : Said before (Ok tt) = record {
@@ -31,15 +33,20 @@ returns-clause-part g c =
     let r = c.self.inside.receiver in
     let before : BitReceiving = record { search = r.search; room = r.room.items; batch = r.batch } in
     let b = r.batch in
-    let Said : BitReceiving → Result (Unit {0}) Failed → Type 0 = λ s result. OnErr result (ReceivedLastPart g.T.ItemTaker.took g.T.ItemTaker.broke s c.args.taker.now c.hand_all.new.taker) in
-    subst (λ (s : BitReceiving). Said s c.match-hand_all.result) c.self.view_is (elim c.match-hand_all.branch as (λ _. Said before c.match-hand_all.result) [
+    let Said : BitReceiving → Result (Unit {0}) Failed → Type 0 =
+    λ s result. OnErr result
+    (ReceivedLastPart g.T.ItemTaker.took g.T.ItemTaker.broke s c.args.taker.now c.hand_all.new.taker) in
+    subst (λ (s : BitReceiving). Said s c.match-hand_all.result) c.self.view_is
+    (elim c.match-hand_all.branch as (λ _. Said before c.match-hand_all.result) [
       | in-Ok w ↦ subst (Said before) (sym w.result-is) tt
       | in-Err w ↦ (
           let some = w.in-Err.ensures.broke in
           let said : Said before (Err w.in-Err.field-0) = record {
             tried = some.1;
             handed = some.3;
-            first = λ bits h. first-last b.config (SearchStandsFor r.search r.room.items) b.part b.stored bits some.0 some.1 h some.2;
+            first =
+                λ bits h. first-last b.config
+                (SearchStandsFor r.search r.room.items) b.part b.stored bits some.0 some.1 h some.2;
           } in
           subst (Said before) (sym w.result-is) said
           )

@@ -15,5 +15,7 @@ returns-in-Some-clause-prefix g c =
     let broke = on_handed {I = ItemValue} g.T.ItemTaker.broke_phase g.T.ItemTaker.broke in
     let chosen = c.in-Some.chosen in
     let now = c.phase.new.self in
-    subst (λ (o : Option Chosen). OnErr c.phase.result (HandedPart took broke c.args.taker.now (with_phase {I = ItemValue} o []) now)) (sym c.in-Some.is ∙ ap (λ (v : Keeping). v.phase) c.self.view_is)
-    (on_err_weaker c.phase.result (λ failed. HandedPart-first took broke c.args.taker.now now (Phase chosen.skip chosen.cost) [] failed) c.phase.ensures.err)
+    subst (λ (o : Option Chosen). OnErr c.phase.result (HandedPart took broke c.args.taker.now
+    (with_phase {I = ItemValue} o []) now)) (sym c.in-Some.is ∙ ap (λ (v : Keeping). v.phase) c.self.view_is)
+    (on_err_weaker c.phase.result (λ failed. HandedPart-first took broke c.args.taker.now now
+    (Phase chosen.skip chosen.cost) [] failed) c.phase.ensures.err)

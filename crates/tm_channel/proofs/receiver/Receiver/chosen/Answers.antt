@@ -8,5 +8,7 @@ use Rattle.tm_channel.proofs.receiver.Receiver.chosen.Goals as goal
 
 pub returns-clause-so_far : goal.returns-clause-so_far
 returns-clause-so_far c =
-    subst (λ (r : OctetReceiving). (given : List ℕ) (done : List (Handed ItemValue)) → ReceiverStandsFor r given done → IsChosenSoFar r.config given c.chosen.result) c.self.view_is
-    (λ given done stood. subst (λ (k : Configuration). IsChosenSoFar k given c.chosen.result) c.self.invariant.0 (c.chosen.ensures.so_far given stood.handed stood.inner))
+    subst (λ (r : OctetReceiving). (given : List ℕ) (done : List (Handed ItemValue)) → ReceiverStandsFor r given done
+    → IsChosenSoFar r.config given c.chosen.result) c.self.view_is
+    (λ given done stood. subst (λ (k : Configuration). IsChosenSoFar k given c.chosen.result) c.self.invariant.0
+    (c.chosen.ensures.so_far given stood.handed stood.inner))

@@ -17,7 +17,11 @@ pub returns-in-Ok-clause-handed : goal.returns-in-Ok-clause-handed
 returns-in-Ok-clause-handed g c =
     let s = c.self.inside in
     let octets = c.args.octets.now in
-    let now : OctetReceiving = record { config = s.config; has_stopped = s.has_stopped; stages = record { inner = c.take.new.inner; bits = c.take.new.stream } } in
+    let now : OctetReceiving = record {
+      config = s.config;
+      has_stopped = s.has_stopped;
+      stages = record { inner = c.take.new.inner; bits = c.take.new.stream };
+    } in
     let p = c.in-Ok.ensures.handed in
     let took = on_handed g.T.ItemTaker.took_phase g.T.ItemTaker.took in
     let ok = subst IsAccepted (sym c.self.invariant.0) c.self.invariant.4 in
@@ -27,11 +31,14 @@ returns-in-Ok-clause-handed g c =
       λ given done few stood.
           let there = (p.stands given done few stood).0 in (
             there,
-            subst (λ (k : Configuration). AreReceivedDue k (given ++ octets) (done ++ p.more)) (c.take.ensures.inner ∙ c.self.invariant.0)
+            subst (λ (k : Configuration). AreReceivedDue k (given ++ octets) (done ++ p.more))
+                (c.take.ensures.inner ∙ c.self.invariant.0)
                 (received-due now.stages (given ++ octets) (done ++ p.more) there),
           ),
-      λ given done few stood. subst (λ (k : Configuration). AreFew k (length octets) (items_of p.more)) c.self.invariant.0
-          (stages-few (record { inner = s.inner; bits = s.stream }) now.stages given octets done p.more ok c.take.ensures.inner stood (p.stands given done few stood)),
+      λ given done few stood. subst (λ (k : Configuration). AreFew k (length octets) (items_of p.more))
+          c.self.invariant.0
+          (stages-few (record { inner = s.inner; bits = s.stream }) now.stages given octets done p.more ok
+          c.take.ensures.inner stood (p.stands given done few stood)),
     )
 
 pub returns-in-Err-clause-prefix : goal.returns-in-Err-clause-prefix
@@ -40,12 +47,15 @@ returns-in-Err-clause-prefix g c = λ _.
     let p = c.in-Err.ensures.prefix in
     let took = on_handed g.T.ItemTaker.took_phase g.T.ItemTaker.took in
     let broke = on_handed g.T.ItemTaker.broke_phase g.T.ItemTaker.broke in
-    subst (λ (r : OctetReceiving). (tried : List (Handed ItemValue)) × HandedPart took broke c.args.taker.now tried c.take.new.taker
-    × ((given : List ℕ) (done : List (Handed ItemValue)) → length given + length octets < 2 ^ 60 → ReceiverStandsFor r given done
+    subst (λ (r : OctetReceiving). (tried : List (Handed ItemValue))
+    × HandedPart took broke c.args.taker.now tried c.take.new.taker
+    × ((given : List ℕ) (done : List (Handed ItemValue)) → length given + length octets < 2 ^ 60
+    → ReceiverStandsFor r given done
     → AreReceivedFirst r.config (given ++ octets) (done ++ tried))) c.self.view_is (
       p.tried,
       p.handed,
-      λ given done few stood. subst (λ (k : Configuration). AreReceivedFirst k (given ++ octets) (done ++ p.tried)) c.self.invariant.0 (p.first given done few stood).0,
+      λ given done few stood. subst (λ (k : Configuration). AreReceivedFirst k (given ++ octets) (done ++ p.tried))
+          c.self.invariant.0 (p.first given done few stood).0,
     )
 
 pub returns-in-Ok-clause-chosen : goal.returns-in-Ok-clause-chosen
@@ -54,7 +64,8 @@ returns-in-Ok-clause-chosen g c =
     let now : Stages = record { inner = c.take.new.inner; bits = c.take.new.stream } in
     let chosen = c.take.new.inner.phased.chosen in
     let p = c.in-Ok.ensures.handed in
-    subst (λ (r : OctetReceiving). (given : List ℕ) (done : List (Handed ItemValue)) → length given + length octets < 2 ^ 60 → ReceiverStandsFor r given done
+    subst (λ (r : OctetReceiving). (given : List ℕ) (done : List (Handed ItemValue))
+    → length given + length octets < 2 ^ 60 → ReceiverStandsFor r given done
     → r.has_stopped ≡ false → IsChosenSoFar r.config (given ++ octets) chosen) c.self.view_is
     (λ given done few stood _.
     let there = (p.stands given done few stood).0 in
@@ -66,6 +77,8 @@ returns-in-Err-clause-chosen g c =
     let octets = c.args.octets.now in
     let chosen = c.take.new.inner.phased.chosen in
     let p = c.in-Err.ensures.prefix in
-    subst (λ (r : OctetReceiving). (given : List ℕ) (done : List (Handed ItemValue)) → length given + length octets < 2 ^ 60 → ReceiverStandsFor r given done
+    subst (λ (r : OctetReceiving). (given : List ℕ) (done : List (Handed ItemValue))
+    → length given + length octets < 2 ^ 60 → ReceiverStandsFor r given done
     → r.has_stopped ≡ false → IsChosenSoFar r.config (given ++ octets) chosen) c.self.view_is
-    (λ given done few stood _. subst (λ (k : Configuration). IsChosenSoFar k (given ++ octets) chosen) c.self.invariant.0 (p.first given done few stood).1)
+    (λ given done few stood _. subst (λ (k : Configuration). IsChosenSoFar k (given ++ octets) chosen)
+    c.self.invariant.0 (p.first given done few stood).1)

@@ -14,11 +14,14 @@ loop-done-init g c =
       config = refl;
       ready = c.requires;
       faults = refl;
-      sent = frames-none c.args.self.now (g.O.Sink.taken c.args.out.now) (subst P c.self.view_is (grind (arith, common_steps)));
+      sent =
+          frames-none c.args.self.now (g.O.Sink.taken c.args.out.now)
+          (subst P c.self.view_is (grind (arith, common_steps)));
     }
 
 -- a piece after the octets before it
-joined : (done count : ℕ) (octets : List ℕ) → take done octets ++ take ((done + count) - done) (drop done octets) ≡ take (done + count) octets
+joined : (done count : ℕ) (octets : List ℕ) → take done octets ++ take ((done + count) - done) (drop done octets)
+    ≡ take (done + count) octets
 joined done count octets =
     let same : (done + count) - done ≡ count = omega arith in
     ap (λ (n : ℕ). take done octets ++ take n (drop done octets)) same ∙ sym (take-add done count octets)
@@ -34,7 +37,8 @@ returns-in-Err-clause-prefix g c =
     let taken = g.O.Sink.taken c.args.out.now in
     let taken_now = g.O.Sink.taken c.send_piece.new.out in
     subst (SendsFramesPrefix c.args.self.now taken taken_now) (take-append-drop end c.args.octets.now)
-    (frames-prefix_of_longer c.args.self.now taken taken_now (take end c.args.octets.now) (drop end c.args.octets.now) (subst P c.self.view_is (omega arith))
+    (frames-prefix_of_longer c.args.self.now taken taken_now (take end c.args.octets.now) (drop end c.args.octets.now)
+    (subst P c.self.view_is (omega arith))
     (subst (SendsFramesPrefix c.args.self.now taken taken_now) (joined c.loop-done.done c.min.result c.args.octets.now)
     (frames-prefix _ _ _ _ _ _ _ c.loop-done.invariant.sent c.in-Err.ensures.prefix)))
 
@@ -44,6 +48,8 @@ loop-done-preserved g c = record {
   config = c.send_piece.ensures.config ∙ c.loop-done.invariant.config;
   ready = none-failed c.send_piece.new.self.inner.has_failed (λ failed. c.in-Ok.ensures.failed.0 failed);
   faults = grind (arith, common_steps);
-  sent = subst (SendsFrames c.args.self.now c.send_piece.new.self (g.O.Sink.taken c.args.out.now) (g.O.Sink.taken c.send_piece.new.out)) (joined c.loop-done.done c.min.result c.args.octets.now)
+  sent =
+      subst (SendsFrames c.args.self.now c.send_piece.new.self (g.O.Sink.taken c.args.out.now)
+      (g.O.Sink.taken c.send_piece.new.out)) (joined c.loop-done.done c.min.result c.args.octets.now)
       (frames-more _ _ _ _ _ _ _ _ c.loop-done.invariant.sent c.in-Ok.ensures.sent);
 }

@@ -10,4 +10,5 @@ recall-requires-clause-none c = ap (λ (v : Batching). v.part) c.self.view_is �
 pub returns-clause-part : goal.returns-clause-part
 returns-clause-part c =
     c.recall.ensures
-    ∙ ap (λ n. room_bits c.args.room.now c.args.from (8 * n)) (c.self.invariant.0 ∙ ap (λ (v : Batching). codeblock_length v.config) c.self.view_is)
+    ∙ ap (λ n. room_bits c.args.room.now c.args.from (8 * n))
+    (c.self.invariant.0 ∙ ap (λ (v : Batching). codeblock_length v.config) c.self.view_is)

@@ -8,7 +8,8 @@ use Rattle.tm_codeblock.proofs.bit_gathering.Gathering.push_octets.Goals as goal
 
 pub slice_bounds-copy_from_slice-end : goal.slice_bounds-copy_from_slice-end
 slice_bounds-copy_from_slice-end c =
-    let count = gathered c.self.inside.octets c.self.inside.whole c.self.inside.extra c.self.inside.partial c.args.self.now c.self.view_is (omega arith) c.self.invariant.0 in
+    let count = gathered c.self.inside.octets c.self.inside.whole c.self.inside.extra c.self.inside.partial
+    c.args.self.now c.self.view_is (omega arith) c.self.invariant.0 in
     omega (arith, count, c.requires)
 
 pub push_octet-requires : goal.push_octet-requires
@@ -32,7 +33,8 @@ returns-then-self-eq0 c =
     let octets = c.self.inside.octets in
     let whole = c.self.inside.whole in
     let piece = c.args.octets.now in
-    let grows = take-put_mid whole ((whole + length piece) - whole) octets c.copy_from_slice.new.self (whole + length piece) (ap (λ l. whole + length l) (sym c.copy_from_slice.ensures.after)) (omega arith)
+    let grows = take-put_mid whole ((whole + length piece) - whole) octets c.copy_from_slice.new.self
+    (whole + length piece) (ap (λ l. whole + length l) (sym c.copy_from_slice.ensures.after)) (omega arith)
     ∙ ap (λ l. take whole octets ++ l) c.copy_from_slice.ensures.after in
     push-octets (take whole octets) piece _ c.self.inside.extra c.self.inside.partial c.if-self-eq0.true grows
     ∙ ap (λ l. l ++ bits_of piece) c.self.view_is

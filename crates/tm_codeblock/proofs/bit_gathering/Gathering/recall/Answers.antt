@@ -17,7 +17,13 @@ loop-done-init c =
 pub push_bit-requires : goal.push_bit-requires
 push_bit-requires c =
     let i = c.loop-done.invariant in
-    omega (arith, ap length i.bits, length-room_bits c.args.room.now c.args.from c.loop-done.done, c.loop-done-test.true, c.requires.few)
+    omega (
+      arith,
+      ap length i.bits,
+      length-room_bits c.args.room.now c.args.from c.loop-done.done,
+      c.loop-done-test.true,
+      c.requires.few,
+    )
 
 pub loop-done-preserved : goal.loop-done-preserved
 loop-done-preserved c =
@@ -27,11 +33,14 @@ loop-done-preserved c =
     let done = c.loop-done.done in
     let next : (from + done) + 1 ≡ from + (done + 1) = omega arith in
     record {
-      at = ap (λ n. (n + 1) % length room) i.at ∙ next-index (from + done) (length room) ∙ ap (λ n. n % length room) next;
+      at =
+          ap (λ n. (n + 1) % length room) i.at ∙ next-index (from + done) (length room)
+          ∙ ap (λ n. n % length room) next;
       below = mod_below (c.loop-done.at + 1) (length room) c.requires.some;
       within = omega (arith, c.loop-done-test.true);
       bits = c.push_bit.ensures ∙ ap (λ l. l ++ (get_or room c.loop-done.at 0 == 1) ∷ []) i.bits
-          ∙ ap (λ n. room_bits room from done ++ (get_or room n 0 == 1) ∷ []) i.at ∙ sym (room_bits-more room from done);
+          ∙ ap (λ n. room_bits room from done ++ (get_or room n 0 == 1) ∷ []) i.at
+          ∙ sym (room_bits-more room from done);
     }
 
 pub returns : goal.returns

@@ -11,7 +11,8 @@ returns-clause-due c = λ given done stood.
     let h = c.count_due.ensures.due given done stood in
     let keep = c.keep.result in
     let k = waiting-kept c.args.self.now.config given done h.0 h.2 in
-    let same : c.args.self.now.config.keep ≡ keep = sym (c.keep.ensures.value ∙ ap (λ (r : InnerReceiving). r.config.keep) c.self.view_is) in
+    let same : c.args.self.now.config.keep ≡ keep = sym (c.keep.ensures.value
+    ∙ ap (λ (r : InnerReceiving). r.config.keep) c.self.view_is) in
     let kept : length (kept_bits h.0) ≡ length h.0 * keep = k.0 ∙ ap (λ (n : ℕ). length h.0 * n) same in
     let most : length h.0 * keep ≤ c.count_due.result * keep = mul-le-mul_right keep h.1.0 in (
       h.0,

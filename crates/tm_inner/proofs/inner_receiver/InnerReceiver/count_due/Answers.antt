@@ -12,9 +12,12 @@ returns-clause-due c = λ given done stood.
     let s = c.self.inside in
     let n = c.count_due.result in
     let st = subst (λ (r : InnerReceiving). InnerReceiverStandsFor r given done) (sym c.self.view_is) stood in
-    let phases = subst (λ (k : Configuration). PhasesFor s.phased (phase_octets k given) done) (sym c.self.invariant.0) st.phases in
-    subst (λ (r : InnerReceiving). (more : List WindowBlock) × IsCount r.config (length more) n × AreHandedDue r.config given (done ++ map Item more)) c.self.view_is
-    (subst (λ (k : Configuration). (more : List WindowBlock) × IsCount k (length more) n × AreHandedDue k given (done ++ map Item more)) c.self.invariant.0
+    let phases = subst (λ (k : Configuration). PhasesFor s.phased (phase_octets k given) done)
+    (sym c.self.invariant.0) st.phases in
+    subst (λ (r : InnerReceiving). (more : List WindowBlock) × IsCount r.config (length more) n
+    × AreHandedDue r.config given (done ++ map Item more)) c.self.view_is
+    (subst (λ (k : Configuration). (more : List WindowBlock) × IsCount k (length more) n
+    × AreHandedDue k given (done ++ map Item more)) c.self.invariant.0
     (c.count_due.ensures.due given done phases))
 
 pub returns-clause-most : goal.returns-clause-most

@@ -9,19 +9,28 @@ use Rattle.tm_inner.proofs.HandedPieces.{chosen-further, stands-further, prefix-
 use Rattle.tm_inner.proofs.inner_receiver.InnerReceiver.feed_by.Goals as goal
 
 -- how many octets a receiver of this view skips
-skips : (before view : InnerReceiving) (skipped n : ℕ) → before ≡ view → skipped ≡ min (skipped_at view.config.inner view.config - view.count) n
+skips : (before view : InnerReceiving) (skipped n : ℕ) → before ≡ view
+    → skipped ≡ min (skipped_at view.config.inner view.config - view.count) n
     → skipped ≡ min (skipped_at before.config.inner before.config - before.count) n
-skips before view skipped n same = subst (λ (r : InnerReceiving). skipped ≡ min (skipped_at r.config.inner r.config - r.count) n) (sym same)
+skips before view skipped n same =
+    subst (λ (r : InnerReceiving). skipped ≡ min (skipped_at r.config.inner r.config - r.count) n) (sym same)
 
 pub returns-in-Ok-clause-chosen : goal.returns-in-Ok-clause-chosen
 returns-in-Ok-clause-chosen g c = λ given done stood _.
     let s = c.self.inside in
     let octets = c.args.octets.now in
     let n = c.octets_to_skip-skipped.result in
-    let before : InnerReceiving = record { config = s.config; phased = s.phased; count = s.count; has_stopped = s.has_stopped } in
+    let before : InnerReceiving = record {
+      config = s.config;
+      phased = s.phased;
+      count = s.count;
+      has_stopped = s.has_stopped;
+    } in
     let skip = skips before c.args.self.now n (length octets) c.self.view_is c.octets_to_skip-skipped.ensures in
-    subst (λ (r : InnerReceiving). InnerReceiverStandsFor r given done → IsChosenSoFar r.config (given ++ octets) c.feed.new.self.chosen) c.self.view_is
-    (chosen-further before c.feed.new.self.chosen octets (take (length octets - n) (drop n octets)) n c.self.invariant.0 (take_rest octets n) skip c.feed.ensures.chosen given done) stood
+    subst (λ (r : InnerReceiving). InnerReceiverStandsFor r given done
+    → IsChosenSoFar r.config (given ++ octets) c.feed.new.self.chosen) c.self.view_is
+    (chosen-further before c.feed.new.self.chosen octets (take (length octets - n) (drop n octets)) n
+    c.self.invariant.0 (take_rest octets n) skip c.feed.ensures.chosen given done) stood
 
 pub returns-in-Ok-clause-handed : goal.returns-in-Ok-clause-handed
 returns-in-Ok-clause-handed g c =
@@ -31,18 +40,33 @@ returns-in-Ok-clause-handed g c =
     let n = c.octets_to_skip-skipped.result in
     let start = c.args.blocks.now in
     let last = c.feed.new.blocks in
-    let before : InnerReceiving = record { config = s.config; phased = s.phased; count = s.count; has_stopped = s.has_stopped } in
-    let now : InnerReceiving = record { config = s.config; phased = c.feed.new.self; count = c.saturating_add-self-inside.result; has_stopped = s.has_stopped } in
+    let before : InnerReceiving = record {
+      config = s.config;
+      phased = s.phased;
+      count = s.count;
+      has_stopped = s.has_stopped;
+    } in
+    let now : InnerReceiving = record {
+      config = s.config;
+      phased = c.feed.new.self;
+      count = c.saturating_add-self-inside.result;
+      has_stopped = s.has_stopped;
+    } in
     let skip = skips before c.args.self.now n (length octets) c.self.view_is c.octets_to_skip-skipped.ensures in
-    let p = subst (λ (l : List ℕ). Hands (on_handed t.took_phase t.took) PhasesFor s.phased c.feed.new.self start last (soft_form s.config l)) (take_rest octets n)
-    (subst (λ (k : Configuration). Hands (on_handed t.took_phase t.took) PhasesFor s.phased c.feed.new.self start last (soft_form k (take (length octets - n) (drop n octets)))) c.self.invariant.0 c.in-Ok.ensures.handed) in (
+    let p = subst (λ (l : List ℕ). Hands (on_handed t.took_phase t.took) PhasesFor s.phased c.feed.new.self start last
+    (soft_form s.config l)) (take_rest octets n)
+    (subst (λ (k : Configuration). Hands (on_handed t.took_phase t.took) PhasesFor s.phased c.feed.new.self start last
+    (soft_form k (take (length octets - n) (drop n octets)))) c.self.invariant.0 c.in-Ok.ensures.handed) in (
       p.more,
       p.handed,
       λ given done few stood.
-          let further = stands-further (on_handed t.took_phase t.took) before now start last octets n c.self.invariant.0 refl c.feed.ensures.config c.feed.ensures.of c.in-Ok.ensures.closed
-          skip (omega (arith, c.saturating_add-self-inside.ensures)) p given done few (subst (λ (r : InnerReceiving). InnerReceiverStandsFor r given done) (sym c.self.view_is) stood) in (
+          let further = stands-further (on_handed t.took_phase t.took) before now start last octets n
+          c.self.invariant.0 refl c.feed.ensures.config c.feed.ensures.of c.in-Ok.ensures.closed
+          skip (omega (arith, c.saturating_add-self-inside.ensures)) p given done few
+          (subst (λ (r : InnerReceiving). InnerReceiverStandsFor r given done) (sym c.self.view_is) stood) in (
             further.0,
-            subst (λ (r : InnerReceiving). AreHandedDue r.config (given ++ octets) (done ++ p.more)) c.self.view_is further.1,
+            subst (λ (r : InnerReceiving). AreHandedDue r.config (given ++ octets) (done ++ p.more)) c.self.view_is
+                further.1,
           ),
     )
 
@@ -51,10 +75,17 @@ returns-in-Err-clause-chosen g c = λ given done stood _.
     let s = c.self.inside in
     let octets = c.args.octets.now in
     let n = c.octets_to_skip-skipped.result in
-    let before : InnerReceiving = record { config = s.config; phased = s.phased; count = s.count; has_stopped = s.has_stopped } in
+    let before : InnerReceiving = record {
+      config = s.config;
+      phased = s.phased;
+      count = s.count;
+      has_stopped = s.has_stopped;
+    } in
     let skip = skips before c.args.self.now n (length octets) c.self.view_is c.octets_to_skip-skipped.ensures in
-    subst (λ (r : InnerReceiving). InnerReceiverStandsFor r given done → IsChosenSoFar r.config (given ++ octets) c.feed.new.self.chosen) c.self.view_is
-    (chosen-further before c.feed.new.self.chosen octets (take (length octets - n) (drop n octets)) n c.self.invariant.0 (take_rest octets n) skip c.feed.ensures.chosen given done) stood
+    subst (λ (r : InnerReceiving). InnerReceiverStandsFor r given done
+    → IsChosenSoFar r.config (given ++ octets) c.feed.new.self.chosen) c.self.view_is
+    (chosen-further before c.feed.new.self.chosen octets (take (length octets - n) (drop n octets)) n
+    c.self.invariant.0 (take_rest octets n) skip c.feed.ensures.chosen given done) stood
 
 pub returns-in-Err-clause-prefix : goal.returns-in-Err-clause-prefix
 returns-in-Err-clause-prefix g c = λ _.
@@ -64,14 +95,24 @@ returns-in-Err-clause-prefix g c = λ _.
     let n = c.octets_to_skip-skipped.result in
     let start = c.args.blocks.now in
     let last = c.feed.new.blocks in
-    let before : InnerReceiving = record { config = s.config; phased = s.phased; count = s.count; has_stopped = s.has_stopped } in
+    let before : InnerReceiving = record {
+      config = s.config;
+      phased = s.phased;
+      count = s.count;
+      has_stopped = s.has_stopped;
+    } in
     let skip = skips before c.args.self.now n (length octets) c.self.view_is c.octets_to_skip-skipped.ensures in
-    let p = subst (λ (l : List ℕ). HandsPrefix (on_handed t.took_phase t.took) (on_handed t.broke_phase t.broke) PhasesFor (IsFirstBy s.config) s.phased start last (soft_form s.config l)) (take_rest octets n)
-    (subst (λ (k : Configuration). HandsPrefix (on_handed t.took_phase t.took) (on_handed t.broke_phase t.broke) PhasesFor (IsFirstBy k) s.phased start last (soft_form k (take (length octets - n) (drop n octets)))) c.self.invariant.0 c.in-Err.ensures.prefix) in (
+    let p = subst (λ (l : List ℕ). HandsPrefix (on_handed t.took_phase t.took)
+    (on_handed t.broke_phase t.broke) PhasesFor (IsFirstBy s.config) s.phased start last (soft_form s.config l))
+    (take_rest octets n)
+    (subst (λ (k : Configuration). HandsPrefix (on_handed t.took_phase t.took)
+    (on_handed t.broke_phase t.broke) PhasesFor (IsFirstBy k) s.phased start last
+    (soft_form k (take (length octets - n) (drop n octets)))) c.self.invariant.0 c.in-Err.ensures.prefix) in (
       p.tried,
       p.handed,
       λ given done few stood.
           subst (λ (r : InnerReceiving). AreHandedFirst r.config (given ++ octets) (done ++ p.tried)) c.self.view_is
-          (prefix-further (on_handed t.took_phase t.took) (on_handed t.broke_phase t.broke) before start last octets n skip p given done few
+          (prefix-further (on_handed t.took_phase t.took) (on_handed t.broke_phase t.broke) before start last octets n
+          skip p given done few
           (subst (λ (r : InnerReceiving). InnerReceiverStandsFor r given done) (sym c.self.view_is) stood)),
     )

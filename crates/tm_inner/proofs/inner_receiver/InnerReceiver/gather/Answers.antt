@@ -11,18 +11,34 @@ returns-clause-gathered c = λ given done few stood.
     let k = s.config in
     let r = c.gather-taken.result in
     let octets = take r c.args.octets.now in
-    let before : InnerReceiving = record { config = s.config; phased = s.phased; count = s.count; has_stopped = s.has_stopped } in
+    let before : InnerReceiving = record {
+      config = s.config;
+      phased = s.phased;
+      count = s.count;
+      has_stopped = s.has_stopped;
+    } in
     let st = subst (λ (v : InnerReceiving). InnerReceiverStandsFor v given done) (sym c.self.view_is) stood in
     let none : min (skipped_at k.inner k - s.count) (length c.args.octets.now) ≤ 0 =
-    subst (λ (v : InnerReceiving). min (skipped_at v.config.inner v.config - v.count) (length c.args.octets.now) ≤ 0) (sym c.self.view_is)
+    subst (λ (v : InnerReceiving). min (skipped_at v.config.inner v.config - v.count) (length c.args.octets.now) ≤ 0)
+    (sym c.self.view_is)
     (omega (arith, c.octets_to_skip.ensures, c.if-octets_to_skip-gt0.false)) in
     let long = length-take r c.args.octets.now in
     let all = phase_octets-more k given octets 0 (omega (arith, none, st.count, long)) in
     let first = phase_octets k given in
-    let phases = subst (λ (v : Configuration). PhasesFor c.gather-taken.new.self (first ++ soft_form v octets) done) c.self.invariant.0
+    let phases = subst (λ (v : Configuration). PhasesFor c.gather-taken.new.self (first ++ soft_form v octets) done)
+    c.self.invariant.0
     (c.gather-taken.ensures.gathered first done st.phases) in
     record {
-      count = omega (arith, st.count, few, long, c.gather-taken.ensures.most, c.saturating_add-self-inside.ensures, length-append given octets);
+      count =
+          omega (
+            arith,
+            st.count,
+            few,
+            long,
+            c.gather-taken.ensures.most,
+            c.saturating_add-self-inside.ensures,
+            length-append given octets,
+          );
       few = omega (arith, few, long, c.gather-taken.ensures.most, length-append given octets);
       same = c.gather-taken.ensures.config ∙ c.self.invariant.0;
       phases = subst (λ (l : List ℕ). PhasesFor c.gather-taken.new.self l done) (sym all) phases;

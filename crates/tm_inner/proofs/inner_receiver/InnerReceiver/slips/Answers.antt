@@ -7,5 +7,11 @@ use Rattle.tm_inner.proofs.inner_receiver.InnerReceiver.slips.Goals as goal
 pub returns : goal.returns
 returns c = λ given done stood.
     let s = c.self.inside in
-    let before : InnerReceiving = record { config = s.config; phased = s.phased; count = s.count; has_stopped = s.has_stopped } in
-    c.slips.ensures (items_of done) (stood-counted before given done (subst (λ (r : InnerReceiving). InnerReceiverStandsFor r given done) (sym c.self.view_is) stood))
+    let before : InnerReceiving = record {
+      config = s.config;
+      phased = s.phased;
+      count = s.count;
+      has_stopped = s.has_stopped;
+    } in
+    c.slips.ensures (items_of done) (stood-counted before given done
+    (subst (λ (r : InnerReceiving). InnerReceiverStandsFor r given done) (sym c.self.view_is) stood))

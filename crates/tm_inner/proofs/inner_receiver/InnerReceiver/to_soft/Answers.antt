@@ -11,8 +11,11 @@ returns-clause-soft c = λ given done stood.
     let now = c.if-is_signed.octets in
     let signed = c.is_signed.result in
     let form : now ≡ from_form signed octets = elim c.if-is_signed.branch as (λ _. now ≡ from_form signed octets) [
-      | then-is_signed w ↦ w.octets-is ∙ w.to_unsigned.ensures ∙ ap (λ (b : Bool). from_form b octets) (sym w.if-is_signed.true)
-      | else-is_signed w ↦ w.octets-is ∙ sym (plain-form octets) ∙ ap (λ (b : Bool). from_form b octets) (sym w.if-is_signed.false)
+      | then-is_signed w ↦ w.octets-is ∙ w.to_unsigned.ensures
+          ∙ ap (λ (b : Bool). from_form b octets) (sym w.if-is_signed.true)
+      | else-is_signed w ↦ w.octets-is ∙ sym (plain-form octets)
+          ∙ ap (λ (b : Bool). from_form b octets) (sym w.if-is_signed.false)
     ] in
     soft-converted c.args.self.now signed c.octets_to_skip.result given octets now
-    (c.is_signed.ensures ∙ ap (λ (r : InnerReceiving). is_signed r.config.soft) c.self.view_is) stood.count c.octets_to_skip.ensures form
+    (c.is_signed.ensures ∙ ap (λ (r : InnerReceiving). is_signed r.config.soft) c.self.view_is) stood.count
+    c.octets_to_skip.ensures form

@@ -13,17 +13,31 @@ pub returns-clause-due : goal.returns-clause-due
 returns-clause-due c = λ given done stood.
     let s = c.self.inside in
     let n = c.count_due.result in
-    let before : Phasing = record { config = s.config; decoder = s.decoder; held = s.held.octets; room = s.held.room; chosen = s.chosen } in
+    let before : Phasing = record {
+      config = s.config;
+      decoder = s.decoder;
+      held = s.held.octets;
+      room = s.held.room;
+      chosen = s.chosen;
+    } in
     let none : NoneWaits c.args.self.now = λ w. let both : IsTrue false = c.if-waits.ensures.1 w in absurd cc in
     let there = subst (λ (p : Phasing). PhasesFor p (phase_octets p.config given) done) (sym c.self.view_is) stood in
-    subst (λ (p : Phasing). (more : List WindowBlock) × IsCount p.config (length more) n × AreHandedDue p.config given (done ++ map Item more)) c.self.view_is
-    (due-further before given done n c.self.invariant.0 (subst NoneWaits (sym c.self.view_is) none) c.count_due.ensures.due there)
+    subst (λ (p : Phasing). (more : List WindowBlock) × IsCount p.config (length more) n
+    × AreHandedDue p.config given (done ++ map Item more)) c.self.view_is
+    (due-further before given done n c.self.invariant.0 (subst NoneWaits (sym c.self.view_is) none)
+    c.count_due.ensures.due there)
 
 pub returns-clause-most : goal.returns-clause-most
 returns-clause-most c = λ given done all stood due.
     let s = c.self.inside in
     let n = c.count_due.result in
-    let before : Phasing = record { config = s.config; decoder = s.decoder; held = s.held.octets; room = s.held.room; chosen = s.chosen } in
+    let before : Phasing = record {
+      config = s.config;
+      decoder = s.decoder;
+      held = s.held.octets;
+      room = s.held.room;
+      chosen = s.chosen;
+    } in
     let none : NoneWaits c.args.self.now = λ w. let both : IsTrue false = c.if-waits.ensures.1 w in absurd cc in
     let there = subst (λ (p : Phasing). PhasesFor p (phase_octets p.config given) done) (sym c.self.view_is) stood in
     let plain = subst (λ (p : Phasing). AreHandedDue (unfollowed p.config) given all)

@@ -18,7 +18,8 @@ returns-in-Err-clause-prefix g c =
     let h = c.in-Err.ensures.prefix in (
       h.0,
       h.1,
-      λ given done few stood. handed-prefix p.config given (done ++ h.0) (h.2 (phase_octets p.config given) done (omega (arith, few, few-soft p.config given)) stood),
+      λ given done few stood. handed-prefix p.config given (done ++ h.0)
+          (h.2 (phase_octets p.config given) done (omega (arith, few, few-soft p.config given)) stood),
     )
 
 pub invariant_of-self : goal.invariant_of-self
@@ -26,7 +27,8 @@ invariant_of-self g c = (c.end.ensures.of c.self.inside.config c.self.invariant.
 
 pub returns-clause-chosen : goal.returns-clause-chosen
 returns-clause-chosen g c = λ soft done stood.
-    subst (λ (p : Phasing). IsChosenBy c.args.self.now.config soft p.chosen) (sym c.self.view_is) (c.settle.ensures.chosen soft done stood)
+    subst (λ (p : Phasing). IsChosenBy c.args.self.now.config soft p.chosen) (sym c.self.view_is)
+    (c.settle.ensures.chosen soft done stood)
 
 pub returns-clause-handed : goal.returns-clause-handed
 returns-clause-handed g c =
@@ -34,18 +36,27 @@ returns-clause-handed g c =
     let old = c.args.self.now in
     let took = g.B.BlockTaker.took in
     let took_phase = g.B.BlockTaker.took_phase in
-    let before : Phasing = record { config = s.config; decoder = s.decoder; held = s.held.octets; room = s.held.room; chosen = s.chosen } in
+    let before : Phasing = record {
+      config = s.config;
+      decoder = s.decoder;
+      held = s.held.octets;
+      room = s.held.room;
+      chosen = s.chosen;
+    } in
     let config : s.config ≡ old.config = ap (λ (p : Phasing). p.config) c.self.view_is ∙ c.settle.ensures.config in
     let m = c.in-Ok.ensures.handed in
     IfOk-weaker c.end.result _ _ (λ left h. (
       m.0 ++ map Item h.0,
-      HandedOver-append (on_handed took_phase took) c.args.blocks.now c.settle.new.blocks c.end.new.blocks m.0 (map Item h.0) m.1 (HandedOver-items took_phase took c.settle.new.blocks c.end.new.blocks h.0 h.1),
+      HandedOver-append (on_handed took_phase took) c.args.blocks.now c.settle.new.blocks c.end.new.blocks m.0
+          (map Item h.0) m.1 (HandedOver-items took_phase took c.settle.new.blocks c.end.new.blocks h.0 h.1),
       λ given done few stood.
           let goes = subst (λ (k : Configuration). Goes before (phase_octets k given) (done ++ m.0)) (sym config)
           (subst (λ (p : Phasing). Goes p (phase_octets old.config given) (done ++ m.0)) (sym c.self.view_is)
           (m.2 (phase_octets old.config given) done (omega (arith, few, few-soft old.config given)) stood)) in
-          subst (λ (k : Configuration). AllCounted k given (done ++ (m.0 ++ map Item h.0)) left s.chosen c.end.new.decoder) config
-          (subst (λ (l : List (Handed WindowBlock)). AllCounted s.config given l left s.chosen c.end.new.decoder) (append_assoc done m.0 (map Item h.0))
+          subst (λ (k : Configuration). AllCounted k given (done ++ (m.0 ++ map Item h.0)) left s.chosen
+          c.end.new.decoder) config
+          (subst (λ (l : List (Handed WindowBlock)). AllCounted s.config given l left s.chosen c.end.new.decoder)
+          (append_assoc done m.0 (map Item h.0))
           (handed-last before c.end.new.decoder given (done ++ m.0) h.0 left c.self.invariant.0 h.2 goes)),
     )) c.end.ensures.handed
 
@@ -57,17 +68,25 @@ returns-clause-prefix g c =
     let broke = g.B.BlockTaker.broke in
     let took_phase = g.B.BlockTaker.took_phase in
     let broke_phase = g.B.BlockTaker.broke_phase in
-    let before : Phasing = record { config = s.config; decoder = s.decoder; held = s.held.octets; room = s.held.room; chosen = s.chosen } in
+    let before : Phasing = record {
+      config = s.config;
+      decoder = s.decoder;
+      held = s.held.octets;
+      room = s.held.room;
+      chosen = s.chosen;
+    } in
     let config : s.config ≡ old.config = ap (λ (p : Phasing). p.config) c.self.view_is ∙ c.settle.ensures.config in
     let m = c.in-Ok.ensures.handed in
     on_err_weaker c.end.result (λ h. (
       m.0 ++ map Item h.0,
-      HandedPart-after (on_handed took_phase took) (on_handed broke_phase broke) c.args.blocks.now c.settle.new.blocks c.end.new.blocks m.0 (map Item h.0) m.1
+      HandedPart-after (on_handed took_phase took) (on_handed broke_phase broke) c.args.blocks.now c.settle.new.blocks
+          c.end.new.blocks m.0 (map Item h.0) m.1
           (HandedPart-items took_phase broke_phase took broke c.settle.new.blocks c.end.new.blocks h.0 h.1),
       λ given done few stood.
           let goes = subst (λ (k : Configuration). Goes before (phase_octets k given) (done ++ m.0)) (sym config)
           (subst (λ (p : Phasing). Goes p (phase_octets old.config given) (done ++ m.0)) (sym c.self.view_is)
           (m.2 (phase_octets old.config given) done (omega (arith, few, few-soft old.config given)) stood)) in
           subst (λ (k : Configuration). AreHandedPrefix k given (done ++ (m.0 ++ map Item h.0))) config
-          (subst (AreHandedPrefix s.config given) (append_assoc done m.0 (map Item h.0)) (handed-last_prefix before given (done ++ m.0) h.0 c.self.invariant.0 h.2 goes)),
+          (subst (AreHandedPrefix s.config given) (append_assoc done m.0 (map Item h.0))
+          (handed-last_prefix before given (done ++ m.0) h.0 c.self.invariant.0 h.2 goes)),
     )) c.end.ensures.prefix

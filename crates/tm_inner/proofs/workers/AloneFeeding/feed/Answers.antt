@@ -17,14 +17,16 @@ returns-in-One-clause-handed g c =
     × ((given : List ℕ) (done : List WindowBlock) → length given + length piece < 2 ^ 60 → StandsIn d given done
     → StandsIn (One c.feed.new.self) (given ++ piece) (done ++ more))))
     (sym c.in-One.is)
-    (on_ok_weaker c.feed.result (λ h. (h.0, h.1, λ given done few stands. (h.2 given done few stands).0)) c.feed.ensures.handed)
+    (on_ok_weaker c.feed.result (λ h. (h.0, h.1, λ given done few stands. (h.2 given done few stands).0))
+    c.feed.ensures.handed)
 
 pub returns-in-One-clause-prefix : goal.returns-in-One-clause-prefix
 returns-in-One-clause-prefix g c =
     let piece = c.args.piece.now in
     subst (λ (d : InnerDecoder). IsErrOf c.feed.result Taker → (tried : List WindowBlock)
     × HandedPart g.B.BlockTaker.took g.B.BlockTaker.broke c.args.blocks.now tried c.feed.new.blocks
-    × ((given : List ℕ) (done : List WindowBlock) → StandsIn d given done → AreFirstIn (windows_in d) (given ++ piece) (done ++ tried)))
+    × ((given : List ℕ) (done : List WindowBlock) → StandsIn d given done
+    → AreFirstIn (windows_in d) (given ++ piece) (done ++ tried)))
     (sym c.in-One.is) c.feed.ensures.prefix
 
 pub returns-in-Many-clause-handed : goal.returns-in-Many-clause-handed
@@ -35,4 +37,5 @@ returns-in-Many-clause-handed g c =
     × ((given : List ℕ) (done : List WindowBlock) → length given + length piece < 2 ^ 60 → StandsIn d given done
     → StandsIn (Many c.feed_alone.new.self) (given ++ piece) (done ++ more))))
     (sym c.in-Many.is)
-    (on_ok_weaker c.feed_alone.result (λ h. (h.0, h.1, λ given done few stands. (h.2 given done few stands).0)) c.feed_alone.ensures.handed)
+    (on_ok_weaker c.feed_alone.result (λ h. (h.0, h.1, λ given done few stands. (h.2 given done few stands).0))
+    c.feed_alone.ensures.handed)

@@ -30,7 +30,8 @@ returns-in-One-clause-prefix g c = λ taker.
     let last = c.finish.ensures.prefix taker in
     subst (λ (d : InnerDecoder). (tried : List WindowBlock)
     × HandedPart g.B.BlockTaker.took g.B.BlockTaker.broke c.args.blocks.now tried c.finish.new.blocks
-    × ((given : List ℕ) (done : List WindowBlock) → StandsIn d given done → AreFirstIn (windows_in d) given (done ++ tried)
+    × ((given : List ℕ) (done : List WindowBlock) → StandsIn d given done
+    → AreFirstIn (windows_in d) given (done ++ tried)
     ⊎ ((left : ℕ) × AreBlocksIn (windows_in d) given (done ++ tried) left)))
     (sym c.in-One.is) (
       last.0 ∷ [],
@@ -56,6 +57,7 @@ pub returns-in-Many-clause-prefix : goal.returns-in-Many-clause-prefix
 returns-in-Many-clause-prefix g c =
     subst (λ (d : InnerDecoder). IsErrOf c.finish_alone.result Taker → (tried : List WindowBlock)
     × HandedPart g.B.BlockTaker.took g.B.BlockTaker.broke c.args.blocks.now tried c.finish_alone.new.blocks
-    × ((given : List ℕ) (done : List WindowBlock) → StandsIn d given done → AreFirstIn (windows_in d) given (done ++ tried)
+    × ((given : List ℕ) (done : List WindowBlock) → StandsIn d given done
+    → AreFirstIn (windows_in d) given (done ++ tried)
     ⊎ ((left : ℕ) × AreBlocksIn (windows_in d) given (done ++ tried) left)))
     (sym c.in-Many.is) c.finish_alone.ensures.prefix

@@ -30,7 +30,8 @@ returns-in-One-clause-prefix g c = λ taker.
     let last = c.finish.ensures.prefix taker in
     subst (λ (d : InnerDecoder). (tried : List WindowBlock)
     × HandedPart g.B.BlockTaker.took g.B.BlockTaker.broke c.args.blocks.now tried c.finish.new.blocks
-    × ((given : List ℕ) (done : List WindowBlock) → StandsIn d given done → AreFirstIn (windows_in d) given (done ++ tried)
+    × ((given : List ℕ) (done : List WindowBlock) → StandsIn d given done
+    → AreFirstIn (windows_in d) given (done ++ tried)
     ⊎ ((left : ℕ) × AreBlocksIn (windows_in d) given (done ++ tried) left)))
     (sym c.in-One.is) (
       last.0 ∷ [],
@@ -43,7 +44,8 @@ returns-in-Many-clause-handed g c =
     subst (λ (d : InnerDecoder). IfOk c.finish-in-Many.result (λ left. (last : List WindowBlock)
     × HandedOver g.B.BlockTaker.took c.args.blocks.now last c.finish-in-Many.new.blocks
     × ((given : List ℕ) (done : List WindowBlock) → StandsIn d given done
-    → AreBlocksIn (windows_in d) given (done ++ last) left × HasCounted (Many c.finish-in-Many.new.self) (done ++ last))))
+    → AreBlocksIn (windows_in d) given (done ++ last) left × HasCounted (Many c.finish-in-Many.new.self)
+    (done ++ last))))
     (sym c.in-Many.is) (IfOk-weaker c.finish-in-Many.result _ _ (λ left h. (
       h.0,
       h.1,
@@ -56,6 +58,7 @@ pub returns-in-Many-clause-prefix : goal.returns-in-Many-clause-prefix
 returns-in-Many-clause-prefix g c =
     subst (λ (d : InnerDecoder). IsErrOf c.finish-in-Many.result Taker → (tried : List WindowBlock)
     × HandedPart g.B.BlockTaker.took g.B.BlockTaker.broke c.args.blocks.now tried c.finish-in-Many.new.blocks
-    × ((given : List ℕ) (done : List WindowBlock) → StandsIn d given done → AreFirstIn (windows_in d) given (done ++ tried)
+    × ((given : List ℕ) (done : List WindowBlock) → StandsIn d given done
+    → AreFirstIn (windows_in d) given (done ++ tried)
     ⊎ ((left : ℕ) × AreBlocksIn (windows_in d) given (done ++ tried) left)))
     (sym c.in-Many.is) c.finish-in-Many.ensures.prefix

@@ -10,7 +10,14 @@ pub overflow_add-self-2 : goal.overflow_add-self-2
 overflow_add-self-2 c =
     let P : Checking → Type 0 = λ e. steps_size e.claim.rate e.claim.first e.count ≤ length e.claim.soft in
     let more = subst P (sym c.self.view_is) c.requires.more in
-    record { fits = omega (arith, more, steps_size-least c.self.inside.rate c.self.inside.first c.self.inside.count, c.self.invariant.1) }
+    record {
+      fits = omega (
+        arith,
+        more,
+        steps_size-least c.self.inside.rate c.self.inside.first c.self.inside.count,
+        c.self.invariant.1,
+      );
+    }
 
 pub returns-clause-stands : goal.returns-clause-stands
 returns-clause-stands c = λ given stands.
@@ -18,6 +25,7 @@ returns-clause-stands c = λ given stands.
     (ap (λ (e : Checking). e.claim) c.self.view_is)
     (ap (λ (e : Checking). e.count + 1) c.self.view_is)
     refl
-    (c.first_place-self-inside.ensures ∙ ap (λ (e : Checking). first_place e.wrong e.count c.first_wrong-found.result) c.self.view_is)
+    (c.first_place-self-inside.ensures ∙ ap (λ (e : Checking). first_place e.wrong e.count c.first_wrong-found.result)
+    c.self.view_is)
     c.first_wrong-found.ensures
     stands

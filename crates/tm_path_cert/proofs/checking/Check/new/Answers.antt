@@ -5,5 +5,13 @@ use Rattle.tm_conv.proofs.Sizes.{steps_size-most}
 
 pub invariant_of-result : goal.invariant_of-result
 invariant_of-result c =
-    let steps = c.requires.steps in
-    (sym (steps_size-none c.args.rate c.args.first), omega (arith, steps.1, steps.2, steps_size-most c.args.rate c.args.first steps.0), omega arith)
+    let steps = c.requires.steps in (
+      sym (steps_size-none c.args.rate c.args.first),
+      omega (
+        arith,
+        steps.1,
+        steps.2,
+        steps_size-most c.args.rate c.args.first steps.0,
+      ),
+      omega arith,
+    )

@@ -8,8 +8,10 @@ pub returns-then-pending : goal.returns-then-pending
 returns-then-pending c = λ room bits found few h.
     let s = c.args.self in
     let after : c.self.inside.after ≡ s.after = ap (λ (v : Searching). v.after) c.self.view_is in
-    let block : c.from-block.result ≡ s.rules.block_bits = c.from-block.ensures ∙ ap (λ (v : Searching). v.rules.block_bits) c.self.view_is in
-    (λ i. (after i - block i) % (32 + block i)) ∙ left-pending s room (sym c.pending.ensures ∙ c.if-pending.true) bits found h
+    let block : c.from-block.result ≡ s.rules.block_bits = c.from-block.ensures
+    ∙ ap (λ (v : Searching). v.rules.block_bits) c.self.view_is in
+    (λ i. (after i - block i) % (32 + block i)) ∙ left-pending s room
+    (sym c.pending.ensures ∙ c.if-pending.true) bits found h
 
 pub returns : goal.returns
 returns c = λ room bits found few h.

@@ -9,10 +9,13 @@ use Rattle.tm_sync.proofs.search.Search.is_verified.Goals.{After-polarity_of}
 use Rattle.tm_sync.proofs.search.Search.is_verified.Goals as goal
 
 -- what one turn looks at: the next marker
-turn : (c : After-polarity_of) (bits : List Bool) (from : ℕ) → Recalls c.args.self.now c.args.room.now bits from → from + 32 + verify_bits c.args.self.now.rules ≤ length bits
-    → are_verified c.args.self.now.rules c.args.inverted c.loop-left.left (drop (length bits - (32 + c.loop-left.left * (32 + c.args.self.now.rules.block_bits))) bits)
+turn : (c : After-polarity_of) (bits : List Bool) (from : ℕ) → Recalls c.args.self.now c.args.room.now bits from
+    → from + 32 + verify_bits c.args.self.now.rules ≤ length bits
+    → are_verified c.args.self.now.rules c.args.inverted c.loop-left.left
+    (drop (length bits - (32 + c.loop-left.left * (32 + c.args.self.now.rules.block_bits))) bits)
     ≡ (matches_in c.polarity_of.result c.args.inverted
-    && are_verified c.args.self.now.rules c.args.inverted (c.loop-left.left - 1) (drop (length bits - (32 + (c.loop-left.left - 1) * (32 + c.args.self.now.rules.block_bits))) bits))
+    && are_verified c.args.self.now.rules c.args.inverted (c.loop-left.left - 1)
+    (drop (length bits - (32 + (c.loop-left.left - 1) * (32 + c.args.self.now.rules.block_bits))) bits))
 turn c bits from r room =
     let s = c.args.self.now in
     let left = c.loop-left.left in
@@ -21,16 +24,19 @@ turn c bits from r room =
     let fewer : left ≤ s.rules.verify = c.loop-left.invariant.fewer in
     let most = mul-le-mul_right u fewer in
     let less = back-or left s.rules.block_bits (verify_bits s.rules) some most in
-    let back : c.verified_by.result ≡ (left - 1) * u = c.verified_by.ensures.value ∙ ap (λ (v : Searching). (left - 1) * (32 + v.rules.block_bits)) c.self.view_is in
+    let back : c.verified_by.result ≡ (left - 1) * u = c.verified_by.ensures.value
+    ∙ ap (λ (v : Searching). (left - 1) * (32 + v.rules.block_bits)) c.self.view_is in
     let n : ℕ = length bits - (32 + (left - 1) * u) in
     let there = less.1 in
     let size = length-drop n bits in
     let word : c.word_at-word.result ≡ number_of (take 32 (drop n bits)) =
-    c.word_at-word.ensures bits from r (subst (λ (k : ℕ). (k ≡ 0) ⊎ ((32 ≤ k) × (k ≤ verify_bits s.rules))) (sym back) less.0) (omega arith)
+    c.word_at-word.ensures bits from r (subst (λ (k : ℕ). (k ≡ 0) ⊎ ((32 ≤ k) × (k ≤ verify_bits s.rules)))
+    (sym back) less.0) (omega arith)
     ∙ ap (λ k. number_of (take 32 (drop (length bits - (32 + k)) bits))) back in
     let long : length (take 32 (drop n bits)) ≡ 32 = length-take-le 32 (drop n bits) (omega arith) in
     let polarity : c.polarity_of.result ≡ match_of s.rules (drop n bits) =
-    c.polarity_of.ensures s.rules (take 32 (drop n bits)) (ap (λ (v : Searching). v.rules.tolerance) (sym c.self.view_is)) (ap (λ (v : Searching). v.rules.either) (sym c.self.view_is))
+    c.polarity_of.ensures s.rules (take 32 (drop n bits)) (ap (λ (v : Searching). v.rules.tolerance)
+    (sym c.self.view_is)) (ap (λ (v : Searching). v.rules.either) (sym c.self.view_is))
     long (c.wrong_count.ensures.upright (take 32 (drop n bits)) long word)
     ∙ match-word s.rules (drop n bits) (omega arith) in
     verified-step s.rules c.args.inverted left bits some (omega arith)
@@ -41,26 +47,36 @@ pub loop-left-preserved : goal.loop-left-preserved
 loop-left-preserved c = record {
   fewer = omega (arith, c.loop-left.invariant.fewer);
   held = λ bits from r room.
-      c.loop-left.invariant.held bits from r room ∙ turn (goal.at.loop-left-preserved c).After-polarity_of bits from r room
-      ∙ ap (λ w. w && are_verified c.args.self.now.rules c.args.inverted (c.loop-left.left - 1) (drop (length bits - (32 + (c.loop-left.left - 1) * (32 + c.args.self.now.rules.block_bits))) bits))
-      (ap (λ o. matches_in o c.args.inverted) c.in-Some.is ∙ polarity-test c.in-Some.polarity c.args.inverted true c.if-polarity-inverted.true);
+      c.loop-left.invariant.held bits from r room ∙ turn (goal.at.loop-left-preserved c).After-polarity_of bits from r
+      room
+      ∙ ap (λ w. w && are_verified c.args.self.now.rules c.args.inverted (c.loop-left.left - 1)
+      (drop (length bits - (32 + (c.loop-left.left - 1) * (32 + c.args.self.now.rules.block_bits))) bits))
+      (ap (λ o. matches_in o c.args.inverted) c.in-Some.is ∙ polarity-test c.in-Some.polarity c.args.inverted true
+      c.if-polarity-inverted.true);
 }
 
 pub returns-in_default : goal.returns-in_default
 returns-in_default c = λ bits from r room.
-    sym (c.loop-left.invariant.held bits from r room ∙ turn (goal.at.returns-in_default c).After-polarity_of bits from r room
-    ∙ ap (λ w. w && are_verified c.args.self.now.rules c.args.inverted (c.loop-left.left - 1) (drop (length bits - (32 + (c.loop-left.left - 1) * (32 + c.args.self.now.rules.block_bits))) bits))
-    (ap (λ o. matches_in o c.args.inverted) c.in-Some.is ∙ polarity-test c.in-Some.polarity c.args.inverted false c.if-polarity-inverted.false))
+    sym (c.loop-left.invariant.held bits from r room ∙ turn
+    (goal.at.returns-in_default c).After-polarity_of bits from r room
+    ∙ ap (λ w. w && are_verified c.args.self.now.rules c.args.inverted (c.loop-left.left - 1)
+    (drop (length bits - (32 + (c.loop-left.left - 1) * (32 + c.args.self.now.rules.block_bits))) bits))
+    (ap (λ o. matches_in o c.args.inverted) c.in-Some.is ∙ polarity-test c.in-Some.polarity c.args.inverted false
+    c.if-polarity-inverted.false))
 
 pub returns-in_default-2 : goal.returns-in_default-2
 returns-in_default-2 c = λ bits from r room.
-    sym (c.loop-left.invariant.held bits from r room ∙ turn (goal.at.returns-in_default-2 c).After-polarity_of bits from r room
-    ∙ ap (λ w. w && are_verified c.args.self.now.rules c.args.inverted (c.loop-left.left - 1) (drop (length bits - (32 + (c.loop-left.left - 1) * (32 + c.args.self.now.rules.block_bits))) bits))
+    sym (c.loop-left.invariant.held bits from r room ∙ turn
+    (goal.at.returns-in_default-2 c).After-polarity_of bits from r room
+    ∙ ap (λ w. w && are_verified c.args.self.now.rules c.args.inverted (c.loop-left.left - 1)
+    (drop (length bits - (32 + (c.loop-left.left - 1) * (32 + c.args.self.now.rules.block_bits))) bits))
     (ap (λ o. matches_in o c.args.inverted) c.in_default.is))
 
 pub returns : goal.returns
 returns c = λ bits from r room.
     let none : c.loop-left.left ≡ 0 = omega arith in
     sym (c.loop-left.invariant.held bits from r room
-    ∙ ap (λ (n : ℕ). are_verified c.args.self.now.rules c.args.inverted n (drop (length bits - (32 + c.loop-left.left * (32 + c.args.self.now.rules.block_bits))) bits)) none
-    ∙ are_verified-zero c.args.self.now.rules c.args.inverted (drop (length bits - (32 + c.loop-left.left * (32 + c.args.self.now.rules.block_bits))) bits))
+    ∙ ap (λ (n : ℕ). are_verified c.args.self.now.rules c.args.inverted n
+    (drop (length bits - (32 + c.loop-left.left * (32 + c.args.self.now.rules.block_bits))) bits)) none
+    ∙ are_verified-zero c.args.self.now.rules c.args.inverted
+    (drop (length bits - (32 + c.loop-left.left * (32 + c.args.self.now.rules.block_bits))) bits))

@@ -10,9 +10,12 @@ returns-then-is_some-clause-stands c = λ s was bit bits found few count kept h.
     let after : c.self.inside.after ≡ s.after = ap (λ (v : Searching). v.after) c.self.view_is ∙ count.after in
     let m = some_awaited c.self.inside.awaited (sym c.is_some.ensures ∙ c.if-is_some.true) in
     let free : is_pending s ≡ false =
-    (λ i. option_map_or (λ n. nat_le ((sym count.rules i).block_bits) n) (option_map (λ _. sym count.after i) (sym count.awaited i)) false) ∙ c.requires in
-    push_inside s _ was c.args.room.now bit m.0 (grows s c.args.self.now _ bit count (ap (λ (v : Searching). v.rules) c.self.view_is) (ap (λ (v : Searching). v.word) c.self.view_is)
-    (ap (λ (v : Searching). v.pushed) c.self.view_is) (ap (λ (v : Searching). v.start) c.self.view_is) (ap (λ (v : Searching). v.before) c.self.view_is))
+    (λ i. option_map_or (λ n. nat_le ((sym count.rules i).block_bits) n)
+    (option_map (λ _. sym count.after i) (sym count.awaited i)) false) ∙ c.requires in
+    push_inside s _ was c.args.room.now bit m.0 (grows s c.args.self.now _ bit count
+    (ap (λ (v : Searching). v.rules) c.self.view_is) (ap (λ (v : Searching). v.word) c.self.view_is)
+    (ap (λ (v : Searching). v.pushed) c.self.view_is) (ap (λ (v : Searching). v.start) c.self.view_is)
+    (ap (λ (v : Searching). v.before) c.self.view_is))
     kept.sized (sym fields ∙ m.1) free fields (ap (λ n. n + 1) after) bits found h
 
 pub returns-then-since-lt32-clause-stands : goal.returns-then-since-lt32-clause-stands
@@ -30,6 +33,10 @@ returns-then-since-lt32-clause-stands c = λ s was bit bits found few count kept
 
 pub returns-clause-stands : goal.returns-clause-stands
 returns-clause-stands c = λ s was bit bits found few count kept h.
-    let free = sym count.awaited ∙ ap (λ (v : Searching). v.awaited) (sym c.self.view_is) ∙ none_awaited c.self.inside.awaited (sym c.is_some.ensures ∙ c.if-is_some.false) in
-    subst (λ (v : Searching). SearchStandsFor (record v { awaited = c.place_found-awaited.result.0; after = c.place_found-awaited.result.1 }) c.args.room.now (bits ++ bit ∷ []) found) (sym c.self.view_is)
+    let free = sym count.awaited ∙ ap (λ (v : Searching). v.awaited) (sym c.self.view_is)
+    ∙ none_awaited c.self.inside.awaited (sym c.is_some.ensures ∙ c.if-is_some.false) in
+    subst (λ (v : Searching). SearchStandsFor (record v {
+      awaited = c.place_found-awaited.result.0;
+      after = c.place_found-awaited.result.1;
+    }) c.args.room.now (bits ++ bit ∷ []) found) (sym c.self.view_is)
     (c.place_found-awaited.ensures.stands s was bit bits found few count kept free h)

@@ -6,7 +6,8 @@ use Rattle.tm_sync.proofs.Given.{reported_last, reported_next, reported_all, rep
 use Rattle.tm_sync.proofs.search.Search.next.Goals as goal
 
 pub returns-then-not-pending-clause-none : goal.returns-then-not-pending-clause-none
-returns-then-not-pending-clause-none c bits found h = reported_all c.args.self.now c.args.room.now (sym c.pending.ensures ∙ c.if-not-pending.true) bits found h
+returns-then-not-pending-clause-none c bits found h =
+    reported_all c.args.self.now c.args.room.now (sym c.pending.ensures ∙ c.if-not-pending.true) bits found h
 
 pub returns-then-left-lt32-clause-once : goal.returns-then-left-lt32-clause-once
 returns-then-left-lt32-clause-once c = λ alone.
@@ -41,7 +42,8 @@ returns-then-left-lt32-clause-some c bits found h =
     let fits = reported-fits s c.args.room.now m bits found was pending h in
     let pushed : c.self.inside.pushed ≡ s.pushed = ap (λ (v : Searching). v.pushed) view in
     let after : c.self.inside.after ≡ s.after = ap (λ (v : Searching). v.after) view in
-    let block : c.from-block.result ≡ s.rules.block_bits = c.from-block.ensures ∙ ap (λ (v : Searching). v.rules.block_bits) view in
+    let block : c.from-block.result ≡ s.rules.block_bits = c.from-block.ensures
+    ∙ ap (λ (v : Searching). v.rules.block_bits) view in
     reported_last s _ c.args.room.now m pending record {
       awaited_was = was;
       rules = ap (λ (v : Searching). v.rules) view;
@@ -64,7 +66,8 @@ returns-else-left-lt32-clause-some c bits found h =
     let word = ap (λ (v : Searching). v.word) view in
     let pushed : c.self.inside.pushed ≡ s.pushed = ap (λ (v : Searching). v.pushed) view in
     let after : c.self.inside.after ≡ s.after = ap (λ (v : Searching). v.after) view in
-    let block : c.from-block.result ≡ s.rules.block_bits = c.from-block.ensures ∙ ap (λ (v : Searching). v.rules.block_bits) view in
+    let block : c.from-block.result ≡ s.rules.block_bits = c.from-block.ensures
+    ∙ ap (λ (v : Searching). v.rules.block_bits) view in
     let since : ℕ = c.self.inside.after - c.from-block.result - 32 in
     reported_next s _ room m c.matched.result c.word_at-word.result pending record {
       awaited_was = was;

@@ -10,9 +10,11 @@ use Rattle.tm_sync.proofs.search.Search.place_verified.Goals.{After-place_of}
 use Rattle.tm_sync.proofs.search.Search.place_verified.Goals as goal
 
 -- the place that the bits are, where the markers after it verify it
-looked : (c : After-place_of) (bits : List Bool) (from : ℕ) → Recalls c.args.self.now c.args.room.now bits from → from + 32 + c.args.lag ≤ length bits
+looked : (c : After-place_of) (bits : List Bool) (from : ℕ) → Recalls c.args.self.now c.args.room.now bits from
+    → from + 32 + c.args.lag ≤ length bits
     → kept c.args.self.now.rules (drop (length bits - (32 + c.args.lag)) bits) c.place_of.result
-    ≡ option_map (awaited_at None) (here c.args.self.now.rules (length bits - (32 + c.args.lag)) None (drop (length bits - (32 + c.args.lag)) bits))
+    ≡ option_map (awaited_at None) (here c.args.self.now.rules (length bits - (32 + c.args.lag)) None
+    (drop (length bits - (32 + c.args.lag)) bits))
 looked c bits from r room =
     let s = c.args.self.now in
     let lag = c.args.lag in
@@ -22,11 +24,13 @@ looked c bits from r room =
     let long : 32 ≤ length (drop n bits) = omega arith in
     let l : List Bool = take 32 (drop n bits) in
     let size_is : length l ≡ 32 = length-take-le 32 (drop n bits) long in
-    let word : c.word_at-word.result ≡ number_of l = c.word_at-word.ensures bits from r (lag-or s.rules lag lag_is) room in
+    let word : c.word_at-word.result ≡ number_of l = c.word_at-word.ensures bits from r
+    (lag-or s.rules lag lag_is) room in
     let pushed : c.self.inside.pushed ≡ length bits = ap (λ (v : Searching). v.pushed) c.self.view_is ∙ r.pushed in
     let place : (c.self.inside.pushed + (2 ^ 64 - (32 + lag))) % 2 ^ 64 ≡ n = omega arith in
     kept-here s.rules n (drop n bits) c.place_of.result long
-    (c.place_of.ensures s.rules l (ap (λ (v : Searching). v.rules.tolerance) (sym c.self.view_is)) (ap (λ (v : Searching). v.rules.fly) (sym c.self.view_is))
+    (c.place_of.ensures s.rules l (ap (λ (v : Searching). v.rules.tolerance) (sym c.self.view_is))
+    (ap (λ (v : Searching). v.rules.fly) (sym c.self.view_is))
     (ap (λ (v : Searching). v.rules.either) (sym c.self.view_is)) size_is word
     ∙ ap (λ k. option_map (awaited_at None) (place_by s.rules k None l (match_of s.rules l))) place)
 
@@ -39,7 +43,8 @@ returns-in-Some c = λ bits from r room.
     sym (kept-some s.rules (drop n bits) c.in-Some.awaited true
     (ap (λ k. are_verified s.rules c.in-Some.awaited.found.inverted s.rules.verify (drop k bits)) (sym at)
     ∙ sym (c.is_verified.ensures bits from r (omega arith)) ∙ c.if-is_verified.true))
-    ∙ ap (kept s.rules (drop n bits)) (sym c.in-Some.is) ∙ looked (goal.at.returns-in-Some c).After-place_of bits from r room
+    ∙ ap (kept s.rules (drop n bits)) (sym c.in-Some.is) ∙ looked
+    (goal.at.returns-in-Some c).After-place_of bits from r room
 
 pub returns-in_default : goal.returns-in_default
 returns-in_default c = λ bits from r room.
@@ -50,8 +55,10 @@ returns-in_default c = λ bits from r room.
     sym (kept-some s.rules (drop n bits) c.in-Some.awaited false
     (ap (λ k. are_verified s.rules c.in-Some.awaited.found.inverted s.rules.verify (drop k bits)) (sym at)
     ∙ sym (c.is_verified.ensures bits from r (omega arith)) ∙ c.if-is_verified.false))
-    ∙ ap (kept s.rules (drop n bits)) (sym c.in-Some.is) ∙ looked (goal.at.returns-in_default c).After-place_of bits from r room
+    ∙ ap (kept s.rules (drop n bits)) (sym c.in-Some.is) ∙ looked
+    (goal.at.returns-in_default c).After-place_of bits from r room
 
 pub returns-in_default-2 : goal.returns-in_default-2
 returns-in_default-2 c = λ bits from r room.
-    ap (kept c.args.self.now.rules (drop (length bits - (32 + c.args.lag)) bits)) (sym c.in_default.is) ∙ looked (goal.at.returns-in_default-2 c).After-place_of bits from r room
+    ap (kept c.args.self.now.rules (drop (length bits - (32 + c.args.lag)) bits)) (sym c.in_default.is)
+    ∙ looked (goal.at.returns-in_default-2 c).After-place_of bits from r room

@@ -16,8 +16,11 @@ returns-clause-stands c = λ room bits found few h.
     let fits = c.requires.fits in
     let pushed : c.self.inside.pushed ≡ s.pushed = ap (λ (v : Searching). v.pushed) c.self.view_is in
     let after : c.self.inside.after ≡ s.after = ap (λ (v : Searching). v.after) c.self.view_is in
-    let block : c.self.inside.block_bits ≡ s.rules.block_bits = ap (λ (v : Searching). v.rules.block_bits) c.self.view_is in
+    let block : c.self.inside.block_bits ≡ s.rules.block_bits =
+    ap (λ (v : Searching). v.rules.block_bits) c.self.view_is in
     push_run s _ room more m.0 m.1 (ap (λ (v : Searching). v.rules) c.self.view_is) (omega (arith, long, there.0))
-    (ap (λ (v : Searching). v.start) c.self.view_is) (ap (λ (v : Searching). v.before) c.self.view_is) (ap (λ (v : Searching). v.awaited) c.self.view_is)
+    (ap (λ (v : Searching). v.start) c.self.view_is) (ap (λ (v : Searching). v.before) c.self.view_is)
+    (ap (λ (v : Searching). v.awaited) c.self.view_is)
     (omega (arith, long, after)) (omega arith) bits found
-    (c.last_bits-self-inside.ensures bits (ap (λ (v : Searching). v.word) c.self.view_is ∙ ap (λ (v : Searching). v.word) h.search)) h
+    (c.last_bits-self-inside.ensures bits (ap (λ (v : Searching). v.word) c.self.view_is
+    ∙ ap (λ (v : Searching). v.word) h.search)) h

@@ -5,5 +5,7 @@ use Rattle.tm_sync.proofs.Numbers.{value_from}
 use Rattle.tm_sync.proofs.search.Search.word_at.Given as goal
 
 abbrev pub invariant-loop-k : goal.invariant-loop-k
-invariant-loop-k l = (bits : List Bool) (from : ℕ) → Recalls l.self l.room bits from → 32 ≤ l.back → l.back ≤ verify_bits l.self.rules → from + 32 + l.back ≤ length bits
+invariant-loop-k l =
+    (bits : List Bool) (from : ℕ) → Recalls l.self l.room bits from → 32 ≤ l.back → l.back ≤ verify_bits l.self.rules
+    → from + 32 + l.back ≤ length bits
     → l.word ≡ value_from 0 (take l.k (drop (length bits - (32 + l.back)) bits)) % 2 ^ 32

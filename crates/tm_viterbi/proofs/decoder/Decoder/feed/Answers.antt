@@ -21,7 +21,8 @@ returns-in-Ok-clause-handed g c =
               reaches = reaches;
               open_step = c.take.ensures.open_step;
             },
-            due_with _ _ (given ++ piece) (done ++ ok.0) (c.take.ensures.settings ∙ set) (AreDue-reached c.take.new.self (given ++ piece) (done ++ ok.0) reaches c.take.ensures.open_step),
+            due_with _ _ (given ++ piece) (done ++ ok.0) (c.take.ensures.settings ∙ set)
+                (AreDue-reached c.take.new.self (given ++ piece) (done ++ ok.0) reaches c.take.ensures.open_step),
           ),
     )
 
@@ -35,5 +36,6 @@ returns-in-Err-clause-prefix g c = λ _.
       err.1,
       λ given done stands.
           let stood = subst (λ (d : Decoding). DecoderStandsFor d given done) (sym c.self.view_is) stands in
-          first_with _ _ (given ++ piece) (done ++ err.0) set (err.2 (given ++ piece) done (Reaches-append s given piece done stood.reaches)),
+          first_with _ _ (given ++ piece) (done ++ err.0) set
+          (err.2 (given ++ piece) done (Reaches-append s given piece done stood.reaches)),
     )

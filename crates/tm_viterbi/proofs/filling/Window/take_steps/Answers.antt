@@ -19,15 +19,25 @@ returns-clause-holds c given holds =
     let room : n + count ≤ length w.survivors.items = omega (arith, w.survivors.ok.0, w.room, c.requires.room) in
     let whole : length c.deref_mut.result.now ≡ length w.survivors.items = ap length same in
     let len : length c.run.new.survivors ≡ count =
-    c.run.auto.survivors ∙ length-take-le part (drop n c.deref_mut.result.now) (omega (arith, length-drop n c.deref_mut.result.now)) ∙ omega arith in
+    c.run.auto.survivors ∙ length-take-le part (drop n c.deref_mut.result.now)
+    (omega (arith, length-drop n c.deref_mut.result.now)) ∙ omega arith in
     let mid = put_mid n part c.deref_mut.result.now c.run.new.survivors in
-    let long : length mid ≡ w.survivors.len = length-mid n part c.deref_mut.result.now c.run.new.survivors (omega (arith, whole, room)) (omega (arith, len)) ∙ whole ∙ sym w.survivors.ok.0 in
-    let P : List ℕ → Type 0 = λ v. AreBest (total_of w.rate w.invert w.t holds.firsts (given ++ c.args.octets.now)) (n + count) c.run.new.sums (reverse (take (n + count) v)) in
+    let long : length mid ≡ w.survivors.len = length-mid n part c.deref_mut.result.now c.run.new.survivors
+    (omega (arith, whole, room)) (omega (arith, len)) ∙ whole ∙ sym w.survivors.ok.0 in
+    let P : List ℕ → Type 0 = λ v. AreBest (total_of w.rate w.invert w.t holds.firsts (given ++ c.args.octets.now))
+    (n + count) c.run.new.sums (reverse (take (n + count) v)) in
     record {
-      size = length-append given c.args.octets.now ∙ omega (arith, holds.size, c.requires.size, steps_size-add w.rate w.t n count);
-      bytes = All-append (λ x. x < 256) given c.args.octets.now holds.bytes (All-from_get_or (λ x. x < 256) c.args.octets.now 0 (λ i lt. omega (arith, c.type_inv.octets i)));
+      size =
+          length-append given c.args.octets.now
+          ∙ omega (arith, holds.size, c.requires.size, steps_size-add w.rate w.t n count);
+      bytes =
+          All-append (λ x. x < 256) given c.args.octets.now holds.bytes
+          (All-from_get_or (λ x. x < 256) c.args.octets.now 0 (λ i lt. omega (arith, c.type_inv.octets i)));
       firsts = holds.firsts;
       are_firsts = holds.are_firsts;
-      best = subst P (sym (with_items_is w.survivors mid long)) (filled_on w.rate w.invert w.t n count part holds.firsts given c.args.octets.now w.sums c.run.new.sums w.survivors.items c.deref_mut.result.now c.run.new.survivors
+      best =
+          subst P (sym (with_items_is w.survivors mid long))
+          (filled_on w.rate w.invert w.t n count part holds.firsts given c.args.octets.now w.sums c.run.new.sums
+          w.survivors.items c.deref_mut.result.now c.run.new.survivors
           holds.size room len (omega arith) same c.run.ensures.carries holds.best);
     }

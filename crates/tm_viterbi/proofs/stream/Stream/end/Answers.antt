@@ -13,7 +13,8 @@ returns-then-self-eq0-clause-ok g c = (
   refl,
   λ all done less r.
       ended c.args.self.now all done [] c.from-left.result
-      (c.from-left.ensures ∙ ap bool_byte c.is_some.ensures ∙ waiting_count c.args.self.now.waiting) less r c.if-self-eq0.true,
+      (c.from-left.ensures ∙ ap bool_byte c.is_some.ensures ∙ waiting_count c.args.self.now.waiting) less r
+      c.if-self-eq0.true,
 )
 
 pub returns-in-Ok-clause-ok : goal.returns-in-Ok-clause-ok
@@ -22,7 +23,8 @@ returns-in-Ok-clause-ok g c =
     let handed = c.in-Ok.ensures.ok in (
       handed.0 ∷ [],
       HandedOver-one g.B.BlockTaker.took c.args.blocks.now c.hand_last.new.blocks handed.0 handed.1,
-      λ all done less r. subst (λ (v : ℕ). AreBlocksOf (settings_of c.args.self.now) all (done ++ handed.0 ∷ []) v) (sym left) (handed.2 all done less r),
+      λ all done less r. subst (λ (v : ℕ). AreBlocksOf (settings_of c.args.self.now) all (done ++ handed.0 ∷ []) v)
+          (sym left) (handed.2 all done less r),
     )
 
 pub returns-in-Err-clause-err : goal.returns-in-Err-clause-err

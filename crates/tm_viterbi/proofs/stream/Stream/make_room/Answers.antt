@@ -13,7 +13,8 @@ pub returns-then-self-steps-clause-ok : goal.returns-then-self-steps-clause-ok
 returns-then-self-steps-clause-ok g c = (
   [],
   refl,
-  λ all done r. subst (λ (v : List WindowBlock). Reaches c.args.self.now all c.args.rest.now v) (sym (append-nil done)) r,
+  λ all done r. subst (λ (v : List WindowBlock). Reaches c.args.self.now all c.args.rest.now v)
+      (sym (append-nil done)) r,
 )
 
 pub close-found-requires-clause-start : goal.close-found-requires-clause-start
@@ -23,7 +24,16 @@ pub returns-clause-ok : goal.returns-clause-ok
 returns-clause-ok g c =
     let w = c.args.self.now.flow.window in
     let full : w.filled ≡ w.keep + w.ahead = omega (arith, w.within, c.if-self-steps.false) in
-    let block : WindowBlock = record { start = c.close-found.result.start; steps = w.keep + w.ahead; kept = w.keep; metric = c.close-found.result.metric; bits = c.close-found.new.bits; end_state = c.close-found.result.end_state; dropped = 0 } in
+    let block : WindowBlock = record {
+      start = c.close-found.result.start;
+      steps = w.keep + w.ahead;
+      kept = w.keep;
+      metric = c.close-found.result.metric;
+      bits = c.close-found.new.bits;
+      end_state =
+          c.close-found.result.end_state;
+      dropped = 0;
+    } in
     on_ok c.block.result _ _ (λ taken. (
       block ∷ [],
       HandedOver-one g.B.BlockTaker.took c.args.blocks.now c.block.new.self block taken,
@@ -33,9 +43,13 @@ returns-clause-ok g c =
           record {
             whole = drop (steps_size w.rate w.t w.keep) r.whole;
             keeps = c.close-found.ensures.keeps r.whole r.keeps;
-            closed = closed_on w.rate _ w.invert _ w.keep _ w.ahead _ w.t _ w.filled w.starts _ _ done block r.whole rest
-                c.close-found.ensures.same.0 c.close-found.ensures.same.1 c.close-found.ensures.same.2 c.close-found.ensures.same.3 c.close-found.ensures.place.0 c.close-found.ensures.place.2 refl size full
-                r.closed (c.close-found.ensures.closes r.whole rest r.keeps (room_to_close w.rate w.t w.filled w.keep w.ahead r.whole rest full size c.requires.step));
+            closed =
+                closed_on w.rate _ w.invert _ w.keep _ w.ahead _ w.t _ w.filled w.starts _ _ done block r.whole rest
+                c.close-found.ensures.same.0 c.close-found.ensures.same.1 c.close-found.ensures.same.2
+                c.close-found.ensures.same.3 c.close-found.ensures.place.0 c.close-found.ensures.place.2 refl size
+                full
+                r.closed (c.close-found.ensures.closes r.whole rest r.keeps
+                (room_to_close w.rate w.t w.filled w.keep w.ahead r.whole rest full size c.requires.step));
           },
     )) c.block.ensures.ok
 
@@ -43,7 +57,16 @@ pub returns-clause-err : goal.returns-clause-err
 returns-clause-err g c =
     let w = c.args.self.now.flow.window in
     let full : w.filled ≡ w.keep + w.ahead = omega (arith, w.within, c.if-self-steps.false) in
-    let block : WindowBlock = record { start = c.close-found.result.start; steps = w.keep + w.ahead; kept = w.keep; metric = c.close-found.result.metric; bits = c.close-found.new.bits; end_state = c.close-found.result.end_state; dropped = 0 } in
+    let block : WindowBlock = record {
+      start = c.close-found.result.start;
+      steps = w.keep + w.ahead;
+      kept = w.keep;
+      metric = c.close-found.result.metric;
+      bits = c.close-found.new.bits;
+      end_state =
+          c.close-found.result.end_state;
+      dropped = 0;
+    } in
     on_err c.block.result _ _ (λ failed. (
       block,
       failed,
@@ -52,6 +75,8 @@ returns-clause-err g c =
           let at : Place = record { starts = w.starts; t = w.t; octets = r.whole ++ rest } in (
             after_block w.rate at block,
             Closed-push w.rate w.invert w.keep w.ahead _ at done block r.closed
-                (c.close-found.ensures.closes r.whole rest r.keeps (room_to_close w.rate w.t w.filled w.keep w.ahead r.whole rest full r.keeps.holds.size c.requires.step)),
+                (c.close-found.ensures.closes r.whole rest r.keeps
+                (room_to_close w.rate w.t w.filled w.keep w.ahead r.whole rest full r.keeps.holds.size
+                c.requires.step)),
           ),
     )) c.block.ensures.err

@@ -12,7 +12,8 @@ invariant-loop-at g l = record {
   open_step : IsOpenStep l.self;
   faults : g.B.BlockTaker.faults l.blocks ≡ g.B.BlockTaker.faults l.fn.blocks;
   handed : (more : List WindowBlock) × HandedOver g.B.BlockTaker.took l.fn.blocks more l.blocks
-      × ((all : List ℕ) (done : List WindowBlock) → Reaches l.fn.self all l.piece done → Reaches l.self all (drop l.at l.piece) (done ++ more));
+      × ((all : List ℕ) (done : List WindowBlock) → Reaches l.fn.self all l.piece done
+      → Reaches l.self all (drop l.at l.piece) (done ++ more));
 }
 
 abbrev pub decreases-loop-at : goal.decreases-loop-at

@@ -13,5 +13,6 @@ returns-then-rest-len-clause-ok g c = (
   λ all done r.
       let xs = c.args.rest.now in
       let whole = subst (λ v. Reaches c.args.self.now all v done) (sym (head_rest xs c.requires.some)) r in
-      subst (λ v. Reaches c.wait.new.self all (drop 1 xs) v) (sym (append-nil done)) (c.wait.ensures.reaches all (drop 1 xs) done whole),
+      subst (λ v. Reaches c.wait.new.self all (drop 1 xs) v) (sym (append-nil done))
+      (c.wait.ensures.reaches all (drop 1 xs) done whole),
 )

@@ -7,5 +7,6 @@ use Rattle.tm_viterbi.proofs.sums.Sums.column.Goals as goal
 
 pub returns-clause-least : goal.returns-clause-least
 returns-clause-least c given stands =
-    let P : Summing → Type 0 = λ s. SumsFor s given → IsColumn (starts_from s.start) s.rate s.invert s.first given c.self.inside.column in
+    let P : Summing → Type 0 = λ s. SumsFor s given → IsColumn
+    (starts_from s.start) s.rate s.invert s.first given c.self.inside.column in
     subst P c.self.view_is (λ is. IsColumn-from_sums _ given is c.self.told) stands

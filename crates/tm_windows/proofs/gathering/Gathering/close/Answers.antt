@@ -19,7 +19,8 @@ loop-closed-init g c =
         [],
         refl,
         λ all rest done r.
-            subst (λ (v : List WindowBlock). Reaches first.new.self all rest v) (sym (append-nil done)) (first.ensures.reaches all rest done r),
+            subst (λ (v : List WindowBlock). Reaches first.new.self all rest v) (sym (append-nil done))
+            (first.ensures.reaches all rest done r),
       );
     }
 
@@ -46,7 +47,8 @@ loop-closed-preserved g c =
         HandedOver-append _ c.args.blocks.now c.loop-closed.blocks c.close_next.new.blocks more ok.0 i.handed.1 ok.1,
         λ all rest done r.
             subst (λ (v : List WindowBlock). Reaches next.new.self all rest v) (append_assoc done more ok.0)
-            (next.ensures.reaches all rest ((done ++ more) ++ ok.0) (ok.2 all rest (done ++ more) (i.handed.2 all rest done r))),
+            (next.ensures.reaches all rest ((done ++ more) ++ ok.0)
+            (ok.2 all rest (done ++ more) (i.handed.2 all rest done r))),
       );
     }
 
@@ -59,7 +61,8 @@ returns-in-Err g c =
       ok = search rules;
       err = (
         more ++ failed.0,
-        HandedPart-after _ _ c.args.blocks.now l.blocks c.close_next.new.blocks more failed.0 l.invariant.handed.1 failed.1,
+        HandedPart-after _ _ c.args.blocks.now l.blocks c.close_next.new.blocks more failed.0 l.invariant.handed.1
+            failed.1,
         λ all rest done r.
             first_after (windows_of l.self) (windows_of c.args.self.now) all done more failed.0 l.invariant.windows
             (failed.2 all rest (done ++ more) (l.invariant.handed.2 all rest done r)),

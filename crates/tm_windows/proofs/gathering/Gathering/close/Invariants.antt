@@ -12,7 +12,8 @@ invariant-loop-closed g l = record {
   left_open : l.closed ≡ false → IsOpen l.self × IsDecided l.self;
   faults : g.B.BlockTaker.faults l.blocks ≡ g.B.BlockTaker.faults l.fn.blocks;
   handed : (more : List WindowBlock) × HandedOver g.B.BlockTaker.took l.fn.blocks more l.blocks
-      × ((all rest : List ℕ) (done : List WindowBlock) → Reaches l.fn.self all rest done → Reaches l.self all rest (done ++ more));
+      × ((all rest : List ℕ) (done : List WindowBlock) → Reaches l.fn.self all rest done
+      → Reaches l.self all rest (done ++ more));
 }
 
 abbrev pub decreases-loop-closed : goal.decreases-loop-closed

@@ -11,7 +11,9 @@ followed : (g : Gathering) (k : ℕ) → g.dropped ≡ Some k → 0 < k → (ste
 followed g k is some = go g.seen refl
   where
     go : (seen : Option ℕ) → g.seen ≡ seen → (steps : ℕ) × (g.seen ≡ Some steps)
-    go None none = absurd (let none_dropped : 0 ≡ k = (let both = sym (g.unfollowed none) ∙ is in cc) in omega (arith, none_dropped, some))
+    go None none =
+        absurd (let none_dropped : 0 ≡ k = (let both = sym (g.unfollowed none) ∙ is in cc) in
+        omega (arith, none_dropped, some))
     go (Some steps) found = (steps, found)
 
 pub close_run-requires-clause-undropped : goal.close_run-requires-clause-undropped
@@ -32,4 +34,5 @@ close_one-requires-clause-followed g c =
     let s = c.args.self.now in
     let known = c.requires.closed.decided in
     let k = c.unwrap_or-dropped.result in
-    followed s k (dropped-is s.dropped known.0 k known.1 c.unwrap_or-dropped.ensures) (omega (arith, c.if-dropped-eq0.false))
+    followed s k (dropped-is s.dropped known.0 k known.1 c.unwrap_or-dropped.ensures)
+    (omega (arith, c.if-dropped-eq0.false))

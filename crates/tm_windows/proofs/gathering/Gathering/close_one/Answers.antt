@@ -51,11 +51,14 @@ returns-in-Ok g c =
             let b : Beginning = record { dropped = k; place = at } in
             let begins : Begins w r.to b = subst (λ (o : Option ℕ). IsAt w r.to o at) c.requires.dropped r.at in
             let closes = closes-dropped (settings_of s) b ok.0
-            (closes-now s.shape s.workers.shape s.starts s.t s.held.octets octets.result.now rest ok.0 s.workers_shape octets.ensures.octets ok.4) in
+            (closes-now s.shape s.workers.shape s.starts s.t s.held.octets octets.result.now rest ok.0 s.workers_shape
+            octets.ensures.octets ok.4) in
             record {
               to = spot_after (settings_of s) b (dropped_at k ok.0);
               closed = followed-push w (first_spot w all) r.to done b (dropped_at k ok.0) r.closed begins closes;
-              at = next-spot (settings_of s) s.starts s.t k c.in-Ok.next size s.held.octets left rest ok.0 ok.2 kept c.steps_len.ensures c.drop_first.ensures.octets inside;
+              at =
+                  next-spot (settings_of s) s.starts s.t k c.in-Ok.next size s.held.octets left rest ok.0 ok.2 kept
+                  c.steps_len.ensures c.drop_first.ensures.octets inside;
               kept = omega (arith, r.kept, kept-append done (dropped_at k ok.0 ∷ []), kept);
               slips = omega (arith, r.slips, slips-append done (dropped_at k ok.0 ∷ []), c.slip_at.ensures.value);
             },
@@ -87,10 +90,14 @@ returns-in-Err g c =
             let b : Beginning = record { dropped = k; place = at } in
             let begins : Begins w r.to b = subst (λ (o : Option ℕ). IsAt w r.to o at) c.requires.dropped r.at in
             let closes = closes-dropped (settings_of s) b err.0
-            (closes-now s.shape s.workers.shape s.starts s.t s.held.octets octets.result.now rest err.0 s.workers_shape octets.ensures.octets err.2) in
-            (spot_after (settings_of s) b (dropped_at k err.0), followed-push w (first_spot w all) r.to done b (dropped_at k err.0) r.closed begins closes),
+            (closes-now s.shape s.workers.shape s.starts s.t s.held.octets octets.result.now rest err.0
+            s.workers_shape octets.ensures.octets err.2) in (
+              spot_after (settings_of s) b (dropped_at k err.0),
+              followed-push w (first_spot w all) r.to done b (dropped_at k err.0) r.closed begins closes,
+            ),
       );
-      left_open = (omega (arith, none, least), λ undecided. absurd (let known = sym c.requires.dropped ∙ undecided in cc));
+      left_open =
+          (omega (arith, none, least), λ undecided. absurd (let known = sym c.requires.dropped ∙ undecided in cc));
       shorter = omega (arith, none, c.requires.closed.room, least);
       counted = omega (arith, none);
       windows = refl;

@@ -7,7 +7,8 @@ returns-clause-due c = λ all done r.
     let s = c.args.self.now in
     let same : length c.as_slice.result.now ≡ length s.held.octets = ap length c.as_slice.ensures.octets in
     let count = c.closed_windows.result in
-    due_after c.best_path_law.ensures.exists s all done count s.register (λ steps is. ((s.looks steps is).0, (s.looks steps is).2))
+    due_after c.best_path_law.ensures.exists s all done count s.register
+    (λ steps is. ((s.looks steps is).0, (s.looks steps is).2))
     (λ some. omega (arith, same, c.closed_windows.ensures.room some))
     (no_more_held s count c.requires.room (λ few. omega (arith, same, c.closed_windows.ensures.all few))) r
 

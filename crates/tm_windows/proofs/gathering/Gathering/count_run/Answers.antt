@@ -15,7 +15,8 @@ push w t n octets are is k some less = elim (cases_lt k n) as
     (λ _. IsUndropped w (t + k * w.settings.keep) (drop (steps_size w.settings.rate t (k * w.settings.keep)) octets)) [
       | inl lt ↦ are k some lt
       | inr le ↦ (let same : n ≡ k = omega (arith, le, less) in
-          subst (λ (j : ℕ). IsUndropped w (t + j * w.settings.keep) (drop (steps_size w.settings.rate t (j * w.settings.keep)) octets)) same is)
+          subst (λ (j : ℕ). IsUndropped w (t + j * w.settings.keep)
+          (drop (steps_size w.settings.rate t (j * w.settings.keep)) octets)) same is)
     ]
 
 pub returns-in_default-clause-undropped : goal.returns-in_default-clause-undropped
@@ -47,7 +48,10 @@ pub loop-number-preserved : goal.loop-number-preserved
 loop-number-preserved c =
     let s = c.args.self.now in
     let l = c.loop-number in
-    record { undropped = push (windows_of s) s.t l.number s.held.octets l.invariant.undropped (c.is_undropped.ensures.0 c.if-not-is_undropped.false) }
+    record {
+      undropped = push (windows_of s) s.t l.number s.held.octets l.invariant.undropped
+          (c.is_undropped.ensures.0 c.if-not-is_undropped.false);
+    }
 
 pub is_undropped-requires-clause-room : goal.is_undropped-requires-clause-room
 is_undropped-requires-clause-room c =

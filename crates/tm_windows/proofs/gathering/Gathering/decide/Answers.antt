@@ -28,14 +28,20 @@ returns-clause-reaches c = λ all rest done r.
     let now = c.starts_after-self.result in
     let many : octets_seen s.shape.rate s.t steps ≤ length s.held.octets =
     omega (arith, c.if-octets-enough.false, c.octets_seen-enough.ensures.value, ap length octets.ensures.octets) in
-    let is_slip = subst (λ (o : List ℕ). IsSlip s.shape.rate s.shape.invert s.t steps o k) octets.ensures.octets c.slip-count.ensures.slip in
-    let cut : left ≡ drop k s.held.octets = c.drop_first.ensures.octets ∙ ap (λ (n : ℕ). drop n s.held.octets) c.from.ensures in
-    let undecided = subst (λ (o : Option ℕ). IsAt w r.to o (place_of s.starts s.t (s.held.octets ++ rest))) c.in_default-dropped.is r.at in
+    let is_slip = subst (λ (o : List ℕ). IsSlip s.shape.rate s.shape.invert s.t steps o k) octets.ensures.octets
+    c.slip-count.ensures.slip in
+    let cut : left ≡ drop k s.held.octets = c.drop_first.ensures.octets
+    ∙ ap (λ (n : ℕ). drop n s.held.octets) c.from.ensures in
+    let undecided = subst (λ (o : Option ℕ). IsAt w r.to o (place_of s.starts s.t (s.held.octets ++ rest)))
+    c.in_default-dropped.is r.at in
     record {
       to = r.to;
       closed = r.closed;
-      at = subst (λ (v : Spot). Begins w v (record { dropped = k; place = place_of now s.t (left ++ rest) })) (sym undecided)
-          (decided-at w steps c.in-Some.is s.starts now s.t k s.held.octets left rest many is_slip cut c.starts_after-self.ensures.value);
+      at =
+          subst (λ (v : Spot). Begins w v (record { dropped = k; place = place_of now s.t (left ++ rest) }))
+          (sym undecided)
+          (decided-at w steps c.in-Some.is s.starts now s.t k s.held.octets left rest many is_slip cut
+          c.starts_after-self.ensures.value);
       kept = r.kept;
       slips = r.slips;
     }

@@ -13,7 +13,8 @@ use Rattle.tm_windows.proofs.Gatherings.{ended, few_left, last_block, last_whole
 use Rattle.tm_windows.proofs.gathering.Gathering.end_open.Goals as goal
 
 -- all steps of the last window are kept
-last_kept-shape : (s : Gathering) (n : ℕ) → n ≤ s.shape.keep + s.shape.ahead → n ≡ kept_steps s.shape.keep s.shape.ahead n
+last_kept-shape : (s : Gathering) (n : ℕ) → n ≤ s.shape.keep + s.shape.ahead
+    → n ≡ kept_steps s.shape.keep s.shape.ahead n
 last_kept-shape s n few = last_kept s.shape.keep s.shape.ahead n few
 
 pub overflow_cast-left : goal.overflow_cast-left
@@ -64,15 +65,24 @@ returns-in-Ok-clause-ok g c =
     let most = last_whole s octets.result.now steps.result octets.ensures.octets steps.ensures.all steps.ensures.most
     c.requires.is_open in
     let held : octets.result.now ≡ s.held.octets ++ [] = octets.ensures.octets ∙ sym (append-nil s.held.octets) in
-    let are = subst (λ (n : ℕ). IsLast (settings_of s) (last_beginning s) steps.result (dropped_at n ok.0 ∷ [])) (sym c.unwrap_or-dropped.ensures)
-    (last_block (windows_of s) s.workers.shape (last_beginning s) steps.result octets.result.now ok.0 s.workers_shape held
+    let are = subst (λ (n : ℕ). IsLast (settings_of s) (last_beginning s) steps.result (dropped_at n ok.0 ∷ []))
+    (sym c.unwrap_or-dropped.ensures)
+    (last_block (windows_of s) s.workers.shape (last_beginning s) steps.result octets.result.now ok.0 s.workers_shape
+    held
     (omega (arith, c.if-steps-eq0.false)) ok.2) in (
       last ∷ [],
       HandedOver-one g.B.BlockTaker.took c.args.blocks.now c.close_last-closed.new.blocks last ok.1,
       λ all done r. (
         ended s all octets.result.now done (last ∷ []) steps.result c.steps_len.result octets.ensures.octets
             c.steps_len.ensures steps.ensures.whole most steps.ensures.most c.requires.decided r are,
-        omega (arith, r.kept, kept-append done (last ∷ []), ok.2.kept, last_kept-shape s steps.result steps.ensures.most, ap (λ (v : WindowShape). kept_steps v.keep v.ahead steps.result) s.workers_shape),
+        omega (
+          arith,
+          r.kept,
+          kept-append done (last ∷ []),
+          ok.2.kept,
+          last_kept-shape s steps.result steps.ensures.most,
+          ap (λ (v : WindowShape). kept_steps v.keep v.ahead steps.result) s.workers_shape,
+        ),
         omega (arith, r.slips, slips-append done (last ∷ []), c.slip_at.ensures.value),
       ),
     )
@@ -91,7 +101,13 @@ pub returns-in-Ok-clause-counted : goal.returns-in-Ok-clause-counted
 returns-in-Ok-clause-counted g c =
     let s = c.args.self.now in
     let steps = c.whole_steps-steps in
-    omega (arith, ap length c.clear.ensures.octets, steps.ensures.whole, steps_size-least s.shape.rate s.t steps.result, ap length c.as_slice-octets.ensures.octets)
+    omega (
+      arith,
+      ap length c.clear.ensures.octets,
+      steps.ensures.whole,
+      steps_size-least s.shape.rate s.t steps.result,
+      ap length c.as_slice-octets.ensures.octets,
+    )
 
 pub returns-in-Err-clause-err : goal.returns-in-Err-clause-err
 returns-in-Err-clause-err g c =
@@ -103,14 +119,17 @@ returns-in-Err-clause-err g c =
     let most = last_whole s octets.result.now steps.result octets.ensures.octets steps.ensures.all steps.ensures.most
     c.requires.is_open in
     let held : octets.result.now ≡ s.held.octets ++ [] = octets.ensures.octets ∙ sym (append-nil s.held.octets) in
-    let are = subst (λ (n : ℕ). IsLast (settings_of s) (last_beginning s) steps.result (dropped_at n err.0 ∷ [])) (sym c.unwrap_or-dropped.ensures)
-    (last_block (windows_of s) s.workers.shape (last_beginning s) steps.result octets.result.now err.0 s.workers_shape held
+    let are = subst (λ (n : ℕ). IsLast (settings_of s) (last_beginning s) steps.result (dropped_at n err.0 ∷ []))
+    (sym c.unwrap_or-dropped.ensures)
+    (last_block (windows_of s) s.workers.shape (last_beginning s) steps.result octets.result.now err.0 s.workers_shape
+    held
     (omega (arith, c.if-steps-eq0.false)) err.2) in (
       dropped_at k err.0,
       err.1,
       λ all done r. (
         length octets.result.now - c.steps_len.result,
-        ended s all octets.result.now done (dropped_at k err.0 ∷ []) steps.result c.steps_len.result octets.ensures.octets
+        ended s all octets.result.now done (dropped_at k err.0 ∷ []) steps.result c.steps_len.result
+            octets.ensures.octets
             c.steps_len.ensures steps.ensures.whole most steps.ensures.most c.requires.decided r are,
       ),
     )
@@ -118,9 +137,19 @@ returns-in-Err-clause-err g c =
 pub returns-in-Ok-clause-is_open : goal.returns-in-Ok-clause-is_open
 returns-in-Ok-clause-is_open g c =
     let s = c.args.self.now in
-    omega (arith, ap length c.clear.ensures.octets, steps_size-least s.shape.rate (s.t + c.whole_steps-steps.result) (s.shape.keep + s.shape.ahead + 1))
+    omega (
+      arith,
+      ap length c.clear.ensures.octets,
+      steps_size-least s.shape.rate (s.t + c.whole_steps-steps.result)
+          (s.shape.keep + s.shape.ahead + 1),
+    )
 
 pub returns-in-Err-clause-is_open : goal.returns-in-Err-clause-is_open
 returns-in-Err-clause-is_open g c =
     let s = c.args.self.now in
-    omega (arith, ap length c.clear.ensures.octets, steps_size-least s.shape.rate s.t (s.shape.keep + s.shape.ahead + 1))
+    omega (
+      arith,
+      ap length c.clear.ensures.octets,
+      steps_size-least s.shape.rate s.t
+          (s.shape.keep + s.shape.ahead + 1),
+    )

@@ -18,19 +18,22 @@ Looks s t steps octets slip = (octets_seen s.rate t steps ≤ length octets)
 
 -- the window has its room among the octets that are held
 window_room : (g : Gathering) (number size : ℕ) (held : List ℕ) → HoldsRun g (number + 1) → held ≡ g.held.octets
-    → size ≡ steps_size g.shape.rate g.t (number * g.shape.keep) → HasRoom g.shape (g.t + number * g.shape.keep) size held
+    → size ≡ steps_size g.shape.rate g.t (number * g.shape.keep)
+    → HasRoom g.shape (g.t + number * g.shape.keep) size held
 window_room g number size held room is size_is =
     room_of g.shape g.t (number + 1) number (g.t + number * g.shape.keep) size held refl size_is (omega arith)
     (omega (arith, room, ap length is))
 
 pub slice_bounds-octets-start : goal.slice_bounds-octets-start
 slice_bounds-octets-start c =
-    let room = window_room c.args.self.now c.args.number c.steps_len-size.result c.as_slice.result.now c.requires.room c.as_slice.ensures.octets c.steps_len-size.ensures in
+    let room = window_room c.args.self.now c.args.number c.steps_len-size.result c.as_slice.result.now c.requires.room
+    c.as_slice.ensures.octets c.steps_len-size.ensures in
     omega (arith, room.next)
 
 pub slice_bounds-octets-count : goal.slice_bounds-octets-count
 slice_bounds-octets-count c =
-    let room = window_room c.args.self.now c.args.number c.steps_len-size.result c.as_slice.result.now c.requires.room c.as_slice.ensures.octets c.steps_len-size.ensures in
+    let room = window_room c.args.self.now c.args.number c.steps_len-size.result c.as_slice.result.now c.requires.room
+    c.as_slice.ensures.octets c.steps_len-size.ensures in
     omega (arith, room.next)
 
 pub slip-requires-clause-steps : goal.slip-requires-clause-steps
@@ -39,7 +42,8 @@ slip-requires-clause-steps c = (c.args.self.now.looks c.args.steps c.requires.fo
 pub slip-requires-clause-few : goal.slip-requires-clause-few
 slip-requires-clause-few c =
     let s = c.args.self.now in
-    let room = window_room s c.args.number c.steps_len-size.result c.as_slice.result.now c.requires.room c.as_slice.ensures.octets c.steps_len-size.ensures in
+    let room = window_room s c.args.number c.steps_len-size.result c.as_slice.result.now c.requires.room
+    c.as_slice.ensures.octets c.steps_len-size.ensures in
     omega (
       arith,
       c.requires.few,
@@ -55,9 +59,17 @@ slip-requires-clause-octets c =
     let held = c.as_slice.result.now in
     let size = c.steps_len-size.result in
     let there : ℕ = s.t + c.args.number * s.shape.keep in
-    let room = window_room s c.args.number size held c.requires.room c.as_slice.ensures.octets c.steps_len-size.ensures in
-    let same : length (take (length held - size) (drop size held)) ≡ length (drop size held) = ap length (take_rest held size) in
-    omega (arith, same, room.room, seen-first (settings_of s) there c.args.steps (s.looks c.args.steps c.requires.followed).2)
+    let room = window_room s c.args.number size held c.requires.room c.as_slice.ensures.octets
+    c.steps_len-size.ensures in
+    let same : length (take (length held - size) (drop size held)) ≡ length (drop size held) =
+    ap length (take_rest held size) in
+    omega (
+      arith,
+      same,
+      room.room,
+      seen-first (settings_of s) there c.args.steps
+          (s.looks c.args.steps c.requires.followed).2,
+    )
 
 -- the octets that are looked at are those of the window
 pub returns : goal.returns

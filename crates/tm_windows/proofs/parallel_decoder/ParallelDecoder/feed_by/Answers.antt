@@ -41,7 +41,8 @@ returns-in-Ok-clause-handed g c =
           let reaches = ok.2 (given ++ taken) done (Reaches-append s given taken done stood.reaches) in
           let due = AreDue-reached c.take.new.self (given ++ taken) (done ++ ok.0) reaches c.take.ensures.is_open in
           let same = c.counted-piece.ensures.all (omega (arith, few, stood.count)) in
-          subst (λ (v : List ℕ). ParallelStandsFor now (given ++ v) (done ++ ok.0) × AreDueIn old.windows (given ++ v) (done ++ ok.0)) same (
+          subst (λ (v : List ℕ). ParallelStandsFor now (given ++ v) (done ++ ok.0)
+          × AreDueIn old.windows (given ++ v) (done ++ ok.0)) same (
             record {
               windows = refl;
               count = omega (arith, stood.count, length-append given taken);
@@ -67,6 +68,7 @@ returns-in-Err-clause-prefix g c = λ _.
           let first = err.2 (given ++ taken) done (Reaches-append s given taken done stood.reaches) in
           subst (λ (w : Windows). AreFirstIn w (given ++ c.args.piece.now) (done ++ err.0)) set
           (first-in s.seen (windows_of s) (given ++ c.args.piece.now) (done ++ err.0) refl
-          (subst (λ (v : List ℕ). AreFollowedFirst (windows_of s) v (done ++ err.0)) (append_assoc given taken more.0 ∙ ap (λ (v : List ℕ). given ++ v) more.1)
+          (subst (λ (v : List ℕ). AreFollowedFirst (windows_of s) v (done ++ err.0))
+          (append_assoc given taken more.0 ∙ ap (λ (v : List ℕ). given ++ v) more.1)
           (followed-prefix (windows_of s) (given ++ taken) more.0 (done ++ err.0) first))),
     )

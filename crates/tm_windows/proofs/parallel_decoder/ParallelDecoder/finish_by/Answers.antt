@@ -46,8 +46,10 @@ returns-in_default-clause-prefix g c = λ _.
       err.1,
       λ given done stands.
           let stood = subst (λ (d : ParallelDecoding). ParallelStandsFor d given done) (sym c.self.view_is) stands in
-          subst (λ (w : Windows). AreFirstIn w given (done ++ err.0) ⊎ ((left : ℕ) × AreBlocksIn w given (done ++ err.0) left)) set
-          (elim (err.2 given done stood.reaches) as (λ _. AreFirstIn (windows_of s) given (done ++ err.0) ⊎ ((left : ℕ) × AreBlocksIn (windows_of s) given (done ++ err.0) left)) [
+          subst (λ (w : Windows). AreFirstIn w given (done ++ err.0)
+          ⊎ ((left : ℕ) × AreBlocksIn w given (done ++ err.0) left)) set
+          (elim (err.2 given done stood.reaches) as (λ _. AreFirstIn (windows_of s) given (done ++ err.0)
+          ⊎ ((left : ℕ) × AreBlocksIn (windows_of s) given (done ++ err.0) left)) [
             | inl first ↦ inl (first-in s.seen (windows_of s) given (done ++ err.0) refl first)
             | inr whole ↦ inr (whole.0, blocks-in s.seen (windows_of s) given (done ++ err.0) whole.0 refl whole.1)
           ]),

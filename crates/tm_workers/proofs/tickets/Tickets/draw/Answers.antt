@@ -9,5 +9,6 @@ fetch_add-found-requires c =
       search rules,
       search rules,
       draws t.table.shared.key t.table.shared.table_id.slots s.place.id s.place.me
-          (subst (λ n. n < 4294967296) t.limit_is t.small) (subst (λ n. 0 < n) s.shares_are s.has_some) c.requires.of.limit (sym s.spent_is ∙ c.if-seat.false),
+          (subst (λ n. n < 4294967296) t.limit_is t.small) (subst (λ n. 0 < n) s.shares_are s.has_some)
+          c.requires.of.limit (sym s.spent_is ∙ c.if-seat.false),
     )

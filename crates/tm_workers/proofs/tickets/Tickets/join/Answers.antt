@@ -17,5 +17,9 @@ join_seat-requires c =
 
 pub load-requires : goal.load-requires
 load-requires c =
-    let t = c.args.self.now in
-    (search rules, search rules, counts t.table.shared.key t.table.shared.table_id.slots c.join_seat.new.seat.id c.join_seat.new.seat.me)
+    let t = c.args.self.now in (
+      search rules,
+      search rules,
+      counts t.table.shared.key t.table.shared.table_id.slots c.join_seat.new.seat.id
+          c.join_seat.new.seat.me,
+    )
