@@ -298,7 +298,7 @@ int64_t tmchan_receiver_finish(tmchan_stream *stream, uint8_t *frames, size_t fr
  * octets, one for each bit; none where verify is 0. What it holds at first does not matter. A search may be copied with its room. */
 typedef struct {
     uint64_t is_open, pushed, start, place, after;
-    uint32_t block_bits, word;
+    uint32_t block_bits, received;
     uint8_t tolerance, fly, either, verify, has_before, before_inverted, before_bridged, has_place, distance, bridged, inverted, next_inverted,
         next_bridged;
 } tmchan_search;

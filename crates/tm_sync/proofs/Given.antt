@@ -13,11 +13,11 @@ use Rattle.tm_sync.specs.declared.found.Awaited.{Awaited}
 use Rattle.tm_sync.specs.Places.{Rules, before_next, wrong_bits, match_of, matches_in, are_verified, verified, place_polarity, verify_bits, found_at, place_at, place_by, places, places_from}
 use Rattle.tm_sync.specs.Searching.{Counts, Searching, SearchStandsFor, Remembers, Recalls, IsRun, IsRecent, awaited_at, begun_of, first_place, from_of, place_ahead, inside_ahead, inside_by, inside_of, is_pending, is_right_after, waiting_of, end_of, before_past}
 use Rattle.tm_sync.proofs.Numbers.{value_from, number-value}
-use Rattle.tm_sync.proofs.Sliding.{byte-number, word-push}
+use Rattle.tm_sync.proofs.Sliding.{byte-number, received-push}
 use Rattle.tm_sync.proofs.Steps.{places_from-short, places_from-hit, wrong_bits-append, match_of-append, matches_in-is, are_verified-more, place_polarity-far, place_at-room}
 use Rattle.tm_sync.proofs.Longer.{Seen, none, some, seen, place_by-place}
 use Rattle.tm_sync.proofs.FirstPlaces.{here, hit, first_place-nil, first_place-short, first_place-stays, first_place-right, first_place-settles, first_place-unmatched, first_place-waits, first_place-start, first_place-room, deciding-marker, places_from-ahead, places_from-none, places_from-none_ahead, places_from-whole, places_from-unfinished, not-bridged-here, after-matched}
-use Rattle.tm_sync.proofs.Recent.{recent-inside, recent-from, last-32, word-last}
+use Rattle.tm_sync.proofs.Recent.{recent-inside, recent-from, last-32, received-last}
 use Rattle.tm_sync.proofs.Looks.{none-or}
 use Rattle.tm_sync.proofs.Ends.{end_after, end_after-is, end_after-append, end-there, first-stays, places-after}
 
@@ -31,7 +31,7 @@ pub record Parts (s : Searching) (room : List ℕ) (bits : List Bool) (found : L
   pub start_is : s.start ≡ length prefix
   pub pushed_is : s.pushed ≡ length bits
   pub before_is : s.before ≡ before_past None found
-  pub word_is : s.word ≡ value_from 0 bits % 2 ^ 32
+  pub received_is : s.received ≡ value_from 0 bits % 2 ^ 32
   pub awaited_is : s.awaited ≡ option_map (awaited_at s.before) (first_place s.rules (length prefix) s.before rest)
   pub after_is : IfSome s.awaited (λ m. m.found.place + 32 + s.after ≡ s.pushed)
   pub fresh : IfNone s.awaited (s.after ≡ 0)
@@ -74,7 +74,7 @@ parts_of s room bits found h =
       start_is = ap (λ (v : Searching). v.start) h.search ∙ sym long;
       pushed_is = pushed;
       before_is = before;
-      word_is = ap (λ (v : Searching). v.word) h.search ∙ ap (λ n. n % 2 ^ 32) (number-value bits);
+      received_is = ap (λ (v : Searching). v.received) h.search ∙ ap (λ n. n % 2 ^ 32) (number-value bits);
       awaited_is = awaited ∙ (λ i. option_map (awaited_at (sym before i)) (first i));
       after_is = subst (Ends s) (sym awaited) (ends-at o refl after pushed there);
       fresh = subst (Fresh s) (sym awaited) (fresh-at o after);
@@ -115,7 +115,7 @@ stands_of s room bits found h =
       search = λ i. record {
         rules = s.rules;
         pushed = h.pushed_is i;
-        word = (h.word_is ∙ ap (λ n. n % 2 ^ 32) (sym (number-value bits))) i;
+        received = (h.received_is ∙ ap (λ n. n % 2 ^ 32) (sym (number-value bits))) i;
         start = (h.start_is ∙ sym end) i;
         before = h.before_is i;
         awaited = awaited i;
@@ -136,7 +136,7 @@ stands_of s room bits found h =
 -- ---- a bit is given
 pub record Grows (s s' : Searching) (b : Bool) : Type 0 where
   pub rules : s'.rules ≡ s.rules
-  pub word : s'.word ≡ bit_or (s.word * 2 % 2 ^ 32) (bool_byte b)
+  pub received : s'.received ≡ bit_or (s.received * 2 % 2 ^ 32) (bool_byte b)
   pub pushed : s'.pushed ≡ s.pushed + 1
   pub start : s'.start ≡ s.start
   pub before : s'.before ≡ s.before
@@ -145,7 +145,7 @@ pub record Grows (s s' : Searching) (b : Bool) : Type 0 where
 -- What it is to keep of a place it says there.
 gone_on : (s s' : Searching) (room room' : List ℕ) (more bits : List Bool) (found : List Found)
     (h : Parts s room bits found) → s'.rules ≡ s.rules → s'.pushed ≡ s.pushed + length more
-    → s'.start ≡ s.start → s'.before ≡ s.before → s'.word ≡ value_from 0 (bits ++ more) % 2 ^ 32
+    → s'.start ≡ s.start → s'.before ≡ s.before → s'.received ≡ value_from 0 (bits ++ more) % 2 ^ 32
     → length room' ≡ length room
     → (o : Option Found) → first_place s.rules (length h.prefix) s.before (h.rest ++ more) ≡ o
     → s'.awaited ≡ option_map (awaited_at s.before) o
@@ -153,7 +153,8 @@ gone_on : (s s' : Searching) (room room' : List ℕ) (more bits : List Bool) (fo
     → IsRun s' (bits ++ more) (option_map (awaited_at s.before) o)
     → IsRecent room' (bits ++ more) (from_of s' (option_map (awaited_at s.before) o))
     → SearchStandsFor s' room' (bits ++ more) found
-gone_on s s' room room' more bits found h rules pushed start before word size o ahead awaited after fresh run recent =
+gone_on s s' room room' more bits found h rules pushed start before received size o ahead awaited after fresh run
+    recent =
     stands_of s' room' (bits ++ more) found record {
       prefix = h.prefix;
       rest = h.rest ++ more;
@@ -164,7 +165,7 @@ gone_on s s' room room' more bits found h rules pushed start before word size o 
       start_is = start ∙ h.start_is;
       pushed_is = pushed ∙ ap (λ n. n + length more) h.pushed_is ∙ sym (length-append bits more);
       before_is = before ∙ h.before_is;
-      word_is = word;
+      received_is = received;
       awaited_is = awaited ∙ ap (option_map (awaited_at s.before)) (sym ahead)
           ∙ (λ i. option_map (awaited_at (sym before i))
           (first_place (sym rules i) (length h.prefix) (sym before i) (h.rest ++ more)));
@@ -195,19 +196,20 @@ grown : (s s' : Searching) (room room' : List ℕ) (b : Bool) (bits : List Bool)
     → SearchStandsFor s' room' (bits ++ b ∷ []) found
 grown s s' room room' b bits found h g =
     gone_on s s' room room' (b ∷ []) bits found h g.rules g.pushed g.start g.before
-    (g.word ∙ word-push s.word b bits h.word_is)
+    (g.received ∙ received-push s.received b bits h.received_is)
 
 -- what the fields were is what the search was
 pub counts : (s old s' : Searching) (b : Bool) (byte : ℕ) → old ≡ s → byte ≡ bool_byte b → s.pushed < 2 ^ 63
     → s'.rules ≡ old.rules
-    → s'.word ≡ bit_or (old.word * 2 % 2 ^ 32) byte → s'.pushed ≡ (old.pushed + 1) % 2 ^ 64 → s'.start ≡ old.start
+    → s'.received ≡ bit_or (old.received * 2 % 2 ^ 32) byte → s'.pushed ≡ (old.pushed + 1) % 2 ^ 64
+    → s'.start ≡ old.start
     → s'.before ≡ old.before
     → s'.awaited ≡ old.awaited → s'.after ≡ old.after → Counts s s' b
-counts s old s' b byte same is few rules word pushed start before awaited after =
+counts s old s' b byte same is few rules received pushed start before awaited after =
     let pushed_was : old.pushed ≡ s.pushed = ap (λ (v : Searching). v.pushed) same in
     record {
       rules = rules ∙ ap (λ (v : Searching). v.rules) same;
-      word = word ∙ (λ i. bit_or ((same i).word * 2 % 2 ^ 32) ((is ∙ byte-number b) i));
+      received = received ∙ (λ i. bit_or ((same i).received * 2 % 2 ^ 32) ((is ∙ byte-number b) i));
       pushed = omega arith;
       start = start ∙ ap (λ (v : Searching). v.start) same;
       before = before ∙ ap (λ (v : Searching). v.before) same;
@@ -216,12 +218,12 @@ counts s old s' b byte same is few rules word pushed start before awaited after 
     }
 
 -- a bit that was counted before is given
-pub grows : (s old s' : Searching) (b : Bool) → Counts s old b → s'.rules ≡ old.rules → s'.word ≡ old.word
+pub grows : (s old s' : Searching) (b : Bool) → Counts s old b → s'.rules ≡ old.rules → s'.received ≡ old.received
     → s'.pushed ≡ old.pushed → s'.start ≡ old.start
     → s'.before ≡ old.before → Grows s s' b
-grows s old s' b c rules word pushed start before = record {
+grows s old s' b c rules received pushed start before = record {
   rules = rules ∙ c.rules;
-  word = word ∙ c.word ∙ ap (bit_or (s.word * 2 % 2 ^ 32)) (sym (byte-number b));
+  received = received ∙ c.received ∙ ap (bit_or (s.received * 2 % 2 ^ 32)) (sym (byte-number b));
   pushed = pushed ∙ c.pushed;
   start = start ∙ c.start;
   before = before ∙ c.before;
@@ -287,9 +289,9 @@ push_inside s s' room room' b m g size was free stays more bits found stood =
 pub push_run : (s s' : Searching) (room : List ℕ) (more : List Bool) (m : Awaited) → s.awaited ≡ Some m
     → s'.rules ≡ s.rules → s'.pushed ≡ s.pushed + length more → s'.start ≡ s.start
     → s'.before ≡ s.before → s'.awaited ≡ s.awaited → s'.after ≡ s.after + length more → s'.after ≤ s'.rules.block_bits
-    → (bits : List Bool) (found : List Found) → s'.word ≡ number_of (bits ++ more) % 2 ^ 32
+    → (bits : List Bool) (found : List Found) → s'.received ≡ number_of (bits ++ more) % 2 ^ 32
     → SearchStandsFor s room bits found → SearchStandsFor s' room (bits ++ more) found
-push_run s s' room more m was rules pushed start before stays after few bits found word stood =
+push_run s s' room more m was rules pushed start before stays after few bits found received stood =
     let h = parts_of s room bits found stood in
     let a = ahead-is s room bits found h m was in
     let ends : m.found.place + 32 + s.after ≡ s.pushed = subst (Ends s) was h.after_is in
@@ -298,7 +300,7 @@ push_run s s' room more m was rules pushed start before stays after few bits fou
     let count : s'.pushed ≡ length (bits ++ more) = pushed ∙ ap (λ n. n + length more) h.pushed_is
     ∙ sym (length-append bits more) in
     gone_on s s' room room more bits found h rules pushed start before
-    (word ∙ ap (λ n. n % 2 ^ 32) (number-value (bits ++ more))) refl (Some a.0)
+    (received ∙ ap (λ n. n % 2 ^ 32) (number-value (bits ++ more))) refl (Some a.0)
     (first_place-stays s.rules (length h.prefix) s.before h.rest more a.0 a.1)
     (stays ∙ was ∙ ap Some (sym a.2)) now tt (inl few)
     (recent-inside s' (awaited_at s.before a.0) room (bits ++ more) few count)
@@ -530,7 +532,7 @@ reported-zero s bits rules at before l polarity fresh pushed = go (seen (place_b
 pub reported_right : (s now : Searching) (room room' : List ℕ) (b : Bool) (a : Option Awaited) (bits : List Bool)
     (found : List Found) → Counts s now b → Remembers room room' bits b
     → s.awaited ≡ None → is_right_after (now.pushed - now.start) now.before ≡ true
-    → ((l : List Bool) → length l ≡ 32 → now.word ≡ number_of l
+    → ((l : List Bool) → length l ≡ 32 → now.received ≡ number_of l
     → a ≡ option_map (awaited_at now.before)
     (place_by now.rules (now.pushed - 32) now.before l (match_of now.rules l)))
     → SearchStandsFor s room bits found
@@ -549,12 +551,12 @@ reported_right s now room room' b a bits found c kept was right looks stood =
     let size = r.0 in
     let more = length-append h.rest (b ∷ []) in
     let place : now.pushed - 32 ≡ length h.prefix = omega arith in
-    let word : now.word ≡ number_of l =
-    last-32 now.word h.prefix l size (g.word ∙ word-push s.word b bits h.word_is
+    let received : now.received ≡ number_of l =
+    last-32 now.received h.prefix l size (g.received ∙ received-push s.received b bits h.received_is
     ∙ ap (λ n. n % 2 ^ 32) (sym (number-value (bits ++ b ∷ [])))
     ∙ ap (λ v. number_of v % 2 ^ 32) (ap (λ v. v ++ b ∷ []) h.parts ∙ append_assoc h.prefix h.rest (b ∷ []))) in
     let is : a ≡ option_map (awaited_at s.before) (place_by s.rules (length h.prefix) s.before l (match_of s.rules l)) =
-    looks l size word ∙ (λ i. option_map (awaited_at (c.before i))
+    looks l size received ∙ (λ i. option_map (awaited_at (c.before i))
     (place_by (c.rules i) (place i) (c.before i) l (match_of (c.rules i) l))) in
     reported s s' room room' b bits found h g kept was (place_by s.rules (length h.prefix) s.before l
     (match_of s.rules l)) r.1 is
@@ -565,17 +567,17 @@ pub push_short : (s s' : Searching) (room room' : List ℕ) (more : List Bool) �
     → s'.rules ≡ s.rules → s'.pushed ≡ s.pushed + length more → s'.start ≡ s.start
     → s'.before ≡ s.before → s'.awaited ≡ s.awaited → s'.after ≡ s.after → s'.pushed - s'.start < 32
     → length room' ≡ length room → (bits : List Bool) (found : List Found)
-    → s'.word ≡ number_of (bits ++ more) % 2 ^ 32
+    → s'.received ≡ number_of (bits ++ more) % 2 ^ 32
     → (IsRecent room bits s.start → IsRecent room' (bits ++ more) s.start)
     → SearchStandsFor s room bits found
     → SearchStandsFor s' room' (bits ++ more) found
-push_short s s' room room' more was rules pushed start before stays after few size bits found word kept stood =
+push_short s s' room room' more was rules pushed start before stays after few size bits found received kept stood =
     let h = parts_of s room bits found stood in
     let many = after-is s room bits found h in
     let long = length-append h.rest more in
     let enough = deciding-marker s.rules s.before in
     gone_on s s' room room' more bits found h rules pushed start before
-    (word ∙ ap (λ n. n % 2 ^ 32) (number-value (bits ++ more))) size None
+    (received ∙ ap (λ n. n % 2 ^ 32) (number-value (bits ++ more))) size None
     (first_place-short s.rules (length h.prefix) s.before (h.rest ++ more) (omega arith))
     (stays ∙ was) tt (after ∙ subst (Fresh s) was h.fresh) tt
     (subst (IsRecent room' (bits ++ more)) (sym start)
@@ -590,7 +592,7 @@ short-bit s now room room' b bits found c kept was few stood =
     let g : Grows s now b = grows s now now b c refl refl refl refl refl in
     push_short s now room room' (b ∷ []) was c.rules c.pushed c.start c.before c.awaited c.after few
     kept.sized bits found
-    (g.word ∙ word-push s.word b bits h.word_is
+    (g.received ∙ received-push s.received b bits h.received_is
     ∙ ap (λ n. n % 2 ^ 32) (sym (number-value (bits ++ b ∷ [])))) (kept.recent s.start) stood
 
 pub reported_waits : (s now : Searching) (room room' : List ℕ) (b : Bool) (bits : List Bool) (found : List Found)
@@ -643,7 +645,8 @@ reported_verified s now room room' b a n bits found c kept was right enough take
     let is : a ≡ option_map (awaited_at s.before) (here s.rules (prefix_of s.rules all) None (back_of s.rules all)) =
     looks s'.start (record {
       pushed = count;
-      word = g.word ∙ word-push s.word b bits h.word_is ∙ ap (λ k. k % 2 ^ 32) (sym (number-value all));
+      received =
+          g.received ∙ received-push s.received b bits h.received_is ∙ ap (λ k. k % 2 ^ 32) (sym (number-value all));
       sized = kept.sized ∙ h.sized ∙ sym lag;
       recent = recent-start s s' room room' b bits found h was g.start kept;
     }) (omega arith)
@@ -681,7 +684,7 @@ reported_verified s now room room' b a n bits found c kept was right enough take
 pub push_far : (s s' : Searching) (room room' : List ℕ) (b : Bool) (bits : List Bool) (found : List Found)
     → Grows s s' b → Remembers room room' bits b
     → s.awaited ≡ None → s'.awaited ≡ None → s'.after ≡ s.after → s'.start + 32 < s'.pushed
-    → ((l : List Bool) → length l ≡ 32 → s'.word ≡ number_of l → match_of s.rules l ≡ None)
+    → ((l : List Bool) → length l ≡ 32 → s'.received ≡ number_of l → match_of s.rules l ≡ None)
     → SearchStandsFor s room bits found → SearchStandsFor s' room' (bits ++ b ∷ []) found
 push_far s s' room room' b bits found g kept was free same enough far stood =
     let h = parts_of s room bits found stood in
@@ -708,19 +711,19 @@ push_far s s' room room' b bits found g kept was free same enough far stood =
         let room_for = v.1 in
         let last : prefix_of s.rules all + verify_bits s.rules ≡ length all - 32 = omega arith in
         let left = length-drop (length all - 32) all in
-        let word : s'.word ≡ number_of all % 2 ^ 32 = g.word ∙ word-push s.word b bits h.word_is
+        let received : s'.received ≡ number_of all % 2 ^ 32 = g.received ∙ received-push s.received b bits h.received_is
         ∙ ap (λ k. k % 2 ^ 32) (sym (number-value all)) in
         let no : match_of s.rules (drop (verify_bits s.rules) (back_of s.rules all)) ≡ None =
         ap (match_of s.rules) (drop-drop (verify_bits s.rules) (prefix_of s.rules all) all ∙ ap (λ k. drop k all) last)
-        ∙ far (drop (length all - 32) all) (omega arith) (word-last s'.word all (omega arith) word) in
+        ∙ far (drop (length all - 32) all) (omega arith) (received-last s'.received all (omega arith) received) in
         v.2 ∙ ap (place_by s.rules (prefix_of s.rules all) None (back_of s.rules all))
         (place_polarity-far s.rules (back_of s.rules all) no)
 
 -- ---- places are reported
 pub stands_first : (s : Searching) (room : List ℕ) → length room ≡ verify_bits s.rules → s.pushed ≡ 0 → s.start ≡ 0
-    → s.word ≡ 0 → s.before ≡ None → s.awaited ≡ None → s.after ≡ 0
+    → s.received ≡ 0 → s.before ≡ None → s.awaited ≡ None → s.after ≡ 0
     → SearchStandsFor s room [] []
-stands_first s room size pushed start word before free fresh = stands_of s room [] [] record {
+stands_first s room size pushed start received before free fresh = stands_of s room [] [] record {
   prefix = [];
   rest = [];
   parts = refl;
@@ -729,7 +732,7 @@ stands_first s room size pushed start word before free fresh = stands_of s room 
   start_is = start;
   pushed_is = pushed;
   before_is = before;
-  word_is = word;
+  received_is = received;
   awaited_is = free ∙ ap (option_map (awaited_at s.before)) (sym (first_place-nil s.rules 0 s.before));
   after_is = subst (Ends s) (sym free) tt;
   fresh = subst (Fresh s) (sym free) fresh;
@@ -1012,7 +1015,7 @@ reported-of s room bits found h m was pending =
 pub record HasReported (s s' : Searching) (m : Awaited) : Type 0 where
   pub awaited_was : s.awaited ≡ Some m
   pub rules : s'.rules ≡ s.rules
-  pub word : s'.word ≡ s.word
+  pub received : s'.received ≡ s.received
   pub pushed : s'.pushed ≡ s.pushed
   pub start : s'.start ≡ m.found.place + 32 + s.rules.block_bits
   pub before : s'.before ≡ Some m.next
@@ -1083,7 +1086,7 @@ gives s s' room m bits found h reported t awaited ends fresh run recent many =
         start_is = t.start ∙ sym size;
         pushed_is = t.pushed ∙ h.pushed_is;
         before_is = t.before ∙ ap Some (sym reported.next) ∙ sym (before-last found m.found None);
-        word_is = t.word ∙ h.word_is;
+        received_is = t.received ∙ h.received_is;
         awaited_is =
             awaited ∙ ap (λ n. option_map (awaited_at s'.before) (first_place s'.rules n s'.before (drop e bits)))
             (sym size);
@@ -1163,11 +1166,11 @@ reported-recent s room count bits found rest f is more stood tells = go s.awaite
 
 -- the search goes on from a state with the same bits
 pub recalls-same : (s now : Searching) (room : List ℕ) (bits : List Bool) (from : ℕ) → now.pushed ≡ s.pushed
-    → now.word ≡ s.word → now.rules ≡ s.rules → Recalls s room bits from → Recalls now room bits from
-recalls-same s now room bits from pushed word rules r =
+    → now.received ≡ s.received → now.rules ≡ s.rules → Recalls s room bits from → Recalls now room bits from
+recalls-same s now room bits from pushed received rules r =
     record {
       pushed = pushed ∙ r.pushed;
-      word = word ∙ r.word;
+      received = received ∙ r.received;
       sized = r.sized ∙ ap verify_bits (sym rules);
       recent = r.recent;
     }
@@ -1179,17 +1182,17 @@ most-after zero size after more most full left = absurd (omega arith)
 most-after (suc count) size after more most full left = omega arith
 
 -- codeblocks follow it that were verified with it
-pub reported_next : (s s' : Searching) (room : List ℕ) (m a : Awaited) (word : ℕ) → is_pending s ≡ true
+pub reported_next : (s s' : Searching) (room : List ℕ) (m a : Awaited) (received : ℕ) → is_pending s ≡ true
     → HasReported s s' m → s.after ≤ inside_by s.rules.verify s.rules.block_bits
     → 32 ≤ s.after - s.rules.block_bits → s'.awaited ≡ Some a → s'.after ≡ s.after - s.rules.block_bits - 32
     → (bits : List Bool) (found : List Found)
     → ((from : ℕ) → Recalls s room bits from → (s'.after ≡ 0) ⊎ ((32 ≤ s'.after) × (s'.after ≤ verify_bits s.rules))
     → from + 32 + s'.after ≤ length bits
-    → word ≡ number_of (take 32 (drop (length bits - (32 + s'.after)) bits)))
-    → ((l : List Bool) → length l ≡ 32 → word ≡ number_of l
+    → received ≡ number_of (take 32 (drop (length bits - (32 + s'.after)) bits)))
+    → ((l : List Bool) → length l ≡ 32 → received ≡ number_of l
     → a ≡ awaited_at s'.before (found_at s'.start false m.found.inverted l))
     → SearchStandsFor s room bits found → Gives s s' room bits found m.found
-reported_next s s' room m a word pending t most long awaits after bits found words matches stood =
+reported_next s s' room m a received pending t most long awaits after bits found received_all matches stood =
     let h = parts_of s room bits found stood in
     let reported = reported-of s room bits found h m t.awaited_was pending in
     go h reported reported.left.size reported.left.run
@@ -1224,10 +1227,10 @@ reported_next s s' room m a word pending t most long awaits after bits found wor
         ∙ ap (λ c. cond c s.pushed m.found.place) more in
         let recent : IsRecent room bits m.found.place = subst (IsRecent room bits) from h.recent in
         let size-l : length l ≡ 32 = length-take-le 32 left (omega arith) in
-        let word_is : word ≡ number_of l =
-        words m.found.place (record {
+        let received_is : received ≡ number_of l =
+        received_all m.found.place (record {
           pushed = h.pushed_is;
-          word = h.word_is
+          received = h.received_is
               ∙ ap (λ n. n % 2 ^ 32) (sym (number-value bits));
           sized = h.sized;
           recent = recent;
@@ -1236,7 +1239,8 @@ reported_next s s' room m a word pending t most long awaits after bits found wor
         let same : wrong_bits m.found.inverted left ≡ wrong_bits m.found.inverted l =
         ap (wrong_bits m.found.inverted) (sym (take-append-drop 32 left))
         ∙ wrong_bits-append m.found.inverted l (drop 32 left) (omega arith) in
-        let a_is : a ≡ awaited_at s'.before (found_at s'.start false m.found.inverted l) = matches l size-l word_is in
+        let a_is : a ≡ awaited_at s'.before (found_at s'.start false m.found.inverted l) =
+            matches l size-l received_is in
         let ahead : first_place s'.rules e s'.before left ≡ Some (found_at s'.start false m.found.inverted l) =
         (λ i. first_place (t.rules i) e (t.before i) left)
         ∙ first-here s.rules e m.next left (found_at e false m.found.inverted left) (omega arith)

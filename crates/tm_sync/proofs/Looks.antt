@@ -10,39 +10,39 @@ use Rattle.tm_sync.specs.declared.found.Awaited.{Awaited}
 use Rattle.tm_sync.specs.Places.{Rules, match_of, matches_in, are_verified, verified, verify_bits, found_at, place_by}
 use Rattle.tm_sync.specs.Searching.{Searching, Recalls, awaited_at}
 use Rattle.tm_sync.proofs.Numbers.{value_from, value-lt, number-value}
-use Rattle.tm_sync.proofs.Sliding.{byte-number, word-push}
+use Rattle.tm_sync.proofs.Sliding.{byte-number, received-push}
 use Rattle.tm_sync.proofs.Steps.{match_of-append, are_verified-more}
 use Rattle.tm_sync.proofs.Longer.{place_by-append}
 use Rattle.tm_sync.proofs.FirstPlaces.{here}
-use Rattle.tm_sync.proofs.Recent.{word-last}
+use Rattle.tm_sync.proofs.Recent.{received-last}
 
--- ---- the word that ends so many bits before the last
+-- ---- the 32 bits that end so many bits before the last
 -- the last 32 bits
-pub word-now : (s : Searching) (room : List ℕ) (bits : List Bool) (from back : ℕ) → Recalls s room bits from
+pub received-now : (s : Searching) (room : List ℕ) (bits : List Bool) (from back : ℕ) → Recalls s room bits from
     → back ≡ 0 → from + 32 + back ≤ length bits
-    → s.word ≡ number_of (take 32 (drop (length bits - (32 + back)) bits))
-word-now s room bits from back r none there =
+    → s.received ≡ number_of (take 32 (drop (length bits - (32 + back)) bits))
+received-now s room bits from back r none there =
     let left = length-drop (length bits - 32) bits in
     let at : length bits - 32 ≡ length bits - (32 + back) = omega arith in
-    word-last s.word bits (omega arith) r.word ∙ ap number_of
+    received-last s.received bits (omega arith) r.received ∙ ap number_of
     (sym (take_all 32 (drop (length bits - 32) bits) (omega arith)))
     ∙ ap (λ n. number_of (take 32 (drop n bits))) at
 
 -- where the room is empty no bits are looked back
-pub word-empty : (s : Searching) (room : List ℕ) (bits : List Bool) (from back : ℕ) → Recalls s room bits from
+pub received-empty : (s : Searching) (room : List ℕ) (bits : List Bool) (from back : ℕ) → Recalls s room bits from
     → length room ≡ 0
     → (back ≡ 0) ⊎ ((32 ≤ back) × (back ≤ verify_bits s.rules)) → back ≡ 0
-word-empty s room bits from back r empty (inl none) = none
-word-empty s room bits from back r empty (inr (long, few)) = let size = r.sized in absurd (omega arith)
+received-empty s room bits from back r empty (inl none) = none
+received-empty s room bits from back r empty (inr (long, few)) = let size = r.sized in absurd (omega arith)
 
 -- one bit more is read from the room
-pub word-more : (s : Searching) (room : List ℕ) (bits : List Bool) (from back k at word : ℕ)
+pub received-more : (s : Searching) (room : List ℕ) (bits : List Bool) (from back k at received : ℕ)
     → Recalls s room bits from → 32 ≤ back → back ≤ verify_bits s.rules → from + 32 + back ≤ length bits
     → k < 32 → at ≡ (length bits - (32 + back) + k) % length room
-    → word ≡ value_from 0 (take k (drop (length bits - (32 + back)) bits)) % 2 ^ 32
-    → bit_or (word * 2 % 2 ^ 32) (get_or room at 0) ≡ value_from 0
+    → received ≡ value_from 0 (take k (drop (length bits - (32 + back)) bits)) % 2 ^ 32
+    → bit_or (received * 2 % 2 ^ 32) (get_or room at 0) ≡ value_from 0
     (take (k + 1) (drop (length bits - (32 + back)) bits)) % 2 ^ 32
-word-more s room bits from back k at word r long few there below at_is is =
+received-more s room bits from back k at received r long few there below at_is is =
     let n : ℕ = length bits - (32 + back) in
     let size = r.sized in
     let left = length-drop n bits in
@@ -53,20 +53,20 @@ word-more s room bits from back k at word r long few there below at_is is =
     let next : take (k + 1) (drop n bits) ≡ take k (drop n bits) ++ b ∷ [] =
     take_more (drop n bits) k false (omega arith) ∙ ap (λ (x : Bool). take k (drop n bits) ++ x ∷ [])
     (get_or-drop n bits k false) in
-    ap (bit_or (word * 2 % 2 ^ 32)) held ∙ word-push word b (take k (drop n bits)) is
+    ap (bit_or (received * 2 % 2 ^ 32)) held ∙ received-push received b (take k (drop n bits)) is
     ∙ ap (λ l. value_from 0 l % 2 ^ 32) (sym next)
 
 -- and so 32 are
-pub word-whole : (word k : ℕ) (l : List Bool) → 32 ≤ k → k ≤ 32 → 32 ≤ length l
-    → word ≡ value_from 0 (take k l) % 2 ^ 32 → word ≡ number_of (take 32 l)
-word-whole word k l enough most long is =
+pub received-whole : (received k : ℕ) (l : List Bool) → 32 ≤ k → k ≤ 32 → 32 ≤ length l
+    → received ≡ value_from 0 (take k l) % 2 ^ 32 → received ≡ number_of (take 32 l)
+received-whole received k l enough most long is =
     let all : k ≡ 32 = omega arith in
     let size : length (take 32 l) ≡ 32 = length-take-le 32 l long in
     let p : 2 ^ length (take 32 l) ≡ 4294967296 = ap (λ n. 2 ^ n) size in
     let small : value_from 0 (take 32 l) < 4294967296 = subst (λ n. value_from 0 (take 32 l) < n) p
     (value-lt (take 32 l)) in
-    let here : word ≡ value_from 0 (take 32 l) % 2 ^ 32 = is ∙ ap (λ n. value_from 0 (take n l) % 2 ^ 32) all in
-    let same : word ≡ value_from 0 (take 32 l) = omega arith in
+    let here : received ≡ value_from 0 (take 32 l) % 2 ^ 32 = is ∙ ap (λ n. value_from 0 (take n l) % 2 ^ 32) all in
+    let same : received ≡ value_from 0 (take 32 l) = omega arith in
     same ∙ sym (number-value (take 32 l))
 
 pub zero-from-test : (n : ℕ) → (n == 0) ≡ true → n ≡ 0
@@ -100,9 +100,9 @@ polarity-test true false c is = is
 polarity-test false true c is = is
 polarity-test false false c is = is
 
-pub match-word : (rules : Rules) (bits : List Bool) → 32 ≤ length bits
+pub match-received : (rules : Rules) (bits : List Bool) → 32 ≤ length bits
     → match_of rules (take 32 bits) ≡ match_of rules bits
-match-word rules bits long =
+match-received rules bits long =
     let size : length (take 32 bits) ≡ 32 = length-take-le 32 bits long in
     sym (ap (match_of rules) (sym (take-append-drop 32 bits))
     ∙ match_of-append rules (take 32 bits) (drop 32 bits) (omega arith))
@@ -138,7 +138,7 @@ pub kept-here : (rules : Rules) (at : ℕ) (bits : List Bool) (o : Option Awaite
     → kept rules bits o ≡ option_map (awaited_at None) (here rules at None bits)
 kept-here rules at bits o long is =
     ap (kept rules bits) (is ∙ ap (option_map (awaited_at None))
-    (ap (place_by rules at None (take 32 bits)) (match-word rules bits long) ∙ same (match_of rules bits)))
+    (ap (place_by rules at None (take 32 bits)) (match-received rules bits long) ∙ same (match_of rules bits)))
     ∙ go (match_of rules bits)
   where
     size : length (take 32 bits) ≡ 32

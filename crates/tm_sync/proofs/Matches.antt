@@ -16,9 +16,9 @@ whole : (bits : List Bool) → length bits ≡ 32 → wrong_bits false bits ≡ 
 unfolding wrong_bits
 whole bits long = ap (λ l. differences l marker_bits) (take_all 32 bits (omega arith))
 
-pub wrong-upright : (word : ℕ) (bits : List Bool) → length bits ≡ 32 → word ≡ number_of bits
-    → count_ones (bit_xor word 0x1ACFFC1D) ≡ wrong_bits false bits
-wrong-upright word bits long is =
+pub wrong-upright : (received : ℕ) (bits : List Bool) → length bits ≡ 32 → received ≡ number_of bits
+    → count_ones (bit_xor received 0x1ACFFC1D) ≡ wrong_bits false bits
+wrong-upright received bits long is =
     ap (λ w. count_ones (bit_xor w 0x1ACFFC1D)) (is ∙ number-value bits) ∙ ones-marker bits long
     ∙ sym (whole bits long)
 

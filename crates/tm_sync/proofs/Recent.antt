@@ -1,4 +1,4 @@
--- What the room holds of the bits, and the words that it and the last 32 bits give.
+-- What the room holds of the bits, and the numbers that it and the last 32 bits give.
 use Rattle.std.proofs.Common.{◌≡◌, ℕ, suc, ◌+◌, ◌-◌, ◌*◌, ◌/◌, ◌%◌, ◌^◌, ◌<◌, ◌≤◌, ◌==◌, Bool, true, false, cond, nat_le, List, [], ◌∷◌, ◌++◌, length, take, drop, get_or, sym, ap, ◌∙◌, subst, arith, Some, length-drop}
 use Rattle.std.proofs.lemmas.List.{take-append-drop, get_or-drop}
 use Rattle.std.proofs.lemmas.Bool.Decides.{nat_tests}
@@ -39,9 +39,9 @@ pub last-32 : (w : ℕ) (prefix last : List Bool) → length last ≡ 32 → w �
 last-32 w prefix last size e =
     e ∙ ap (λ n. n % 2 ^ 32) (number-value (prefix ++ last)) ∙ value-last prefix last size ∙ sym (number-value last)
 
-pub word-last : (w : ℕ) (bits : List Bool) → 32 ≤ length bits → w ≡ number_of bits % 2 ^ 32
+pub received-last : (w : ℕ) (bits : List Bool) → 32 ≤ length bits → w ≡ number_of bits % 2 ^ 32
     → w ≡ number_of (drop (length bits - 32) bits)
-word-last w bits long e =
+received-last w bits long e =
     let left = length-drop (length bits - 32) bits in
     last-32 w (take (length bits - 32) bits) (drop (length bits - 32) bits) (omega arith)
     (e ∙ ap (λ l. number_of l % 2 ^ 32) (sym (take-append-drop (length bits - 32) bits)))
@@ -71,6 +71,6 @@ pub top-bit : (w : ℕ) (bits : List Bool) → w ≡ number_of bits % 2 ^ 32 →
 top-bit w bits e long =
     let left = length-drop (length bits - 32) bits in
     let here : length bits - 32 + 0 ≡ length bits - 32 = omega arith in
-    ap (λ n. n / 2 ^ 31 == 1) (word-last w bits long e ∙ number-value (drop (length bits - 32) bits))
+    ap (λ n. n / 2 ^ 31 == 1) (received-last w bits long e ∙ number-value (drop (length bits - 32) bits))
     ∙ top-of (drop (length bits - 32) bits) (omega arith)
     ∙ get_or-drop (length bits - 32) bits 0 false ∙ ap (λ n. get_or bits n false) here

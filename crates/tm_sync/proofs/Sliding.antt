@@ -1,4 +1,4 @@
--- The word that slides over the bits.
+-- The number that the last 32 bits are, as bits are taken.
 use Rattle.std.proofs.Common.{◌≡◌, ℕ, zero, suc, ◌+◌, ◌-◌, ◌*◌, ◌/◌, ◌%◌, ◌^◌, ◌<◌, ◌≤◌, ◌==◌, Bool, true, false, List, [], ◌∷◌, ◌++◌, refl, sym, ap, ◌∙◌, arith, lit<, bit_and, bit_or, append_assoc}
 use mir.Val.{bool_byte}
 use Rattle.std.proofs.lemmas.Nat.{or_block, and_mask}
@@ -25,9 +25,9 @@ slides w d small =
     ∙ (λ i. or_zero_r a i * 2 ^ 1 + or_zero_l d i) in
     parts ∙ ap (λ n. n + d) (omega arith)
 
-pub word-push : (w : ℕ) (b : Bool) (bits : List Bool) → w ≡ value_from 0 bits % 2 ^ 32
+pub received-push : (w : ℕ) (b : Bool) (bits : List Bool) → w ≡ value_from 0 bits % 2 ^ 32
     → bit_or (w * 2 % 2 ^ 32) (bool_byte b) ≡ value_from 0 (bits ++ b ∷ []) % 2 ^ 32
-word-push w b bits e =
+received-push w b bits e =
     let v : ℕ = value_from 0 bits in
     let d : ℕ = bit_number b in
     let byte : bool_byte b ≡ d = byte-number b in
@@ -45,9 +45,9 @@ slides-octet w x small =
     ∙ (λ i. or_zero_r a i * 2 ^ 8 + or_zero_l x i) in
     parts ∙ ap (λ n. n + x) (omega arith)
 
-pub word-octet : (w x : ℕ) (bits : List Bool) → x < 256 → w ≡ number_of bits % 2 ^ 32
+pub received-octet : (w x : ℕ) (bits : List Bool) → x < 256 → w ≡ number_of bits % 2 ^ 32
     → bit_or (w * 256 % 2 ^ 32) x ≡ number_of (bits ++ bits_of_octet x) % 2 ^ 32
-word-octet w x bits small e =
+received-octet w x bits small e =
     let v : ℕ = number_of bits in
     let w_is : w ≡ v % 2 ^ 32 = e in
     let eight : value_from v (bits_of_octet x) ≡ v * 2 ^ 8 + x =
@@ -58,11 +58,11 @@ word-octet w x bits small e =
     ∙ ap (λ n. value_from n (bits_of_octet x)) (sym (number-value bits)) ∙ eight in
     slides-octet w x small ∙ rw longer (omega arith)
 
--- the word of the bits up to the last ones, so many, when one more of them is taken
-pub word-window : (w x left : ℕ) → 0 < left → left ≤ 8 → x < 256
+-- the received bits up to the last ones, so many, when one more of them is taken
+pub received-window : (w x left : ℕ) → 0 < left → left ≤ 8 → x < 256
     → (w * 256 + x) / 2 ^ (left - 1) % 2 ^ 32
     ≡ bit_or ((w * 256 + x) / 2 ^ left % 2 ^ 32 * 2 % 2 ^ 32) (bool_byte (x / 2 ^ (left - 1) % 2 == 1))
-word-window w x left some most small =
+received-window w x left some most small =
     let v : ℕ = (w * 256 + x) / 2 ^ left % 2 ^ 32 in
     let b : Bool = x / 2 ^ (left - 1) % 2 == 1 in
     go left some most ∙ ap (λ n. v * 2 % 2 ^ 32 + n) (sym (parity (x / 2 ^ (left - 1) % 2) (omega arith)))

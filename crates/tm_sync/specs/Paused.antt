@@ -15,7 +15,7 @@ resumed p = record {
     verify = p.verify;
   };
   pushed = p.pushed;
-  word = p.word;
+  received = p.received;
   start = p.start;
   before = p.before;
   awaited = p.awaited;

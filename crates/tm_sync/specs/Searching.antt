@@ -15,7 +15,7 @@ pub record Searching : Type 0 where
   -- the bits given
   pub pushed : ℕ
   -- the number that the last 32 of them are
-  pub word : ℕ
+  pub received : ℕ
   -- the bits before the end of the last codeblock found, and what stands there
   pub start : ℕ
   pub before : Option Before
@@ -107,7 +107,7 @@ abbrev pub search_of : Rules → List Bool → List Found → Searching
 search_of rules bits found = record {
   rules = rules;
   pushed = length bits;
-  word = number_of bits % 2 ^ marker_size;
+  received = number_of bits % 2 ^ marker_size;
   start = end_of rules found;
   before = before_past None found;
   awaited = option_map (awaited_at (before_past None found)) (place_ahead rules bits found);
@@ -143,7 +143,7 @@ pub record Remembers (room room' : List ℕ) (bits : List Bool) (bit : Bool) : T
 -- It was given these bits, and can look at those from one on again.
 pub record Recalls (s : Searching) (room : List ℕ) (bits : List Bool) (from : ℕ) : Type 0 where
   pub pushed : s.pushed ≡ length bits
-  pub word : s.word ≡ number_of bits % 2 ^ marker_size
+  pub received : s.received ≡ number_of bits % 2 ^ marker_size
   pub sized : length room ≡ verify_bits s.rules
   pub recent : IsRecent room bits from
 
@@ -160,7 +160,7 @@ pub record SearchStandsFor (s : Searching) (room : List ℕ) (bits : List Bool)
 -- It has counted one bit more, which is now the last of the 32, and has not looked at it.
 pub record Counts (s s' : Searching) (bit : Bool) : Type 0 where
   pub rules : s'.rules ≡ s.rules
-  pub word : s'.word ≡ bit_or (s.word * 2 % 2 ^ marker_size) (bit_number bit)
+  pub received : s'.received ≡ bit_or (s.received * 2 % 2 ^ marker_size) (bit_number bit)
   pub pushed : s'.pushed ≡ s.pushed + 1
   pub start : s'.start ≡ s.start
   pub before : s'.before ≡ s.before

@@ -48,7 +48,7 @@ pub struct Paused {
     pub block_bits: u32,
     pub verify: u8,
     /// The last 32 bits.
-    pub word: u32,
+    pub received: u32,
     /// How many bits were given, and how many of them stand before the end of the last codeblock found.
     pub pushed: u64,
     pub start: u64,

@@ -26,7 +26,7 @@ pub struct Search {
     block_bits: u32,
     verify: u8,
     // The last 32 bits.
-    word: u32,
+    received: u32,
     // The bits given, and those before the end of the last codeblock found.
     pushed: u64,
     start: u64,
@@ -57,7 +57,7 @@ impl Model for Search {
         verify = s.verify;
       };
       pushed = s.pushed;
-      word = s.word;
+      received = s.received;
       start = s.start;
       before = s.before;
       awaited = s.awaited;
@@ -95,7 +95,7 @@ impl Search {
             either,
             block_bits,
             verify,
-            word: 0,
+            received: 0,
             pushed: 0,
             start: 0,
             before: None,
@@ -132,7 +132,7 @@ impl Search {
             either: paused.either,
             block_bits: paused.block_bits,
             verify: paused.verify,
-            word: paused.word,
+            received: paused.received,
             pushed: paused.pushed,
             start: paused.start,
             before: paused.before,
@@ -154,7 +154,7 @@ impl Search {
             either: self.either,
             block_bits: self.block_bits,
             verify: self.verify,
-            word: self.word,
+            received: self.received,
             pushed: self.pushed,
             start: self.start,
             before: self.before,
@@ -179,10 +179,10 @@ impl Search {
             → SearchStandsFor self.old room.old bits found
             → SearchStandsFor self.new room.new (bits ++ bit ∷ []) found }
     {
-        remember(room, self.pushed, self.word >> 31 == 1);
-        self.word = (self.word << 1) | u32::from(bit);
+        remember(room, self.pushed, self.received >> 31 == 1);
+        self.received = (self.received << 1) | u32::from(bit);
         self.pushed = self.pushed.wrapping_add(1);
-        if self.pushed != 0 && is_far(self.word, self.too_many, self.far) {
+        if self.pushed != 0 && is_far(self.received, self.too_many, self.far) {
             return;
         }
         self.far = 0;
@@ -225,7 +225,7 @@ impl Search {
             → SearchStandsFor self.old room bits found
             → SearchStandsFor self.new room (bits ++ bits_of octets.now) found }
     {
-        self.word = last_bits(self.word, octets);
+        self.received = last_bits(self.received, octets);
         let count = 8 * octets.len() as u64;
         self.pushed = self.pushed.wrapping_add(count);
         self.after += count;
@@ -268,14 +268,14 @@ impl Search {
     {
         let since = self.pushed.wrapping_sub(self.start);
         if since < 24 {
-            self.word = last_bits(self.word, &[octet]);
+            self.received = last_bits(self.received, &[octet]);
             self.pushed = self.pushed.wrapping_add(8);
             return true;
         }
         if self.pushed > u64::MAX - 8 {
             return false;
         }
-        let both = u64::from(self.word) * 256 + u64::from(octet);
+        let both = u64::from(self.received) * 256 + u64::from(octet);
         let mut left: u32 = 8;
         while left > 0 {
             left -= 1;
@@ -283,7 +283,7 @@ impl Search {
                 return false;
             }
         }
-        self.word = window(both, 0);
+        self.received = window(both, 0);
         self.pushed += 8;
         true
     }
@@ -337,7 +337,7 @@ impl Search {
         if right_after(since, self.before) {
             return (
                 place_of(
-                    self.word,
+                    self.received,
                     self.pushed.wrapping_sub(32),
                     self.before,
                     self.tolerance,
@@ -366,9 +366,9 @@ impl Search {
             (drop (length bits - (marker_size + lag)) bits)
             (place_polarity self.now.rules None (drop (length bits - (marker_size + lag)) bits))) }
     {
-        let word = self.word_at(room, lag);
+        let received = self.received_at(room, lag);
         let place = self.pushed.wrapping_sub(32 + lag);
-        match place_of(word, place, None, self.tolerance, self.fly, self.either) {
+        match place_of(received, place, None, self.tolerance, self.fly, self.either) {
             Some(awaited) if self.is_verified(room, awaited.found.inverted) => Some(awaited),
             _ => None,
         }
@@ -384,8 +384,8 @@ impl Search {
         let mut left = self.verify;
         while left > 0 {
             left -= 1;
-            let word = self.word_at(room, verified_by(left, self.block_bits));
-            match polarity_of(wrong_count(word), self.tolerance, self.either) {
+            let received = self.received_at(room, verified_by(left, self.block_bits));
+            match polarity_of(wrong_count(received), self.tolerance, self.either) {
                 Some(polarity) if polarity == inverted => {}
                 _ => return false,
             }
@@ -395,22 +395,22 @@ impl Search {
 
     // The 32 bits that end `back` bits before the last: the last 32, or bits of the room.
     #[inline(never)]
-    fn word_at(&self, room: &[u8], back: u64) -> u32
+    fn received_at(&self, room: &[u8], back: u64) -> u32
         ensures { (bits : List Bool) (from : ℕ) → Recalls self.now room.now bits from
             → (back ≡ 0) ⊎ ((marker_size ≤ back) × (back ≤ verify_bits self.now.rules))
             → from + marker_size + back ≤ length bits
             → result ≡ number_of (take marker_size (drop (length bits - (marker_size + back)) bits)) }
     {
         if back == 0 || room.is_empty() {
-            return self.word;
+            return self.received;
         }
         let first = self.pushed.wrapping_sub(32).wrapping_sub(back);
-        let mut word: u32 = 0;
+        let mut received: u32 = 0;
         for k in 0..32u64 {
             let at = first.wrapping_add(k) % room.len() as u64;
-            word = (word << 1) | u32::from(room[at as usize]);
+            received = (received << 1) | u32::from(room[at as usize]);
         }
-        word
+        received
     }
 
     /// How many bits were given after the marker of the first place after the last codeblock found, upright, inverted
@@ -472,8 +472,8 @@ impl Search {
                     self.after = 0;
                     return Some(awaited.found);
                 }
-                let word = self.word_at(room, left - 32);
-                self.awaited = Some(matched(word, self.start, awaited.found.inverted));
+                let received = self.received_at(room, left - 32);
+                self.awaited = Some(matched(received, self.start, awaited.found.inverted));
                 self.after = left - 32;
                 Some(awaited.found)
             }
@@ -525,12 +525,12 @@ fn remember(room: &mut [u8], pushed: u64, oldest: bool)
     }
 }
 
-// The last 32 bits, where they were `word` before these octets.
-fn last_bits(word: u32, octets: &[u8]) -> u32
-    ensures { (bits : List Bool) → word ≡ number_of bits % 2 ^ marker_size
+// The last 32 bits, where they were `received` before these octets.
+fn last_bits(received: u32, octets: &[u8]) -> u32
+    ensures { (bits : List Bool) → received ≡ number_of bits % 2 ^ marker_size
         → result ≡ number_of (bits ++ bits_of octets.now) % 2 ^ marker_size }
 {
-    let mut last = word;
+    let mut last = received;
     for octet in octets {
         last = (last << 8) | u32::from(*octet);
     }
@@ -561,12 +561,12 @@ fn far_while(awaited: Option<Awaited>, start: u64, pushed: u64, tolerance: u8, e
 }
 
 // Whether the last 32 bits match in no way.
-fn is_far(word: u32, too_many: u8, far: u8) -> bool
+fn is_far(received: u32, too_many: u8, far: u8) -> bool
     ensures { IsTrue result → (0 < far) × ((rules : Rules) (bits : List Bool) → rules.tolerance ≤ most_tolerance
         → too_many ≡ rules.tolerance + 1 → far ≡ far_count rules.tolerance rules.either → length bits ≡ marker_size
-        → word ≡ number_of bits → match_of rules bits ≡ None) }
+        → received ≡ number_of bits → match_of rules bits ≡ None) }
 {
-    wrong_count(word).wrapping_sub(too_many) < far
+    wrong_count(received).wrapping_sub(too_many) < far
 }
 
 // Whether the last 32 bits directly follow a codeblock, where `since` bits were given after its end.
@@ -580,12 +580,12 @@ fn right_after(since: u64, before: Option<Before>) -> bool
 }
 
 // The number of the last 32 bits that differ from the marker.
-fn wrong_count(word: u32) -> u8
+fn wrong_count(received: u32) -> u8
     ensures few { result ≤ marker_size }
-    ensures upright { (bits : List Bool) → length bits ≡ marker_size → word ≡ number_of bits
+    ensures upright { (bits : List Bool) → length bits ≡ marker_size → received ≡ number_of bits
         → result ≡ wrong_bits false bits }
 {
-    (word ^ u32::from_be_bytes(MARKER)).count_ones() as u8
+    (received ^ u32::from_be_bytes(MARKER)).count_ones() as u8
 }
 
 // The polarity in which 32 bits match of which `wrong` differ from the marker.
@@ -615,15 +615,15 @@ fn distance_of(wrong: u8, inverted: bool) -> u8
     if inverted { 32 - wrong } else { wrong }
 }
 
-// The place after `place` bits whose 32 bits are `word`, which match in this polarity.
-fn matched(word: u32, place: u64, inverted: bool) -> Awaited
-    ensures { (before : Option Before) (bits : List Bool) → length bits ≡ marker_size → word ≡ number_of bits
+// The place after `place` bits whose 32 bits are `received`, which match in this polarity.
+fn matched(received: u32, place: u64, inverted: bool) -> Awaited
+    ensures { (before : Option Before) (bits : List Bool) → length bits ≡ marker_size → received ≡ number_of bits
         → result ≡ awaited_at before (found_at place false inverted bits) }
 {
     Awaited {
         found: Found {
             place,
-            distance: distance_of(wrong_count(word), inverted),
+            distance: distance_of(wrong_count(received), inverted),
             bridged: false,
             inverted,
         },
@@ -636,7 +636,7 @@ fn matched(word: u32, place: u64, inverted: bool) -> Awaited
 
 // The place that 32 bits are, after `place` others. `before` is what ends right before them.
 fn place_of(
-    word: u32,
+    received: u32,
     place: u64,
     before: Option<Before>,
     tolerance: u8,
@@ -644,12 +644,12 @@ fn place_of(
     either: bool,
 ) -> Option<Awaited>
     ensures { (rules : Rules) (bits : List Bool) → rules.tolerance ≡ tolerance → rules.fly ≡ fly
-        → rules.either ≡ either → length bits ≡ marker_size → word ≡ number_of bits
+        → rules.either ≡ either → length bits ≡ marker_size → received ≡ number_of bits
         → result ≡ option_map (awaited_at before) (place_by rules place before bits (match_of rules bits)) }
 {
-    let wrong = wrong_count(word);
+    let wrong = wrong_count(received);
     match polarity_of(wrong, tolerance, either) {
-        Some(inverted) => Some(matched(word, place, inverted)),
+        Some(inverted) => Some(matched(received, place, inverted)),
         None => match before {
             Some(before) if before.bridged < fly => Some(Awaited {
                 found: Found {

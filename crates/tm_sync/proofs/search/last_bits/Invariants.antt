@@ -4,5 +4,5 @@ use Rattle.tm_sync.proofs.search.last_bits.Given as goal
 
 abbrev pub invariant-loop-octet : goal.invariant-loop-octet
 invariant-loop-octet l =
-    (bits : List Bool) → l.initial.word ≡ number_of bits % 2 ^ 32
+    (bits : List Bool) → l.initial.received ≡ number_of bits % 2 ^ 32
     → l.last ≡ number_of (bits ++ bits_of (take l.octet-index l.octets)) % 2 ^ 32

@@ -4,7 +4,7 @@ use Rattle.tm_base.specs.Bits.{number_of}
 use Rattle.tm_sync.specs.Places.{match_of, matches_in, are_verified, verify_bits}
 use Rattle.tm_sync.specs.Searching.{Searching, Recalls}
 use Rattle.tm_sync.proofs.Steps.{are_verified-zero}
-use Rattle.tm_sync.proofs.Looks.{match-word, verified-step, back-or, polarity-test}
+use Rattle.tm_sync.proofs.Looks.{match-received, verified-step, back-or, polarity-test}
 use Rattle.tm_sync.proofs.search.Search.is_verified.Goals.{After-polarity_of}
 use Rattle.tm_sync.proofs.search.Search.is_verified.Goals as goal
 
@@ -29,16 +29,16 @@ turn c bits from r room =
     let n : ℕ = length bits - (32 + (left - 1) * u) in
     let there = less.1 in
     let size = length-drop n bits in
-    let word : c.word_at-word.result ≡ number_of (take 32 (drop n bits)) =
-    c.word_at-word.ensures bits from r (subst (λ (k : ℕ). (k ≡ 0) ⊎ ((32 ≤ k) × (k ≤ verify_bits s.rules)))
+    let received : c.received_at-received.result ≡ number_of (take 32 (drop n bits)) =
+    c.received_at-received.ensures bits from r (subst (λ (k : ℕ). (k ≡ 0) ⊎ ((32 ≤ k) × (k ≤ verify_bits s.rules)))
     (sym back) less.0) (omega arith)
     ∙ ap (λ k. number_of (take 32 (drop (length bits - (32 + k)) bits))) back in
     let long : length (take 32 (drop n bits)) ≡ 32 = length-take-le 32 (drop n bits) (omega arith) in
     let polarity : c.polarity_of.result ≡ match_of s.rules (drop n bits) =
     c.polarity_of.ensures s.rules (take 32 (drop n bits)) (ap (λ (v : Searching). v.rules.tolerance)
     (sym c.self.view_is)) (ap (λ (v : Searching). v.rules.either) (sym c.self.view_is))
-    long (c.wrong_count.ensures.upright (take 32 (drop n bits)) long word)
-    ∙ match-word s.rules (drop n bits) (omega arith) in
+    long (c.wrong_count.ensures.upright (take 32 (drop n bits)) long received)
+    ∙ match-received s.rules (drop n bits) (omega arith) in
     verified-step s.rules c.args.inverted left bits some (omega arith)
     ∙ ap (λ w. matches_in w c.args.inverted
     && are_verified s.rules c.args.inverted (left - 1) (drop n bits)) (sym polarity)

@@ -13,7 +13,7 @@ returns-then-is_some-clause-stands c = λ s was bit bits found few count kept h.
     (λ i. option_map_or (λ n. nat_le ((sym count.rules i).block_bits) n)
     (option_map (λ _. sym count.after i) (sym count.awaited i)) false) ∙ c.requires in
     push_inside s _ was c.args.room.now bit m.0 (grows s c.args.self.now _ bit count
-    (ap (λ (v : Searching). v.rules) c.self.view_is) (ap (λ (v : Searching). v.word) c.self.view_is)
+    (ap (λ (v : Searching). v.rules) c.self.view_is) (ap (λ (v : Searching). v.received) c.self.view_is)
     (ap (λ (v : Searching). v.pushed) c.self.view_is) (ap (λ (v : Searching). v.start) c.self.view_is)
     (ap (λ (v : Searching). v.before) c.self.view_is))
     kept.sized (sym fields ∙ m.1) free fields (ap (λ n. n + 1) after) bits found h

@@ -47,7 +47,7 @@ returns-then-left-lt32-clause-some c bits found h =
     reported_last s _ c.args.room.now m pending record {
       awaited_was = was;
       rules = ap (λ (v : Searching). v.rules) view;
-      word = ap (λ (v : Searching). v.word) view;
+      received = ap (λ (v : Searching). v.received) view;
       pushed = pushed;
       start = omega arith;
       before = refl;
@@ -63,20 +63,21 @@ returns-else-left-lt32-clause-some c bits found h =
     let was : s.awaited ≡ Some m = ap (λ (v : Searching). v.awaited) (sym view) ∙ c.in-Some.is in
     let fits = reported-fits s room m bits found was pending h in
     let rules = ap (λ (v : Searching). v.rules) view in
-    let word = ap (λ (v : Searching). v.word) view in
+    let received = ap (λ (v : Searching). v.received) view in
     let pushed : c.self.inside.pushed ≡ s.pushed = ap (λ (v : Searching). v.pushed) view in
     let after : c.self.inside.after ≡ s.after = ap (λ (v : Searching). v.after) view in
     let block : c.from-block.result ≡ s.rules.block_bits = c.from-block.ensures
     ∙ ap (λ (v : Searching). v.rules.block_bits) view in
     let since : ℕ = c.self.inside.after - c.from-block.result - 32 in
-    reported_next s _ room m c.matched.result c.word_at-word.result pending record {
+    reported_next s _ room m c.matched.result c.received_at-received.result pending record {
       awaited_was = was;
       rules = rules;
-      word = word;
+      received = received;
       pushed = pushed;
       start = omega arith;
       before = refl;
     } (most_after s _ view c.self.invariant.0) (omega (arith, c.if-left-lt32.false)) refl (omega arith) bits found
-    (λ from r back there. c.word_at-word.ensures bits from (recalls-same s _ room bits from pushed word rules r)
+    (λ from r back there. c.received_at-received.ensures bits from
+        (recalls-same s _ room bits from pushed received rules r)
     (subst (λ (r : Rules). (since ≡ 0) ⊎ ((32 ≤ since) × (since ≤ verify_bits r))) (sym rules) back) there)
     (λ l size is. c.matched.ensures (Some m.next) l size is) h

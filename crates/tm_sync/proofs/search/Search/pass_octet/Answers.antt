@@ -5,7 +5,7 @@ use Rattle.tm_base.proofs.Packing.{length-low_bits}
 use Rattle.tm_sync.specs.Places.{match_of}
 use Rattle.tm_sync.specs.Searching.{Searching, SearchStandsFor}
 use Rattle.tm_sync.proofs.Given.{free-of, push_far, push_short, start-there, verify-none}
-use Rattle.tm_sync.proofs.Sliding.{bit_of, bits-bit, bits-all, word-window}
+use Rattle.tm_sync.proofs.Sliding.{bit_of, bits-bit, bits-all, received-window}
 use Rattle.tm_sync.proofs.search.Search.pass_octet.Invariants.{passing}
 use Rattle.tm_sync.proofs.search.Search.pass_octet.Goals as goal
 
@@ -23,7 +23,7 @@ returns-then-since-lt24-clause-stands c = λ done room bits found few h.
     (ap (λ (v : Searching). v.awaited) c.self.view_is) (ap (λ (v : Searching). v.after) c.self.view_is)
     (omega (arith, c.if-since-lt24.true, there.0, there.1)) refl bits found
     (c.last_bits-self-inside.ensures bits
-    (ap (λ (v : Searching). v.word) c.self.view_is ∙ ap (λ (v : Searching). v.word) h.search)
+    (ap (λ (v : Searching). v.received) c.self.view_is ∙ ap (λ (v : Searching). v.received) h.search)
     ∙ ap (λ l. number_of (bits ++ l) % 2 ^ 32) (append-nil (bits_of_octet c.args.octet)))
     (λ recent i low within held. absurd (omega (arith, none))) h
 
@@ -42,9 +42,9 @@ loop-left-preserved c =
     let pushed : c.self.inside.pushed ≡ s.pushed = ap (λ (v : Searching). v.pushed) view in
     let start : c.self.inside.start ≡ s.start = ap (λ (v : Searching). v.start) view in
     let enough : c.self.inside.start + 32 ≤ c.self.inside.pushed = free.2 in
-    let word : c.window.result ≡ (s.word * 256 + octet) / 2 ^ (left - 1) % 2 ^ 32 =
+    let received : c.window.result ≡ (s.received * 256 + octet) / 2 ^ (left - 1) % 2 ^ 32 =
     c.window.ensures
-    ∙ (λ i. ((c.from.ensures ∙ ap (λ (v : Searching). v.word) view) i * 256 + c.from-2.ensures i)
+    ∙ (λ i. ((c.from.ensures ∙ ap (λ (v : Searching). v.received) view) i * 256 + c.from-2.ensures i)
     / 2 ^ (left - 1) % 2 ^ 32) in
     record {
       most = omega arith;
@@ -56,14 +56,14 @@ loop-left-preserved c =
             subst (λ l. SearchStandsFor (passing s octet (left - 1)) room l found) (append_assoc bits was.0 (bit ∷ []))
             (push_far (passing s octet left) (passing s octet (left - 1)) room room bit (bits ++ was.0) found record {
               rules = refl;
-              word = word-window s.word octet left some most c.ranges.octet.fits;
+              received = received-window s.received octet left some most c.ranges.octet.fits;
               pushed = omega arith;
               start = refl;
               before = refl;
             } record { sized = refl; recent = λ from recent i low within held. absurd (omega (arith, none)) }
             (free-of s c.requires.free) (free-of s c.requires.free) refl (omega arith)
             (λ l long is. ap (λ (v : Searching). match_of v.rules l) (sym view)
-            ∙ far.1 _ l c.self.invariant.1 c.self.invariant.2 free.0 long (word ∙ is))
+            ∙ far.1 _ l c.self.invariant.1 c.self.invariant.2 free.0 long (received ∙ is))
             (was.2 room bits found few h)),
       );
     }
@@ -76,12 +76,12 @@ returns-clause-stands c = λ done room bits found few h.
     let none : c.loop-left.left ≡ 0 = omega arith in
     let pushed : s.pushed + (8 - 0) ≡ c.self.inside.pushed + 8 =
     omega (arith, ap (λ (v : Searching). v.pushed) c.self.view_is) in
-    let word : (s.word * 256 + octet) / 2 ^ 0 % 2 ^ 32 ≡ c.window-self-inside.result =
+    let received : (s.received * 256 + octet) / 2 ^ 0 % 2 ^ 32 ≡ c.window-self-inside.result =
     sym (c.window-self-inside.ensures
-    ∙ (λ i. ((c.from.ensures ∙ ap (λ (v : Searching). v.word) c.self.view_is) i * 256
+    ∙ (λ i. ((c.from.ensures ∙ ap (λ (v : Searching). v.received) c.self.view_is) i * 256
     + c.from-2.ensures i) / 1 % 2 ^ 32)) in
     subst (λ (v : Searching). SearchStandsFor v room (bits ++ bits_of_octet octet) found)
-    (λ i. record (sym c.self.view_is i) { word = word i; pushed = pushed i })
+    (λ i. record (sym c.self.view_is i) { received = received i; pushed = pushed i })
     (subst (λ (n : ℕ). SearchStandsFor (passing s octet n) room (bits ++ bits_of_octet octet) found) none
     (subst (λ l. SearchStandsFor (passing s octet c.loop-left.left) room (bits ++ l) found)
     (sym (bits-all was.0 c.loop-left.left octet none was.1))

@@ -6,7 +6,8 @@ use Rattle.tm_sync.proofs.search.Search.pass_octet.Given as goal
 
 -- a search that was given an octet but the last bits, so many
 abbrev pub passing : Searching → ℕ → ℕ → Searching
-passing s octet left = record s { word = (s.word * 256 + octet) / 2 ^ left % 2 ^ 32; pushed = s.pushed + (8 - left) }
+passing s octet left =
+    record s { received = (s.received * 256 + octet) / 2 ^ left % 2 ^ 32; pushed = s.pushed + (8 - left) }
 
 abbrev pub invariant-loop-left : goal.invariant-loop-left
 invariant-loop-left l = record {

@@ -41,9 +41,9 @@ returns-then-right_after-clause-stands c = λ s was bit bits found few count kep
     let before = ap (λ (v : Searching). v.before) view in
     let place : (c.self.inside.pushed + (2 ^ 64 - 32)) % 2 ^ 64 ≡ now.pushed - 32 = omega arith in
     reported_right s now was c.args.room.now bit c.place_of.result bits found count kept free right
-    (λ l size word. c.place_of.ensures now.rules l (ap (λ (v : Searching). v.rules.tolerance) (sym view))
+    (λ l size received. c.place_of.ensures now.rules l (ap (λ (v : Searching). v.rules.tolerance) (sym view))
     (ap (λ (v : Searching). v.rules.fly) (sym view))
-    (ap (λ (v : Searching). v.rules.either) (sym view)) size (ap (λ (v : Searching). v.word) view ∙ word)
+    (ap (λ (v : Searching). v.rules.either) (sym view)) size (ap (λ (v : Searching). v.received) view ∙ received)
     ∙ (λ i. option_map (awaited_at (before i)) (place_by now.rules (place i) (before i) l (match_of now.rules l)))) h
 
 pub returns-then-since-lag-clause-stands : goal.returns-then-since-lag-clause-stands

@@ -24,14 +24,14 @@ looked c bits from r room =
     let long : 32 ≤ length (drop n bits) = omega arith in
     let l : List Bool = take 32 (drop n bits) in
     let size_is : length l ≡ 32 = length-take-le 32 (drop n bits) long in
-    let word : c.word_at-word.result ≡ number_of l = c.word_at-word.ensures bits from r
+    let received : c.received_at-received.result ≡ number_of l = c.received_at-received.ensures bits from r
     (lag-or s.rules lag lag_is) room in
     let pushed : c.self.inside.pushed ≡ length bits = ap (λ (v : Searching). v.pushed) c.self.view_is ∙ r.pushed in
     let place : (c.self.inside.pushed + (2 ^ 64 - (32 + lag))) % 2 ^ 64 ≡ n = omega arith in
     kept-here s.rules n (drop n bits) c.place_of.result long
     (c.place_of.ensures s.rules l (ap (λ (v : Searching). v.rules.tolerance) (sym c.self.view_is))
     (ap (λ (v : Searching). v.rules.fly) (sym c.self.view_is))
-    (ap (λ (v : Searching). v.rules.either) (sym c.self.view_is)) size_is word
+    (ap (λ (v : Searching). v.rules.either) (sym c.self.view_is)) size_is received
     ∙ ap (λ k. option_map (awaited_at None) (place_by s.rules k None l (match_of s.rules l))) place)
 
 pub returns-in-Some : goal.returns-in-Some

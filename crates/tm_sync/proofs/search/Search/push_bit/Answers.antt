@@ -12,10 +12,10 @@ returns-then-is_far-clause-stands c = λ bits found few h.
     let there = start-there s c.args.room.now bits found h in
     let small : s.pushed < 2 ^ 63 = omega (arith, there.0) in
     let pushed : c.self.inside.pushed ≡ s.pushed = ap (λ (v : Searching). v.pushed) c.self.view_is in
-    let word : c.self.inside.word ≡ number_of bits % 2 ^ 32 =
-    ap (λ (v : Searching). v.word) (c.self.view_is ∙ h.search) in
+    let received : c.self.inside.received ≡ number_of bits % 2 ^ 32 =
+    ap (λ (v : Searching). v.received) (c.self.view_is ∙ h.search) in
     let kept = c.remember.ensures.remembers bits c.args.bit (pushed ∙ there.0)
-    (λ long. top-bit c.self.inside.word bits word long) in
+    (λ long. top-bit c.self.inside.received bits received long) in
     let far = c.is_far.ensures c.if-is_far.true in
     let free = c.self.invariant.3 far.0 in
     let start : c.self.inside.start + 32 ≤ c.self.inside.pushed = free.2 in
@@ -33,9 +33,9 @@ returns-clause-stands c = λ bits found few h.
     let there = start-there s c.args.room.now bits found h in
     let small : s.pushed < 2 ^ 63 = omega (arith, there.0) in
     let pushed : c.self.inside.pushed ≡ s.pushed = ap (λ (v : Searching). v.pushed) c.self.view_is in
-    let word : c.self.inside.word ≡ number_of bits % 2 ^ 32 =
-    ap (λ (v : Searching). v.word) (c.self.view_is ∙ h.search) in
+    let received : c.self.inside.received ≡ number_of bits % 2 ^ 32 =
+    ap (λ (v : Searching). v.received) (c.self.view_is ∙ h.search) in
     let kept = c.remember.ensures.remembers bits c.args.bit (pushed ∙ there.0)
-    (λ long. top-bit c.self.inside.word bits word long) in
+    (λ long. top-bit c.self.inside.received bits received long) in
     c.look_closer.ensures.stands s c.args.room.now c.args.bit bits found few
     (counts s _ _ c.args.bit _ c.self.view_is c.from.ensures small refl refl refl refl refl refl refl) kept h

@@ -22,5 +22,5 @@ returns-clause-stands c = λ room bits found few h.
     (ap (λ (v : Searching). v.start) c.self.view_is) (ap (λ (v : Searching). v.before) c.self.view_is)
     (ap (λ (v : Searching). v.awaited) c.self.view_is)
     (omega (arith, long, after)) (omega arith) bits found
-    (c.last_bits-self-inside.ensures bits (ap (λ (v : Searching). v.word) c.self.view_is
-    ∙ ap (λ (v : Searching). v.word) h.search)) h
+    (c.last_bits-self-inside.ensures bits (ap (λ (v : Searching). v.received) c.self.view_is
+    ∙ ap (λ (v : Searching). v.received) h.search)) h
