@@ -147,8 +147,8 @@ has-written frames reports b items all = by_short b.is_short refl
 
 -- ---- room that is enough
 
-has-room : (c : Configuration) (told : Bool) (most : ℕ) (frames : List ℕ) (reports : List Report)
-    → HasRoom c (if told then Some most else None) frames reports
+has-room : (c : Configuration) (said : Bool) (most : ℕ) (frames : List ℕ) (reports : List Report)
+    → HasRoom c (if said then Some most else None) frames reports
     → (most ≤ length reports) × (most * c.frame_length ≤ length frames)
 has-room c true most frames reports room = room
 has-room c false most frames reports room = absurd room

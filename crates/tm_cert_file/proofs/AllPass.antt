@@ -144,7 +144,7 @@ module _ (rules : Rules) (keeps : 0 < rules.keep) (small : rules.keep + rules.ah
       (sym dropped) others.passed in
       let here : ArePassed rules before (window_octets w ++ rest) (w ∷ others.windows) others.to []
       = (passes, sym (window-back rate t w rest is_written), after_it) in
-      let tells : ℕ → ℕ → WindowBlock = λ end_state dropped. record {
+      let says : ℕ → ℕ → WindowBlock = λ end_state dropped. record {
         start = block.start;
         steps = block.steps;
         kept = block.kept;
@@ -160,8 +160,8 @@ module _ (rules : Rules) (keeps : 0 < rules.keep) (small : rules.keep + rules.ah
         to = others.to;
         passed = subst (λ (v : List ℕ). ArePassed rules before v (w ∷ others.windows) others.to []) (sym whole) here;
         ended = others.ended;
-        same = ap (λ (v : ℕ). tells v 0 ∷ map block_of others.windows) (sym are.1.end_state)
-            ∙ ap (λ (v : ℕ). tells block.end_state v ∷ map block_of others.windows) (sym are.1.dropped)
+        same = ap (λ (v : ℕ). says v 0 ∷ map block_of others.windows) (sym are.1.end_state)
+            ∙ ap (λ (v : ℕ). says block.end_state v ∷ map block_of others.windows) (sym are.1.dropped)
             ∙ ap (λ (v : List WindowBlock). block ∷ v) others.same;
         kept = ap (λ (v : List ℕ). v ++ all_kept rate (t + block.kept) others.windows) first
             ∙ ap (λ (v : List ℕ). take size octets ++ v) others.kept

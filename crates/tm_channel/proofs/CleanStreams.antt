@@ -188,14 +188,16 @@ items-clean c frames items ok are its =
           let all : found_frames c frames ≡ frames = ap (λ t. cond t [] frames) more in
           clean-from c 0 frames items ok are
           (subst (λ (fs : List Found). AreAsSent c fs (clean_units c frames) items) (places-are c frames ok are many)
-          (items-as_sent c (sent_bits c frames) (clean_units c frames) [] items ok (sent-clean c frames ok are many) its))
+          (items-as_sent c (sent_bits c frames) (clean_units c frames) [] items ok
+          (sent-clean c frames ok are many) its))
           ∙ ap (clean_items c 0) (sym all)
           )
       | inr few ↦ (
           let fewer : nat_le (length frames) c.verify ≡ true = grind (arith, nat_tests) in
           let none : found_frames c frames ≡ [] = ap (λ t. cond t [] frames) fewer in
           no-items c (sent_bits c frames) items
-          (subst (λ (fs : List Found). AreItemsOf c (sent_bits c frames) fs items) (places-none c frames ok are few) its)
+          (subst (λ (fs : List Found). AreItemsOf c (sent_bits c frames) fs items)
+          (places-none c frames ok are few) its)
           ∙ ap (clean_items c 0) (sym none)
           )
     ]

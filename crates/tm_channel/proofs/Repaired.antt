@@ -37,12 +37,12 @@ nearest-are c code (w ∷ words) (w' ∷ now) e n become = (one become.0, neares
         → IsNearest (correctable c.code) c.repair (symbols_of c w)
         (found (unwrap_or w'.answer Beyond) (symbols_of c w'))
     one d =
-        let told : d.answer ≡ unwrap_or w'.answer Beyond = sym
+        let said : d.answer ≡ unwrap_or w'.answer Beyond = sym
         (ap (λ (o : Option Answer). unwrap_or o Beyond) d.answered) in
         subst (λ (k : ℕ). IsNearest (correctable c.code) c.repair (numbers (take k w.symbols))
         (found (unwrap_or w'.answer Beyond) (numbers (take k w'.symbols)))) n
         (subst (λ (a : Answer). IsNearest (correctable c.code) c.repair (numbers (take code.n w.symbols))
-        (found a (numbers (take code.n w'.symbols)))) told
+        (found a (numbers (take code.n w'.symbols)))) said
         (subst (λ (k : ℕ). IsNearest k c.repair (numbers (take code.n w.symbols))
         (found d.answer (numbers (take code.n w'.symbols)))) e d.nearest))
 

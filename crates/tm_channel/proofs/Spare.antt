@@ -62,13 +62,13 @@ spare-due s room b bits (bit ∷ rest) same stood few =
     ∙ length-map (drop count all) (stored_at c bits) ∙ length-drop count all in
     let most : length longer ≡ length all + length further = ap length goes_on ∙ length-append all further in
     let size : ℕ = 32 + rules.block_bits in
-    let told : length longer * size ≤ length all * size + begun_of s + length more =
+    let said : length longer * size ≤ length all * size + begun_of s + length more =
     subst (λ (r : Rules). length (places r (bits ++ more)) * (32 + r.block_bits)
     ≤ length all * (32 + r.block_bits) + begun_of s + length more) same
     (reported-few s room bits more all stood.search) in
     let less : length further < c.batch - length b.stored =
     few-places (length further) (c.batch - length b.stored) (begun_of s) (length more) size
-    (omega (arith, told, ap (λ n. n * size) most)) (omega arith)
+    (omega (arith, said, ap (λ n. n * size) most)) (omega arith)
     (omega (arith, few, waiting-most c (c.batch - length b.stored))) in
     let still : due_count c (bits ++ more) ≡ count = not_full c.batch (length all) (length longer)
     (omega (arith, stood.within, most)) (omega (arith, less, waiting, most, stood.within)) in

@@ -320,7 +320,7 @@ block-reported : (s : Searching) (room : List ℕ) (b : Batching) (part : List B
     → SearchStandsFor s room bits reported → places s.rules bits ≡ reported ++ f ∷ rest
     → f.place + 32 + unwrap_or (inside_of s) 0 ≡ length bits → bits ≡ prefix ++ b.part
     → stored_at b.config bits f ≡ stored_of b.config f part
-block-reported s room b part count f bits prefix reported rest a is whole complete few stood tells ends parts =
+block-reported s room b part count f bits prefix reported rest a is whole complete few stood reports ends parts =
     go complete a.gathered
   where
     size : s.rules.block_bits ≡ 8 * codeblock_length b.config
@@ -340,7 +340,7 @@ block-reported s room b part count f bits prefix reported rest a is whole comple
     go (inr (fewer, same)) (inl (within, long)) = absurd (omega (arith, within, long, was, whole, fewer, size))
     go (inr (fewer, same)) (inr (none, (zero, most, lag))) = absurd (omega (arith, lag, was, whole, fewer, size))
     go (inr (fewer, same)) (inr (none, (suc n, most, lag))) =
-        let recent = reported-recent s room count bits reported rest f is (omega (arith, lag, was)) stood tells in
+        let recent = reported-recent s room count bits reported rest f is (omega (arith, lag, was)) stood reports in
         let from : (f.place + 32) % 2 ^ 64 ≡ f.place + 32 = omega (arith, ends, few) in
         let bound = mul-le-mul_right (32 + s.rules.block_bits) most in
         let looked : room_bits room (f.place + 32) (8 * codeblock_length b.config)
@@ -363,7 +363,7 @@ pub keeps-reported : (s s' now : Searching) (room room' : List ℕ) (b b' : Batc
 keeps-reported s s' now room room' b b' part count f handed bits reported a is whole tell complete same_search
     same_room config none stored few h =
     let t = tell bits reported h.search in
-    let tells : places (rules_of b.config) bits ≡ reported ++ f ∷ t.1.0 =
+    let reports : places (rules_of b.config) bits ≡ reported ++ f ∷ t.1.0 =
     ap (λ (r : Rules). places r bits) (sym a.same) ∙ t.1.1 in
     let one = block-reported s room b part count f bits h.prefix reported t.1.0 a is whole complete few h.search t.1.1
     t.2 h.parts in
@@ -372,7 +372,7 @@ keeps-reported s s' now room room' b b' part count f handed bits reported a is w
     (subst (λ (k : Configuration). Holding k (SearchStandsFor s' room) b'.part b'.stored handed bits
     (reported ++ f ∷ [])) (sym config)
     (reported-stored b.config (SearchStandsFor s room) (SearchStandsFor s' room) b.part part b'.part b.stored
-    b'.stored handed bits reported t.1.0 f h tells one stored none t.0)))
+    b'.stored handed bits reported t.1.0 f h reports one stored none t.0)))
 
 -- none is
 pub none-reported : (s s' : Searching) (room : List ℕ) (b : Batching) (handed : ℕ) (bits : List Bool)

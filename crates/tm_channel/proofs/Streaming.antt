@@ -82,9 +82,9 @@ first-places c bits more =
 first-reported : (c : Configuration) (bits : List Bool) (reported rest : List Found) (f : Found)
     → places (rules_of c) bits ≡ reported ++ f ∷ rest
     → take (length (reported ++ f ∷ [])) (places (rules_of c) bits) ≡ reported ++ f ∷ []
-first-reported c bits reported rest f tells =
+first-reported c bits reported rest f says =
     let prefix : List Found = reported ++ f ∷ [] in
-    ap (take (length prefix)) (tells ∙ sym (append_assoc reported (f ∷ []) rest))
+    ap (take (length prefix)) (says ∙ sym (append_assoc reported (f ∷ []) rest))
     ∙ take-append-le (length prefix) prefix rest (omega arith) ∙ take-length prefix
 
 -- its codeblock is stored
@@ -93,14 +93,14 @@ pub reported-stored : (c : Configuration) (stands stands' : List Bool → List F
     → Holding c stands old stored handed bits reported → places (rules_of c) bits ≡ reported ++ f ∷ rest
     → stored_at c bits f ≡ stored_of c f part → stored' ≡ stored ++ stored_of c f part ∷ [] → now ≡ []
     → stands' bits (reported ++ f ∷ []) → Holding c stands' now stored' handed bits (reported ++ f ∷ [])
-reported-stored c stands stands' old part now stored stored' handed bits reported rest f h tells one is none next =
+reported-stored c stands stands' old part now stored stored' handed bits reported rest f h says one is none next =
     let after : drop handed (reported ++ f ∷ []) ≡ drop handed reported ++ f ∷ [] =
     drop-append-le handed reported (f ∷ []) h.within in
     let size = length-append reported (f ∷ []) in
     let below = h.within in
     record {
       search = next;
-      first = first-reported c bits reported rest f tells;
+      first = first-reported c bits reported rest f says;
       within = omega (arith, size, below);
       waiting = is ∙ (λ i. h.waiting i ++ sym one i ∷ [])
           ∙ sym (map-append (stored_at c bits) (drop handed reported) (f ∷ []))

@@ -146,19 +146,19 @@ rest-is c a b taken now octets rest same new p finish = finish octets (p.fed.sta
 
 -- the whole output, where the input was read to its end and its rest was reported
 record AllSent (c : Configuration) (octets : List ℕ) (taken taken_now noted noted_now : Option (List ℕ)) (rest : ℕ)
-    (Told : List ℕ → Type 0) : Type 0 where
+    (Reported : List ℕ → Type 0) : Type 0 where
   wrote : Wrote taken taken_now (sent c octets)
   is_rest : rest ≡ left_over c octets
-  notes : Told (left_over_text (left_over c octets))
+  notes : Reported (left_over_text (left_over c octets))
 
 all-sent : {F R S : Type 0} (sender : F → Sending) (out : F → R) (state : R → SinkState) (notes : F → S)
-    (noted : S → SinkState) (Told : SinkState → List ℕ → Type 0)
+    (noted : S → SinkState) (Reported : SinkState → List ℕ → Type 0)
     (c : Configuration) (a m b : F) (octets : List ℕ) (rest : ℕ)
     → (sender a).config ≡ c → SenderStandsFor (sender a) [] → Fed sender out state notes a m octets
-    → IsRest (sender m) rest → out b ≡ out m → Told (noted (notes m)) (left_over_text rest)
+    → IsRest (sender m) rest → out b ≡ out m → Reported (noted (notes m)) (left_over_text rest)
     → AllSent c octets (state (out a)).taken (state (out b)).taken (noted (notes a)).taken
-    (noted (notes b)).taken rest (Told (noted (notes a)))
-all-sent sender out state notes noted Told c a m b octets rest same new fed finish out_same told =
+    (noted (notes b)).taken rest (Reported (noted (notes a)))
+all-sent sender out state notes noted Reported c a m b octets rest same new fed finish out_same stated =
     let is = rest-is c (sender a) (sender m) (state (out a)).taken
     (state (out m)).taken octets rest same new fed.3 finish in
     record {
@@ -166,8 +166,8 @@ all-sent sender out state notes noted Told c a m b octets rest same new fed fini
           (fed-all c (sender a) (sender m) (state (out a)).taken (state (out m)).taken octets same new fed.0 fed.3);
       is_rest = is;
       notes =
-          subst (λ n. Told (noted n) (left_over_text (left_over c octets))) fed.1
-          (subst (λ (r : ℕ). Told (noted (notes m)) (left_over_text r)) is told);
+          subst (λ n. Reported (noted n) (left_over_text (left_over c octets))) fed.1
+          (subst (λ (r : ℕ). Reported (noted (notes m)) (left_over_text r)) is stated);
     }
 
 encode-ends : {F R S : Type 0} (sender : F → Sending) (out : F → R) (state : R → SinkState) (out_last : R → Type 0)
@@ -201,7 +201,8 @@ encode-ends sender out state out_last notes noted notes_last c a b ended unended
     = cc p.0
 encode-ends sender out state out_last notes noted notes_last c a b ended unended SourceFault octets accepted same new
     p = (
-      early c accepted octets (state (out a)).taken (state (out b)).taken (noted (notes a)).taken (noted (notes b)).taken
+      early c accepted octets (state (out a)).taken (state (out b)).taken (noted (notes a)).taken
+          (noted (notes b)).taken
           (ap (λ n. (noted n).taken) p.0.1)
           (fed-all c (sender a) (sender b) (state (out a)).taken (state (out b)).taken octets same new p.0.0 p.0.3),
       p.1,

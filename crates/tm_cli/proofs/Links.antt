@@ -244,40 +244,40 @@ good-status : (e : Ending) (status : ℕ) (c : Configuration) (octets : List ℕ
     (taken taken_now noted noted_now : Option (List ℕ))
     → status ≡ status_of e → Ends e (decode_meaning c) c.limit octets (taken_by taken taken_now noted noted_now)
     → (status ≡ 0) ⊎ (status ≡ 1) → (HasBad c octets → ⊥) → status ≡ 0
-good-status Done status c octets taken taken_now noted noted_now told ends read good = told
-good-status Bad status c octets taken taken_now noted noted_now told ends read good = absurd (good ends.2)
-good-status LeftOver status c octets taken taken_now noted noted_now told ends read good = absurd ends.2
-good-status BadWindow status c octets taken taken_now noted noted_now told ends read good = absurd ends.0
-good-status SourceFault status c octets taken taken_now noted noted_now told ends read good =
-    absurd (omega (arith, told, read))
-good-status SinkFault status c octets taken taken_now noted noted_now told ends read good =
-    absurd (omega (arith, told, read))
-good-status PastLimit status c octets taken taken_now noted noted_now told ends read good =
-    absurd (omega (arith, told, read))
+good-status Done status c octets taken taken_now noted noted_now said ends read good = said
+good-status Bad status c octets taken taken_now noted noted_now said ends read good = absurd (good ends.2)
+good-status LeftOver status c octets taken taken_now noted noted_now said ends read good = absurd ends.2
+good-status BadWindow status c octets taken taken_now noted noted_now said ends read good = absurd ends.0
+good-status SourceFault status c octets taken taken_now noted noted_now said ends read good =
+    absurd (omega (arith, said, read))
+good-status SinkFault status c octets taken taken_now noted noted_now said ends read good =
+    absurd (omega (arith, said, read))
+good-status PastLimit status c octets taken taken_now noted noted_now said ends read good =
+    absurd (omega (arith, said, read))
 
 -- and the whole output is written
 whole-output : (e : Ending) (status : ℕ) (c : Configuration) (octets : List ℕ)
     (taken taken_now noted noted_now : Option (List ℕ))
     → status ≡ status_of e → Ends e (decode_meaning c) c.limit octets (taken_by taken taken_now noted noted_now)
     → (status ≡ 0) ⊎ (status ≡ 1) → WroteOutput (decode_meaning c) octets (taken_by taken taken_now noted noted_now)
-whole-output Done status c octets taken taken_now noted noted_now told ends read = ends.0
-whole-output Bad status c octets taken taken_now noted noted_now told ends read = ends.0
-whole-output LeftOver status c octets taken taken_now noted noted_now told ends read = ends.0
-whole-output BadWindow status c octets taken taken_now noted noted_now told ends read = absurd ends.0
-whole-output SourceFault status c octets taken taken_now noted noted_now told ends read =
-    absurd (omega (arith, told, read))
-whole-output SinkFault status c octets taken taken_now noted noted_now told ends read =
-    absurd (omega (arith, told, read))
-whole-output PastLimit status c octets taken taken_now noted noted_now told ends read =
-    absurd (omega (arith, told, read))
+whole-output Done status c octets taken taken_now noted noted_now said ends read = ends.0
+whole-output Bad status c octets taken taken_now noted noted_now said ends read = ends.0
+whole-output LeftOver status c octets taken taken_now noted noted_now said ends read = ends.0
+whole-output BadWindow status c octets taken taken_now noted noted_now said ends read = absurd ends.0
+whole-output SourceFault status c octets taken taken_now noted noted_now said ends read =
+    absurd (omega (arith, said, read))
+whole-output SinkFault status c octets taken taken_now noted noted_now said ends read =
+    absurd (omega (arith, said, read))
+whole-output PastLimit status c octets taken taken_now noted noted_now said ends read =
+    absurd (omega (arith, said, read))
 
 came : OnePhase → OneHanded → (e : Ending) (status : ℕ) (c : Configuration) (octets : List ℕ) (chosen : Option Chosen)
     (taken taken_now noted noted_now : Option (List ℕ))
     → IsAccepted c → status ≡ status_of e → Ends e (decode_meaning c) c.limit octets
     (taken_by taken taken_now noted noted_now) → (status ≡ 0) ⊎ (status ≡ 1) → IsChosen c octets chosen
     → Came status c octets chosen taken taken_now noted noted_now
-came one_phase one e status c octets chosen taken taken_now noted noted_now ok told ends read choice =
-    let wrote = whole-output e status c octets taken taken_now noted noted_now told ends read in
+came one_phase one e status c octets chosen taken taken_now noted noted_now ok said ends read choice =
+    let wrote = whole-output e status c octets taken taken_now noted noted_now said ends read in
     let d = wrote.1 in
     let r = d.are_received in
     let all = r.are_items in
@@ -305,7 +305,7 @@ came one_phase one e status c octets chosen taken taken_now noted noted_now ok t
       notes =
           subst (Wrote noted noted_now)
           (d.is_report ∙ ap (λ (l : List (Handed ItemValue)). report_text l d.totals) handed) wrote.2.notes;
-      good = λ none. good-status e status c octets taken taken_now noted noted_now told ends read
+      good = λ none. good-status e status c octets taken taken_now noted noted_now said ends read
           (λ h. h.2 (ap (λ (l : List (Handed ItemValue)). bad (items_of l))
           (one c octets h.0 d.handed h.1.0 d.totals ok h.1.1 r) ∙ ap bad items ∙ none));
     }
@@ -317,9 +317,9 @@ came-free : OnePhase → OneHanded → (e : Ending) (status : ℕ) (c : Configur
     (taken_by taken taken_now noted noted_now) → (status ≡ 0) ⊎ (status ≡ 1)
     → ((chosen : Option Chosen) → IsChosen c octets chosen → chosen ≡ sent_phase c)
     → Came status c octets (sent_phase c) taken taken_now noted noted_now
-came-free one_phase one e status c octets taken taken_now noted noted_now ok told ends read known =
-    let r = (whole-output e status c octets taken taken_now noted noted_now told ends read).1.are_received in
-    came one_phase one e status c octets (sent_phase c) taken taken_now noted noted_now ok told ends read
+came-free one_phase one e status c octets taken taken_now noted noted_now ok said ends read known =
+    let r = (whole-output e status c octets taken taken_now noted noted_now said ends read).1.are_received in
+    came one_phase one e status c octets (sent_phase c) taken taken_now noted noted_now ok said ends read
     (subst (λ (o : Option Chosen). IsChosen c octets o) (known r.chosen r.choice) r.choice)
 
 -- ---- links
@@ -331,8 +331,8 @@ pub keeps-clean : SentPhase → OnePhase → OneHanded → CleanTotals → Clean
     (taken_by taken taken_now noted noted_now) → (status ≡ 0) ⊎ (status ≡ 1)
     → KeepsCleanLink status c octets taken taken_now noted noted_now
 keeps-clean sent_phases one_phase one clean_totals_of clean frames e status c octets taken taken_now noted noted_now
-    ok told ends read = λ input skip start small is.
-    let r = came-free one_phase one e status c octets taken taken_now noted noted_now ok told ends read
+    ok said ends read = λ input skip start small is.
+    let r = came-free one_phase one e status c octets taken taken_now noted noted_now ok said ends read
     (λ chosen choice. sent_phases c input chosen skip (subst (λ (l : List ℕ). IsChosen c l chosen) is choice)) in
     let sent_frames = found_frames c (whole_frames c.frame_length input) in
     let receive : Receive c 0 (sent c input) r.items =
@@ -354,8 +354,8 @@ pub keeps-disturbed : OnePhase → OneHanded → OneBits → OneBlocks → SentI
     (taken_by taken taken_now noted noted_now) → (status ≡ 0) ⊎ (status ≡ 1)
     → KeepsDisturbedLink status c octets taken taken_now noted noted_now
 keeps-disturbed one_phase one one_bits one_blocks sent_items sent_frames e status c octets taken taken_now noted
-    noted_now ok told ends read = λ bits units last chosen choice inner is.
-    let r = came one_phase one e status c octets chosen taken taken_now noted noted_now ok told ends read choice in
+    noted_now ok said ends read = λ bits units last chosen choice inner is.
+    let r = came one_phase one e status c octets chosen taken taken_now noted noted_now ok said ends read choice in
     let as_sent = sent_items c (skip_of chosen) octets bits units last r.items ok inner is r.receive in
     let same : r.bits ≡ bits = one_bits c (skip_of chosen) octets r.bits bits r.inner inner in
     let all : r.inner.blocks ≡ inner.blocks =
@@ -380,8 +380,8 @@ pub keeps-complemented_input : OnePhase → OneHanded → OneItems → Complemen
     (taken_by taken taken_now noted noted_now) → (status ≡ 0) ⊎ (status ≡ 1)
     → KeepsComplementedInput c octets taken taken_now noted noted_now
 keeps-complemented_input one_phase one one_items complemented e status c octets taken taken_now noted noted_now ok
-    told ends read = λ other bits items chosen plain find small is choice inner are.
-    let r = came one_phase one e status c octets chosen taken taken_now noted noted_now ok told ends read
+    said ends read = λ other bits items chosen plain find small is choice inner are.
+    let r = came one_phase one e status c octets chosen taken taken_now noted noted_now ok said ends read
     (choice-plain c other octets chosen plain choice) in
     let receive : Receive c (skip_of chosen) octets (map complemented_item items) =
     subst (λ (l : List ℕ). Receive c (skip_of chosen) l (map complemented_item items)) (sym is)
@@ -404,8 +404,8 @@ pub keeps-complemented_symbols : ComplementedPhase → OnePhase → OneHanded �
     (taken_by taken taken_now noted noted_now) → (status ≡ 0) ⊎ (status ≡ 1)
     → KeepsComplementedSymbols status c octets taken taken_now noted noted_now
 keeps-complemented_symbols complemented_phases one_phase one totals_of_both frames complemented e status c octets
-    taken taken_now noted noted_now ok told ends read = λ input half find any skip small is.
-    let r = came-free one_phase one e status c octets taken taken_now noted noted_now ok told ends read
+    taken taken_now noted noted_now ok said ends read = λ input half find any skip small is.
+    let r = came-free one_phase one e status c octets taken taken_now noted noted_now ok said ends read
     (λ chosen choice. complemented_phases c input chosen skip (subst (λ (l : List ℕ). IsChosen c l chosen) is choice))
     in
     let sent_frames = found_frames c (whole_frames c.frame_length input) in

@@ -221,7 +221,8 @@ decoding-broke out notes out_last notes_last counts handed a b new few part =
             )
             | inr p ↦ inr (
               subst (λ l. TookText (out a) (out b) l) (sym (handed_frames-append prefix (next ∷ [])))
-                  (took-more (out a) (out middle) (out b) (handed_frames prefix) (handed_frames (next ∷ [])) first.0 p.0),
+                  (took-more (out a) (out middle) (out b) (handed_frames prefix)
+                  (handed_frames (next ∷ [])) first.0 p.0),
               broke-after (notes a) (notes middle) (notes b) (notes_last b) (items_text 0 prefix)
                   (handed_item_text (length (items_of prefix)) next) first.1.lines
                   (subst (λ (n : ℕ). BrokeText (notes middle) (notes b) (notes_last b) [] (handed_item_text n next))

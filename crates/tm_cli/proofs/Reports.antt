@@ -93,7 +93,10 @@ decoding-fails out_name notes_name out_sink out notes_sink notes out_last notes_
       p.1,
       elim p.2 as (λ _. Fails (out (out_sink x)) (out (out_sink y)) (out_last y) (notes (notes_sink x))
           (notes (notes_sink y)) (notes_last y) (counts x) (Item item)) [
-            | inl q ↦ inl (subst (BrokeText (out (out_sink x)) (out (out_sink y)) (out_last y) []) frame q.0, ap notes q.1)
+            | inl q ↦ inl (
+              subst (BrokeText (out (out_sink x)) (out (out_sink y)) (out_last y) []) frame q.0,
+              ap notes q.1,
+            )
             | inr q ↦ inr (subst (TookText (out (out_sink x)) (out (out_sink y))) frame q.0, q.1)
           ],
     )
@@ -108,13 +111,13 @@ decoded-over : {T K L R S : Type 0} (out_name : T → K) (notes_name : T → L) 
     (counts b) handed
 decoded-over {T} out_name notes_name out_sink out notes_sink notes counts handed a b new few p =
     let took = Decodes out_name notes_name out_sink out notes_sink notes counts in
-    let told : T → Handed ItemValue → T → Type 0 = λ x h y. Takes (out (out_sink x)) (out (out_sink y))
+    let reported : T → Handed ItemValue → T → Type 0 = λ x h y. Takes (out (out_sink x)) (out (out_sink y))
     (notes (notes_sink x)) (notes (notes_sink y)) (counts x) (counts y) h in
     let step = decodes out_name notes_name out_sink out notes_sink notes counts in (
       handed-keeps took out_name (λ x h y q. (step x h y q).0) handed a b p,
       handed-keeps took notes_name (λ x h y q. (step x h y q).1) handed a b p,
       decoding-wrote (λ t. out (out_sink t)) (λ t. notes (notes_sink t)) counts handed a b new few
-          (handed-along took told (λ x h y q. (step x h y q).2) handed a b p),
+          (handed-along took reported (λ x h y q. (step x h y q).2) handed a b p),
     )
 
 -- a part of them
@@ -130,7 +133,7 @@ decoded-part : {T K L R S : Type 0} (out_name : T → K) (notes_name : T → L) 
 decoded-part {T} out_name notes_name out_sink out notes_sink notes out_last notes_last counts handed a b new few p =
     let took = Decodes out_name notes_name out_sink out notes_sink notes counts in
     let broke = DecodingFails out_name notes_name out_sink out notes_sink notes out_last notes_last counts in
-    let told : T → Handed ItemValue → T → Type 0 = λ x h y. Takes (out (out_sink x)) (out (out_sink y))
+    let reported : T → Handed ItemValue → T → Type 0 = λ x h y. Takes (out (out_sink x)) (out (out_sink y))
     (notes (notes_sink x)) (notes (notes_sink y)) (counts x) (counts y) h in
     let failed : T → Handed ItemValue → T → Type 0 =
     λ x h y. Fails (out (out_sink x)) (out (out_sink y)) (out_last y) (notes (notes_sink x)) (notes (notes_sink y))
@@ -140,13 +143,14 @@ decoded-part {T} out_name notes_name out_sink out notes_sink notes out_last note
       part-keeps took broke out_name (λ x h y q. (step x h y q).0) (λ x h y q. (last x h y q).0) handed a b p,
       part-keeps took broke notes_name (λ x h y q. (step x h y q).1) (λ x h y q. (last x h y q).1) handed a b p,
       decoding-broke (λ t. out (out_sink t)) (λ t. notes (notes_sink t)) out_last notes_last counts handed a b new few
-          (part-along took told broke failed (λ x h y q. (step x h y q).2) (λ x h y q. (last x h y q).2) handed a b p),
+          (part-along took reported broke failed (λ x h y q. (step x h y q).2)
+          (λ x h y q. (last x h y q).2) handed a b p),
     )
 
 -- the end of the report, or a part of it
-abbrev Told : {T K L R S : Type 0} → (T → K) → (T → L) → (T → R) → (T → S) → (S → SinkState) → (T → Counts) → T
+abbrev Stated : {T K L R S : Type 0} → (T → K) → (T → L) → (T → R) → (T → S) → (S → SinkState) → (T → Counts) → T
     → Totals → Bool → T → Type 0
-Told out_name notes_name out_sink notes_sink notes counts a totals is_good b =
+Stated out_name notes_name out_sink notes_sink notes counts a totals is_good b =
     (out_name b ≡ out_name a) × (notes_name b ≡ notes_name a) × (out_sink b ≡ out_sink a)
     × ((start : SinkState) (handed : List (Handed ItemValue))
     → ReportedAll start (notes (notes_sink a)) no_counts (counts a) handed
@@ -362,10 +366,10 @@ decode-whole : (c : Configuration) (totals : Totals) (octets : List ℕ) (handed
     → TookText notes notes_now (report_text handed totals)
     → (output : Output) × IsDecoded c octets output.out output.notes
     × WroteBoth output (taken_by out.taken out_now.taken notes.taken notes_now.taken)
-decode-whole c totals octets handed out out_now notes notes_now all frames told = (
+decode-whole c totals octets handed out out_now notes notes_now all frames reported = (
   record { out = handed_frames handed; notes = report_text handed totals },
   decoded c totals octets handed all,
-  record { out = frames.written; notes = told.written },
+  record { out = frames.written; notes = reported.written },
 )
 
 -- and where the notes failed in its end
@@ -374,7 +378,7 @@ decode-broke : (c : Configuration) (totals : Totals) (octets : List ℕ) (handed
     → AreReceived c octets handed totals → length octets ≤ c.limit → TookText out out_now (handed_frames handed)
     → BrokeText notes notes_now last (items_text 0 handed) (items_end_text (items_of handed) totals)
     → Ends SinkFault (decode_meaning c) c.limit octets (taken_by out.taken out_now.taken notes.taken notes_now.taken)
-decode-broke c totals octets handed out out_now notes notes_now last all within frames told =
+decode-broke c totals octets handed out out_now notes notes_now last all within frames reported =
     let text = report_text handed totals in
     let output : Output = record { out = handed_frames handed; notes = text } in
     let up_to : octets ≡ take c.limit octets = sym (take_all c.limit octets within) in (
@@ -382,7 +386,7 @@ decode-broke c totals octets handed out out_now notes notes_now last all within 
       subst (λ (l : List ℕ). IsDecoded c l (handed_frames handed) text) up_to (decoded c totals octets handed all),
       record {
         out = wrote-prefix out.taken out_now.taken (handed_frames handed) frames.written;
-        notes = notes-prefix notes notes_now last handed totals told;
+        notes = notes-prefix notes notes_now last handed totals reported;
       },
       (
         handed,
@@ -395,7 +399,7 @@ decode-broke c totals octets handed out out_now notes notes_now last all within 
           stops =
               inr (
                 frames.written ∙ ap (append_known out.taken) (sym (append-nil (handed_frames handed))),
-                told.written,
+                reported.written,
               );
         },
       ),
@@ -428,14 +432,14 @@ pub record Ended {K L : Type 0} (e : Ending) (c : Configuration) (octets : List 
 -- what was read to its end, and the end of its report, in the words of the sinks
 record AllTaken {K L : Type 0} (c : Configuration) (octets : List ℕ) (out_name out_name_now : K)
     (notes_name notes_name_now : L) (out out_now notes : SinkState)
-    (Told : List (Handed ItemValue) → Totals → Type 0) : Type 0 where
+    (Stated : List (Handed ItemValue) → Totals → Type 0) : Type 0 where
   handed : List (Handed ItemValue)
   totals : Totals
   are_received : AreReceived c octets handed totals
   out_same : out_name_now ≡ out_name
   notes_same : notes_name_now ≡ notes_name
   frames : TookText out out_now (handed_frames handed)
-  told : Told handed totals
+  reported : Stated handed totals
   within : length octets ≤ c.limit
 
 all-taken : {T K L R S : Type 0} (out_name : T → K) (notes_name : T → L) (out_sink : T → R) (out : R → SinkState)
@@ -468,7 +472,7 @@ all-taken out_name notes_name out_sink out notes_sink notes out_last notes_last 
       out_same = end.0 ∙ over.0;
       notes_same = end.1 ∙ over.1;
       frames = subst (λ s. TookText (out (out_sink a)) (out s) (handed_frames p.handed)) (sym end.2) over.2.0;
-      told = end.3 (notes (notes_sink a)) p.handed over.2.1;
+      reported = end.3 (notes (notes_sink a)) p.handed over.2.1;
       within = p.within;
     }
 
@@ -479,7 +483,7 @@ pub decode-ends : {T K L R S : Type 0} (out_name : T → K) (notes_name : T → 
     → HasList → OneList → DueFirst → FirstGo → FirstEnd → counts a ≡ no_counts → IsAccepted c
     → ReceivedTo (Decodes out_name notes_name out_sink out notes_sink notes counts)
     (DecodingFails out_name notes_name out_sink out notes_sink notes out_last notes_last counts)
-    (Told out_name notes_name out_sink notes_sink notes counts)
+    (Stated out_name notes_name out_sink notes_sink notes counts)
     (BrokeEnd out_name notes_name out_sink notes_sink notes notes_last counts) c e octets a b
     → Ended e c octets (out_name a) (out_name b) (notes_name a) (notes_name b) (out (out_sink a)) (out (out_sink b))
     (out_last b)
@@ -489,18 +493,18 @@ decode-ends out_name notes_name out_sink out notes_sink notes out_last notes_las
     let all = all-taken out_name notes_name out_sink out notes_sink notes out_last notes_last counts
     (λ start handed totals. TookText start (notes (notes_sink b)) (report_text handed totals)
     × ((true ≡ true) ↔ (bad (items_of handed) ≡ 0))) c octets a b new accepted p in
-    let none = all.told.1.0 refl in
+    let none = all.reported.1.0 refl in
     record {
       out_same = all.out_same;
       notes_same = all.notes_same;
       ends = (
         decode-whole c all.totals octets all.handed (out (out_sink a)) (out (out_sink b)) (notes (notes_sink a))
-            (notes (notes_sink b)) all.are_received all.frames all.told.0,
+            (notes (notes_sink b)) all.are_received all.frames all.reported.0,
         all.within,
         λ none. none,
         not_bad one c all.totals octets all.handed accepted all.are_received none,
       );
-      sinks = (all.frames.same, all.told.0.same);
+      sinks = (all.frames.same, all.reported.0.same);
     }
 decode-ends out_name notes_name out_sink out notes_sink notes out_last notes_last counts c Bad octets a b exists one
     stand go end new accepted p =
@@ -512,11 +516,11 @@ decode-ends out_name notes_name out_sink out notes_sink notes out_last notes_las
       notes_same = all.notes_same;
       ends = (
         decode-whole c all.totals octets all.handed (out (out_sink a)) (out (out_sink b)) (notes (notes_sink a))
-            (notes (notes_sink b)) all.are_received all.frames all.told.0,
+            (notes (notes_sink b)) all.are_received all.frames all.reported.0,
         all.within,
-        is_bad c all.totals octets all.handed all.are_received (λ none. subst IsFalse (all.told.1.1 none) tt),
+        is_bad c all.totals octets all.handed all.are_received (λ none. subst IsFalse (all.reported.1.1 none) tt),
       );
-      sinks = (all.frames.same, all.told.0.same);
+      sinks = (all.frames.same, all.reported.0.same);
     }
 decode-ends out_name notes_name out_sink out notes_sink notes out_last notes_last counts c LeftOver octets a b exists
     one stand go end new accepted p =
@@ -589,8 +593,8 @@ decode-ends out_name notes_name out_sink out notes_sink notes out_last notes_las
       notes_same = all.notes_same;
       ends =
           decode-broke c all.totals octets all.handed (out (out_sink a)) (out (out_sink b)) (notes (notes_sink a))
-          (notes (notes_sink b)) (notes_last b) all.are_received all.within all.frames all.told;
-      sinks = inr ((all.told.rose, all.told.later), all.frames.same);
+          (notes (notes_sink b)) (notes_last b) all.are_received all.within all.frames all.reported;
+      sinks = inr ((all.reported.rose, all.reported.later), all.frames.same);
     }
 
 -- ---- how `report` ends, which is `decode` without the frames

@@ -152,21 +152,34 @@ all_at t lt =
                                                             | inl l9 ↦ at_part 9216 t pass_9 (omega arith) (omega arith)
                                                             | inr g9 ↦
                                                                 (elim (cases_lt t 11264) [
-                                                                  | inl l10 ↦ at_part 10240 t pass_10 (omega arith) (omega arith)
+                                                                  | inl l10 ↦
+                                                                      at_part 10240 t pass_10 (omega arith)
+                                                                      (omega arith)
                                                                   | inr g10 ↦
                                                                       (elim (cases_lt t 12288) [
-                                                                        | inl l11 ↦ at_part 11264 t pass_11 (omega arith) (omega arith)
+                                                                        | inl l11 ↦
+                                                                            at_part 11264 t pass_11 (omega arith)
+                                                                            (omega arith)
                                                                         | inr g11 ↦
                                                                             (elim (cases_lt t 13312) [
-                                                                              | inl l12 ↦ at_part 12288 t pass_12 (omega arith) (omega arith)
+                                                                              | inl l12 ↦
+                                                                                  at_part 12288 t pass_12 (omega
+                                                                                  arith) (omega arith)
                                                                               | inr g12 ↦
                                                                                   (elim (cases_lt t 14336) [
-                                                                                    | inl l13 ↦ at_part 13312 t pass_13 (omega arith) (omega arith)
+                                                                                    | inl l13 ↦
+                                                                                        at_part 13312 t pass_13 (omega
+                                                                                        arith) (omega arith)
                                                                                     | inr g13 ↦
                                                                                         (elim (cases_lt t 15360) [
-                                                                                          | inl l14 ↦ at_part 14336 t pass_14 (omega arith) (omega arith)
+                                                                                          | inl l14 ↦
+                                                                                              at_part 14336 t pass_14
+                                                                                              (omega arith)
+                                                                                              (omega arith)
                                                                                           | inr g14 ↦
-                                                                                              at_part 15360 t pass_15 (omega arith) (omega arith)
+                                                                                              at_part 15360 t pass_15
+                                                                                                  (omega arith)
+                                                                                                  (omega arith)
                                                                                         ])
                                                                                   ])
                                                                             ])

@@ -63,10 +63,10 @@ module _ {F : Type 0} (fed : F → F → List ℕ → Type 0) (stopped : F → F
       (broken d.0.middle octets d.0.within d.0.were_fed d.0.at_end)
   ended-by ended unended PastLimit octets d = (early (take limit octets) (up-to octets) d.0, d.1)
 
-  pub ends-driven : (told : ℕ) → told ≡ limit → (ended unended : Type 0) (ending : Ending) (octets : List ℕ)
-      → DrivenTo fed stopped finished failed told before now ended unended ending octets
+  pub ends-driven : (stated : ℕ) → stated ≡ limit → (ended unended : Type 0) (ending : Ending) (octets : List ℕ)
+      → DrivenTo fed stopped finished failed stated before now ended unended ending octets
       → Ends ending meaning limit octets taken
-  ends-driven told is ended unended ending octets d = ended-by ended unended ending octets
+  ends-driven stated is ended unended ending octets d = ended-by ended unended ending octets
       (subst (λ (n : ℕ). DrivenTo fed stopped finished failed n before now ended unended ending octets) is d)
 
 -- the same of a command whose input is whole and not bad whatever it is, and which stops at a fault of a sink alone
@@ -94,9 +94,9 @@ module _ {F : Type 0} (fed fails : F → F → List ℕ → Type 0) (ends failed
   end-shows middle o outcome.Bad within were_fed p = let no = p.0 in cc no
   end-shows middle o outcome.LeftOver within were_fed p = let no = p.0 in cc no
 
-  pub done-driven : (told : ℕ) → told ≡ limit → (ended unended : Type 0) (ending : Ending) (octets : List ℕ)
-      → DrivenTo fed Stopped Finished failed told before now ended unended ending octets
+  pub done-driven : (stated : ℕ) → stated ≡ limit → (ended unended : Type 0) (ending : Ending) (octets : List ℕ)
+      → DrivenTo fed Stopped Finished failed stated before now ended unended ending octets
       → Ends ending meaning limit octets taken
-  done-driven told is ended unended ending octets d =
-      ends-driven fed Stopped Finished failed before now meaning limit taken early stop-shows end-shows broken told is
+  done-driven stated is ended unended ending octets d =
+      ends-driven fed Stopped Finished failed before now meaning limit taken early stop-shows end-shows broken stated is
       ended unended ending octets d

@@ -42,22 +42,22 @@ no-part : (before now : Option (List ℕ)) (text : List ℕ) → Wrote before no
 no-part before now text wrote = (0, wrote)
 
 -- a part after what was written before
-part-after : (start out out_now noted notes notes_now : Option (List ℕ)) (before octets told line : List ℕ)
-    → Wrote start out before → Wrote noted notes told
+part-after : (start out out_now noted notes notes_now : Option (List ℕ)) (before octets reported line : List ℕ)
+    → Wrote start out before → Wrote noted notes reported
     → (line ≡ []) ⊎ (before ≡ []) → WrotePart line octets out out_now notes notes_now
-    → WrotePart (told ++ line) (before ++ octets) start out_now noted notes_now
-part-after start out out_now noted notes notes_now before octets told line wrote wrote_line first (inr part) =
+    → WrotePart (reported ++ line) (before ++ octets) start out_now noted notes_now
+part-after start out out_now noted notes notes_now before octets reported line wrote wrote_line first (inr part) =
     inr (
       wrote-then_prefix start out out_now before octets wrote part.0,
-      wrote-then noted notes notes_now told line
+      wrote-then noted notes notes_now reported line
           wrote_line part.1,
     )
-part-after start out out_now noted notes notes_now before octets told line wrote wrote_line (inr none) (inl part) =
+part-after start out out_now noted notes notes_now before octets reported line wrote wrote_line (inr none) (inl part) =
     inl (
       subst (Wrote start out_now) (append-nil before ∙ none) (wrote-then start out out_now before [] wrote part.0),
-      wrote-then_prefix noted notes notes_now told line wrote_line part.1,
+      wrote-then_prefix noted notes notes_now reported line wrote_line part.1,
     )
-part-after start out out_now noted notes notes_now before octets told line wrote wrote_line (inl none) (inl part) =
+part-after start out out_now noted notes notes_now before octets reported line wrote wrote_line (inl none) (inl part) =
     let same : Wrote start out_now before = subst (Wrote start out_now) (append-nil before)
     (wrote-then start out out_now before [] wrote part.0) in
     let nothing : Wrote notes notes_now line = subst (Wrote notes notes_now) (sym none)
@@ -65,7 +65,7 @@ part-after start out out_now noted notes notes_now before octets told line wrote
     inr (
       prefix-of start out_now before octets (wrote-prefix start out_now before same),
       wrote-then noted notes
-          notes_now told line wrote_line nothing,
+          notes_now reported line wrote_line nothing,
     )
 
 -- ---- pieces
@@ -278,7 +278,10 @@ shows-part c octets taken taken_now noted noted_now w =
       is-bits c octets handed w.left w.are_handed,
       elim w.part as (λ _. WrotePrefixes (output-of c octets handed w.left)
           (taken_by taken taken_now noted noted_now)) [
-            | inl (inl p) ↦ record { out = no-part taken taken_now all p.0; notes = prefix-of noted noted_now line end p.1 }
+            | inl (inl p) ↦ record {
+              out = no-part taken taken_now all p.0;
+              notes = prefix-of noted noted_now line end p.1;
+            }
             | inl (inr p) ↦ record {
               out = p.0;
               notes = prefix-of noted noted_now line end

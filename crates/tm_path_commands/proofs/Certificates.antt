@@ -99,21 +99,21 @@ pub shows-least : AllShown → (e : Ending) (status : ℕ) (c : Configuration) (
     (taken taken_now noted noted_now : Option (List ℕ))
     → status ≡ status_of e → Ends e (check_meaning c) c.limit octets (taken_by taken taken_now noted noted_now)
     → status ≡ 0 → ShowsLeast c octets taken taken_now
-shows-least shown Done status c octets taken taken_now noted noted_now told ends none =
+shows-least shown Done status c octets taken taken_now noted noted_now said ends none =
     let o = ends.0.0 in
     shown-at shown c.inner c octets o.out o.notes taken taken_now ends.0.1 ends.0.2.out ends.2 ends.3
-shows-least shown Bad status c octets taken taken_now noted noted_now told ends none =
-    absurd (omega (arith, told, none))
-shows-least shown BadWindow status c octets taken taken_now noted noted_now told ends none =
-    absurd (omega (arith, told, none))
-shows-least shown LeftOver status c octets taken taken_now noted noted_now told ends none =
-    absurd (omega (arith, told, none))
-shows-least shown SourceFault status c octets taken taken_now noted noted_now told ends none =
-    absurd (omega (arith, told, none))
-shows-least shown SinkFault status c octets taken taken_now noted noted_now told ends none =
-    absurd (omega (arith, told, none))
-shows-least shown PastLimit status c octets taken taken_now noted noted_now told ends none =
-    absurd (omega (arith, told, none))
+shows-least shown Bad status c octets taken taken_now noted noted_now said ends none =
+    absurd (omega (arith, said, none))
+shows-least shown BadWindow status c octets taken taken_now noted noted_now said ends none =
+    absurd (omega (arith, said, none))
+shows-least shown LeftOver status c octets taken taken_now noted noted_now said ends none =
+    absurd (omega (arith, said, none))
+shows-least shown SourceFault status c octets taken taken_now noted noted_now said ends none =
+    absurd (omega (arith, said, none))
+shows-least shown SinkFault status c octets taken taken_now noted noted_now said ends none =
+    absurd (omega (arith, said, none))
+shows-least shown PastLimit status c octets taken taken_now noted noted_now said ends none =
+    absurd (omega (arith, said, none))
 
 -- ---- what `certify` writes is whole
 
@@ -257,7 +257,7 @@ pub passes-certified : OneRead → Passing → (e : Ending) (status : ℕ) (c : 
     (taken taken_now noted noted_now : Option (List ℕ))
     → IsAccepted c → status ≡ status_of e → Ends e (check_meaning c) c.limit octets
     (taken_by taken taken_now noted noted_now) → PassesCertified status c octets noted noted_now
-passes-certified one passing Done status c octets taken taken_now noted noted_now accepted told ends =
+passes-certified one passing Done status c octets taken taken_now noted noted_now accepted said ends =
     λ d given same small all within source sink.
     let o = ends.0.0 in
     let r = by-rate (λ rules. IsChecked rules octets o.out o.notes) c.inner c ends.0.1 in
@@ -265,22 +265,22 @@ passes-certified one passing Done status c octets taken taken_now noted noted_no
     (same-unfollowed c d same) refl small all in
     let text = notes-whole one (rules_of c r.0) octets o.out o.notes k.windows r.2 k.whole
     ∙ same-trace c (unfollowed d) given octets all.are_handed.items r.0 k in
-    (told, subst (Wrote noted noted_now) text ends.0.2.notes)
-passes-certified one passing Bad status c octets taken taken_now noted noted_now accepted told ends =
+    (said, subst (Wrote noted noted_now) text ends.0.2.notes)
+passes-certified one passing Bad status c octets taken taken_now noted noted_now accepted said ends =
     λ d given same small all within source sink.
     absurd (not-broken one passing c (unfollowed d) given octets accepted
     (same-unfollowed c d same) refl small all ends.2)
-passes-certified one passing BadWindow status c octets taken taken_now noted noted_now accepted told ends =
+passes-certified one passing BadWindow status c octets taken taken_now noted noted_now accepted said ends =
     λ d given same small all within source sink.
     absurd (not-broken one passing c (unfollowed d) given octets accepted (same-unfollowed c d same) refl small all
     (subst (check_meaning c).is_bad (take_all c.limit octets within) ends.2))
-passes-certified one passing LeftOver status c octets taken taken_now noted noted_now accepted told ends =
+passes-certified one passing LeftOver status c octets taken taken_now noted noted_now accepted said ends =
     λ d given same small all within source sink.
     absurd (not-cut one passing c (unfollowed d) given octets accepted (same-unfollowed c d same) refl small all ends.2)
-passes-certified one passing SourceFault status c octets taken taken_now noted noted_now accepted told ends =
-    λ d given same small all within source sink. absurd (source told)
-passes-certified one passing SinkFault status c octets taken taken_now noted noted_now accepted told ends =
-    λ d given same small all within source sink. absurd (sink told)
-passes-certified one passing PastLimit status c octets taken taken_now noted noted_now accepted told ends =
+passes-certified one passing SourceFault status c octets taken taken_now noted noted_now accepted said ends =
+    λ d given same small all within source sink. absurd (source said)
+passes-certified one passing SinkFault status c octets taken taken_now noted noted_now accepted said ends =
+    λ d given same small all within source sink. absurd (sink said)
+passes-certified one passing PastLimit status c octets taken taken_now noted noted_now accepted said ends =
     λ d given same small all within source sink.
     absurd (omega (arith, within, ends.1))

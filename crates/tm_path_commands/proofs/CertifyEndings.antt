@@ -149,7 +149,8 @@ module _ (exists : HasBlocks) (stands : StandFirst) (phase : HasPhase) (stays : 
           record { out = t.wrote; notes = wrote-nothing noted },
         ),
         λ more.
-            let later = prefix-later c octets more t.handed t.text taken taken_now accepted t.unfollowed t.wrote due in (
+            let later = prefix-later c octets more t.handed t.text taken taken_now accepted t.unfollowed t.wrote due
+            in (
               record { out = later.0; notes = [] },
               (later.1, refl),
               record { out = later.2; notes = (0, wrote-nothing noted) },

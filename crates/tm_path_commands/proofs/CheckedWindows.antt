@@ -305,16 +305,16 @@ pub stops-now : ReadStays → (stop : Stop) (rules : Rules) (r : Reading) (p : P
     (reason : Reason) → IsSeen r.rules r.before r.octets (Failed reason) → Passes rules r p start taken was noted given
     → NoneFails rules (but_last_turn (given ++ more)) → WroteBy stop noted noted_now (bad_text p.count reason)
     → StopsBy stop rules start taken was noted_now (given ++ more)
-stops-now stays BadWindow rules r p start taken was noted noted_now given more reason is h late told =
+stops-now stays BadWindow rules r p start taken was noted noted_now given more reason is h late reported =
     fails-now TookAfter stays rules r p start taken was noted noted_now given more reason is h late
     (wrote-then was noted noted_now (windows_text 0 h.windows) (bad_text (length h.windows) reason) h.wrote.notes
-    (subst (λ (n : ℕ). Wrote noted noted_now (bad_text n reason)) h.count told))
-stops-now stays SinkFault rules r p start taken was noted noted_now given more reason is h late told =
+    (subst (λ (n : ℕ). Wrote noted noted_now (bad_text n reason)) h.count reported))
+stops-now stays SinkFault rules r p start taken was noted noted_now given more reason is h late reported =
     inr (fails-now TookPartAfter stays rules r p start taken was noted noted_now given more reason is h late (
-      told.0,
+      reported.0,
       wrote-then was noted noted_now (windows_text 0 h.windows)
-          (take told.0 (bad_text (length h.windows) reason)) h.wrote.notes
-          (subst (λ (n : ℕ). Wrote noted noted_now (take told.0 (bad_text n reason))) h.count told.1),
+          (take reported.0 (bad_text (length h.windows) reason)) h.wrote.notes
+          (subst (λ (n : ℕ). Wrote noted noted_now (take reported.0 (bad_text n reason))) h.count reported.1),
     ))
 
 -- what is seen is seen by the reader as it is now

@@ -280,9 +280,9 @@ due-are c batch beyond start now octets h space = record {
       (subst (λ (k : Coding). length batch.octets < 256 * record_size k) h.coding space));
 }
   where
-    batched : (told count held batches : ℕ) → told ≡ 256 * batches → count ≡ told + held → held < 256
-        → told ≡ in_batches count
-    batched told count held batches whole is few =
+    batched : (stated count held batches : ℕ) → stated ≡ 256 * batches → count ≡ stated + held → held < 256
+        → stated ≡ in_batches count
+    batched stated count held batches whole is few =
         whole ∙ ap (λ n. 256 * n) (sym (ap (λ n. n / 256) (is ∙ ap (λ n. n + held) whole ∙ omega arith)
         ∙ div-mul-add batches 256 held few))
 
@@ -394,15 +394,15 @@ pub wrote-last : (batch after : Batch) (beyond last : Bool) (more : List Nearest
     → outcome ≡ outcome_with o (beyond || last)
     → WroteAll c octets outcome start later noted noted_now
 wrote-last batch after beyond last more rest now later noted noted_now space coding same are c start octets h o outcome
-    short wrote is told ends =
+    short wrote is stated ends =
     let known : rest ≡ left_over c octets = rest-held c batch after beyond start now octets rest space h coding same is
     in record {
       nearest = h.nearest ++ more;
       are_nearest = all-nearest c batch beyond start now octets h more space are;
       short = subst (λ (x : Coding). x.params.n ≤ 255) h.coding short;
       lines = all-lines c batch beyond start now later octets h more wrote.0;
-      rest = subst (λ (n : ℕ). Wrote noted noted_now (left_over_text n)) known told.1;
-      outcome_is = ends ∙ (λ i. outcome_with ((told.0 ∙ ap outcome_by known) i)
+      rest = subst (λ (n : ℕ). Wrote noted noted_now (left_over_text n)) known stated.1;
+      outcome_is = ends ∙ (λ i. outcome_with ((stated.0 ∙ ap outcome_by known) i)
           (held-beyond c batch beyond last start now octets h more wrote.1 i));
     }
 
@@ -423,13 +423,13 @@ pub broke-rest : (batch after : Batch) (beyond : Bool) (more : List NearestErase
     → Wrote now later (nearest_lines batch.coding.basis more) → rest ≡ left_over after.coding after.octets
     → WrotePrefix noted noted_now (left_over_text rest)
     → BrokeLast c octets start later noted noted_now
-broke-rest batch after beyond more rest now later noted noted_now space coding same are c start octets h wrote is told
+broke-rest batch after beyond more rest now later noted noted_now space coding same are c start octets h wrote is stated
     = inr (record {
       nearest = h.nearest ++ more;
       are_nearest = all-nearest c batch beyond start now octets h more space are;
       lines = all-lines c batch beyond start now later octets h more wrote;
       rest = subst (λ (n : ℕ). WrotePrefix noted noted_now (left_over_text n))
-          (rest-held c batch after beyond start now octets rest space h coding same is) told;
+          (rest-held c batch after beyond start now octets rest space h coding same is) stated;
     })
 
 -- ---- what is shown
@@ -560,8 +560,8 @@ module _ {F K : Type 0} (at : F → Stand) (notes : F → K) (noted : K → Opti
       (ap noted fed.1) (fed.2 k start [] none))
       (λ o stop within stopped. shows-stop c start (at now).taken first last o stop stopped.0 (ap noted stopped.1)
       (stopped.2 k start [] none))
-      (λ middle o outcome within fed told. shows-whole c start (at now).taken first last o outcome
-      (noted (notes middle)) (ap noted fed.1) (told k start o (fed.2 k start [] none)))
+      (λ middle o outcome within fed stated. shows-whole c start (at now).taken first last o outcome
+      (noted (notes middle)) (ap noted fed.1) (stated k start o (fed.2 k start [] none)))
       (λ middle o within fed broke. shows-broken c start (at now).taken first last o (noted (notes middle))
       (ap noted fed.1) (broke k start o (fed.2 k start [] none)))
       limit is ended unended ending octets driven

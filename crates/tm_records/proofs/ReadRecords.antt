@@ -28,14 +28,14 @@ nearest-are c octets (w ∷ words) (w' ∷ now) read become =
     one : DecodesErased c.params c.repair w w' → IsNearestErased c.params.e c.repair (first_erased c octets)
         (first_word c octets) (nearest_in c w')
     one d =
-        let told : d.answer ≡ unwrap_or w'.answer Beyond = sym
+        let said : d.answer ≡ unwrap_or w'.answer Beyond = sym
         (ap (λ (o : Option ErasedAnswer). unwrap_or o Beyond) d.answered) in
         subst (λ (l : List ℕ). IsNearestErased c.params.e c.repair (first_erased c octets) l (nearest_in c w'))
         read.0.symbols
         (subst (λ (f : List Bool). IsNearestErased c.params.e c.repair f (numbers (take c.params.n w.symbols))
         (nearest_in c w')) read.0.erased
         (subst (λ (a : ErasedAnswer). IsNearestErased c.params.e c.repair (take c.params.n w.erased)
-        (numbers (take c.params.n w.symbols)) (found_erased a (numbers (take c.params.n w'.symbols)))) told
+        (numbers (take c.params.n w.symbols)) (found_erased a (numbers (take c.params.n w'.symbols)))) said
         d.nearest))
 
 -- a record that was read into a word

@@ -944,7 +944,7 @@ record Reported (s : Searching) (bits : List Bool) (found : List Found) (m : Awa
   full : s.rules.block_bits ≤ s.after
   ends : m.found.place + 32 + s.after ≡ length bits
   rest : List Found
-  tells : places s.rules bits ≡ found ++ m.found ∷ rest
+  states : places s.rules bits ≡ found ++ m.found ∷ rest
   many : length rest ≡ (s.after - s.rules.block_bits) / (32 + s.rules.block_bits)
   last : end_after s.rules (m.found.place + 32 + s.rules.block_bits) rest
       ≡ m.found.place + 32 + s.rules.block_bits + length rest * (32 + s.rules.block_bits)
@@ -980,7 +980,7 @@ reported-of s room bits found h m was pending =
       full = full;
       ends = ends;
       rest = places_from s.rules (m.found.place + 32 + s.rules.block_bits) 0 (Some m.next) since;
-      tells = places-now s room bits found h
+      states = places-now s room bits found h
           ∙ ap (λ fs. found ++ fs) (ap (places_from s.rules (length h.prefix) 0 s.before) (sym split)
           ∙ places_from-whole s.rules (length h.prefix) s.before (take k h.rest) (drop k h.rest) f
           (ap (first_place s.rules (length h.prefix) s.before) split ∙ a.1) (omega arith)
@@ -1069,7 +1069,7 @@ gives s s' room m bits found h reported t awaited ends fresh run recent many =
     let left = reported.left.size in
     let place = reported.ends in
     let full = reported.full in
-    let tells : places s.rules bits ≡ (found ++ m.found ∷ []) ++ reported.rest = reported.tells
+    let states : places s.rules bits ≡ (found ++ m.found ∷ []) ++ reported.rest = reported.states
     ∙ sym (append_assoc found (m.found ∷ []) reported.rest) in
     let since = length-drop e bits in
     let size : length (take e bits) ≡ e = length-take-le e bits (omega arith) in
@@ -1080,7 +1080,7 @@ gives s s' room m bits found h reported t awaited ends fresh run recent many =
         parts = sym (take-append-drop e bits);
         found_first =
             ap (λ r. take (length (found ++ m.found ∷ [])) (places r bits)) t.rules
-            ∙ ap (take (length (found ++ m.found ∷ []))) tells
+            ∙ ap (take (length (found ++ m.found ∷ []))) states
             ∙ take_at (found ++ m.found ∷ []) reported.rest (length (found ++ m.found ∷ [])) refl;
         ends = ap (λ r. end_of r (found ++ m.found ∷ [])) t.rules ∙ end-last s.rules found m.found ∙ sym size;
         start_is = t.start ∙ sym size;
@@ -1096,7 +1096,7 @@ gives s s' room m bits found h reported t awaited ends fresh run recent many =
         sized = h.sized ∙ ap verify_bits (sym t.rules);
         recent = recent;
       },
-      (reported.rest, reported.tells, many),
+      (reported.rest, reported.states, many),
       ap (λ n. m.found.place + 32 + n) inside ∙ reported.ends,
     )
 
@@ -1145,7 +1145,7 @@ reported_last s s' room m pending t short free fresh bits found stood =
 pub reported-recent : (s : Searching) (room : List ℕ) (count : ℕ) (bits : List Bool) (found rest : List Found)
     (f : Found) → inside_of s ≡ Some count → s.rules.block_bits < count
     → SearchStandsFor s room bits found → places s.rules bits ≡ found ++ f ∷ rest → IsRecent room bits f.place
-reported-recent s room count bits found rest f is more stood tells = go s.awaited refl
+reported-recent s room count bits found rest f is more stood states = go s.awaited refl
   where
     go : (o : Option Awaited) → s.awaited ≡ o → IsRecent room bits f.place
     go None e = let no : None ≡ Some count = ap (option_map (λ _. s.after)) (sym e) ∙ is in absurd (cc)
@@ -1158,7 +1158,7 @@ reported-recent s room count bits found rest f is more stood tells = go s.awaite
         (λ count. nat_le s.rules.block_bits count) (option_map (λ _. s.after) o) false) e ∙ full in
         let reported = reported-of s room bits found (parts_of s room bits found stood) m e pending in
         let lists : f ∷ rest ≡ m.found ∷ reported.rest = append_cancel_left found (f ∷ rest) (m.found ∷ reported.rest)
-        (sym tells ∙ reported.tells) in
+        (sym states ∙ reported.states) in
         let this : f ≡ m.found = cc in
         let from : from_of s s.awaited ≡ f.place =
         ap (from_of s) e ∙ ap (λ c. cond c s.pushed m.found.place) over ∙ ap (λ (g : Found). g.place) (sym this) in
@@ -1240,7 +1240,7 @@ reported_next s s' room m a received pending t most long awaits after bits found
         ap (wrong_bits m.found.inverted) (sym (take-append-drop 32 left))
         ∙ wrong_bits-append m.found.inverted l (drop 32 left) (omega arith) in
         let a_is : a ≡ awaited_at s'.before (found_at s'.start false m.found.inverted l) =
-            matches l size-l received_is in
+        matches l size-l received_is in
         let ahead : first_place s'.rules e s'.before left ≡ Some (found_at s'.start false m.found.inverted l) =
         (λ i. first_place (t.rules i) e (t.before i) left)
         ∙ first-here s.rules e m.next left (found_at e false m.found.inverted left) (omega arith)
@@ -1302,7 +1302,7 @@ left-pending s room pending bits found stood = go s.awaited refl
         let many = ap (λ n. n * (32 + s.rules.block_bits)) reported.many in
         let end : end_of s.rules (places s.rules bits) ≡ m.found.place + 32 + s.rules.block_bits + length
         reported.rest * (32 + s.rules.block_bits) =
-        ap (end_of s.rules) reported.tells ∙ sym (end_after-is s.rules (found ++ m.found ∷ reported.rest))
+        ap (end_of s.rules) reported.states ∙ sym (end_after-is s.rules (found ++ m.found ∷ reported.rest))
         ∙ end_after-append s.rules 0 found (m.found ∷ reported.rest) ∙ reported.last in
         omega arith
 

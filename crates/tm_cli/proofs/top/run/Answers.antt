@@ -72,9 +72,9 @@ returns-in-Ok-clause-answered g c = λ job asked _.
       complete =
           λ none. subst (λ (s : ℕ). (s ≡ 0) ⊎ (s ≡ 1) ⊎ (s ≡ 6) ⊎ (s ≡ 7)) (sym is)
           (without-fault ending (no_source none) (no_sink none));
-      whole_input = λ input told within whole none. subst (λ (s : ℕ). (s ≡ 0) ⊎ (s ≡ 1)) (sym is)
+      whole_input = λ input said within whole none. subst (λ (s : ℕ). (s ≡ 0) ⊎ (s ≡ 1)) (sym is)
           (whole-input_known ending (meaning_of command config) config.limit h.0 input
-          (g.S.Source.left c.dispatch.new.source) all h.1.ends (sym told ∙ h.1.gave.consumed) at_end within whole
+          (g.S.Source.left c.dispatch.new.source) all h.1.ends (sym said ∙ h.1.gave.consumed) at_end within whole
           (no_source none) (no_sink none));
       clean =
           λ asks. c.link_law.ensures.clean ending c.status.result config h.0 taken now noted noted_now read.2 is

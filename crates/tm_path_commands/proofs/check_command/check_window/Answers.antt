@@ -12,11 +12,11 @@ returns-in-Err-clause-stopped g c = λ rules start noted given short h.
     let piece = c.args.piece.now in
     let n = c.push-taken.result.0 in
     let now = g.O.Sink.taken c.end_window.new.out in
-    let told = g.N.Sink.taken c.end_window.new.notes in
+    let reported = g.N.Sink.taken c.end_window.new.notes in
     let few : length (given ++ take n piece) < 2 ^ 43 = omega
     (arith, length-append given (take n piece), length-take-le n piece c.push-taken.ensures.taken) in
-    inl (subst (Breaks rules start now noted told) (piece-all given piece n)
-    (breaks-longer rules start now noted told (given ++ take n piece) (drop n piece)
+    inl (subst (Breaks rules start now noted reported) (piece-all given piece n)
+    (breaks-longer rules start now noted reported (given ++ take n piece) (drop n piece)
     (c.in-Err.ensures.err rules start noted (given ++ take n piece) few
     (passes-more rules c.args.reader.now c.push-taken.new.self c.args.progress.now start
     (g.O.Sink.taken c.args.out.now) noted (g.N.Sink.taken c.args.notes.now) given (take n piece)
@@ -27,18 +27,18 @@ returns-in-Failed-clause-stopped g c = λ rules start noted given short h.
     let piece = c.args.piece.now in
     let n = c.push-taken.result.0 in
     let taken = g.O.Sink.taken c.args.out.now in
-    let told = g.N.Sink.taken c.args.notes.now in
-    let told_now = g.N.Sink.taken c.write_failed.new.notes in
+    let reported = g.N.Sink.taken c.args.notes.now in
+    let reported_now = g.N.Sink.taken c.write_failed.new.notes in
     let reason = c.in-Failed.reason in
-    subst (StopsBy c.write_failed.result rules start taken noted told_now) (piece-all given piece n)
+    subst (StopsBy c.write_failed.result rules start taken noted reported_now) (piece-all given piece n)
     (stops-now c.read_law.ensures.stays c.write_failed.result rules c.push-taken.new.self c.args.progress.now start
-    taken noted told told_now (given ++ take n piece) (drop n piece) reason
+    taken noted reported reported_now (given ++ take n piece) (drop n piece) reason
     (seen-now c.args.reader.now c.push-taken.new.self c.push-taken.result.1
     (Failed reason) c.push-taken.ensures.rules c.push-taken.ensures.before c.in-Failed.is c.push-taken.ensures.seen)
-    (passes-more rules c.args.reader.now c.push-taken.new.self c.args.progress.now start taken noted told given
+    (passes-more rules c.args.reader.now c.push-taken.new.self c.args.progress.now start taken noted reported given
     (take n piece)
     c.push-taken.ensures.rules (λ windows. c.push-taken.ensures.stands given windows) h)
     (subst (λ o. NoneFails rules (but_last_turn o)) (sym (piece-all given piece n))
     (none-fails c.read_law.ensures.stays c.read_law.ensures.one rules c.args.reader.now c.args.progress.now start taken
-    noted told given piece c.requires.few c.requires.open h))
+    noted reported given piece c.requires.few c.requires.open h))
     c.write_failed.ensures.line)

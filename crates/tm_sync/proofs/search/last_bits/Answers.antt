@@ -12,6 +12,6 @@ loop-octet-preserved c = λ bits is.
     let grows : take (i + 1) octets ≡ take i octets ++ x ∷ [] = take_more octets i 0 (omega arith) in
     ap (bit_or (c.loop-octet.last * 256 % 2 ^ 32)) c.from.ensures
     ∙ received-octet c.loop-octet.last x (bits ++ bits_of (take i octets)) (omega arith)
-        (c.loop-octet.invariant bits is)
+    (c.loop-octet.invariant bits is)
     ∙ ap (λ (l : List Bool). number_of l % 2 ^ 32) (bits-more bits (take i octets) x
     ∙ ap (λ l. bits ++ bits_of l) (sym grows))

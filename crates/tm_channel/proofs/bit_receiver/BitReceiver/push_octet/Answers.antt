@@ -14,9 +14,9 @@ begins c =
     let few : unwrap_or (inside_of c.push_octet.new.self) 0 < 8 =
     subst (λ (o : Option ℕ). IfNone o (unwrap_or (inside_of c.push_octet.new.self) 0 < 8)) c.requires.outside
     c.push_octet.ensures.first in
-    let told : c.unwrap_or-begun.result ≡ unwrap_or (inside_of c.push_octet.new.self) 0 = c.unwrap_or-begun.ensures
+    let said : c.unwrap_or-begun.result ≡ unwrap_or (inside_of c.push_octet.new.self) 0 = c.unwrap_or-begun.ensures
     ∙ ap (λ (o : Option ℕ). unwrap_or o 0) c.inside.ensures.count in
-    (c.begin.ensures.part ∙ ap (λ n. low_bits n c.args.octet) told, few)
+    (c.begin.ensures.part ∙ ap (λ n. low_bits n c.args.octet) said, few)
 
 pub push_octet-requires-clause-alone : goal.push_octet-requires-clause-alone
 push_octet-requires-clause-alone c =

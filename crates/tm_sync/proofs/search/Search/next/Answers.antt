@@ -78,6 +78,6 @@ returns-else-left-lt32-clause-some c bits found h =
       before = refl;
     } (most_after s _ view c.self.invariant.0) (omega (arith, c.if-left-lt32.false)) refl (omega arith) bits found
     (λ from r back there. c.received_at-received.ensures bits from
-        (recalls-same s _ room bits from pushed received rules r)
+    (recalls-same s _ room bits from pushed received rules r)
     (subst (λ (r : Rules). (since ≡ 0) ⊎ ((32 ≤ since) × (since ≤ verify_bits r))) (sym rules) back) there)
     (λ l size is. c.matched.ensures (Some m.next) l size is) h

@@ -14,7 +14,7 @@ returns-then-back-eq0 c = λ bits from r back there.
           (zero-from-test (length c.args.room.now) (sym w.is_empty.ensures ∙ w.if-is_empty.true)) back
     ] in
     ap (λ (v : Searching). v.received) c.self.view_is ∙ received-now c.args.self.now c.args.room.now bits from
-        c.args.back r
+    c.args.back r
     none there
 
 pub loop-k-preserved : goal.loop-k-preserved
@@ -27,7 +27,7 @@ loop-k-preserved c = λ bits from r long few there.
     64 ≡ n + c.loop-k.k = omega arith in
     ap (bit_or (c.loop-k.received * 2 % 2 ^ 32)) c.from.ensures
     ∙ received-more c.args.self.now room bits from c.args.back c.loop-k.k _ c.loop-k.received r long few there
-        (omega arith)
+    (omega arith)
     (ap (λ j. j % length room) at)
     (c.loop-k.invariant bits from r long few there)
 
@@ -38,6 +38,6 @@ returns c = λ bits from r back there.
     ⊎_elim (λ zero. absurd (none zero)) (λ more. more) back in
     let left = length-drop (length bits - (32 + c.args.back)) bits in
     received-whole c.loop-k.received c.loop-k.k (drop (length bits - (32 + c.args.back)) bits) (omega arith)
-        (omega arith)
+    (omega arith)
     (omega arith)
     (c.loop-k.invariant bits from r far.0 far.1 there)

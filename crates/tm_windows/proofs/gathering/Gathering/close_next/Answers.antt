@@ -4,7 +4,7 @@ use Rattle.tm_windows.proofs.gathering.Gathering.close_next.Goals as goal
 
 -- the octets dropped before the window, where it was decided how many
 dropped-is : (o : Option ℕ) (k n : ℕ) → o ≡ Some k → n ≡ unwrap_or o 0 → o ≡ Some n
-dropped-is o k n is told = is ∙ ap (λ (v : ℕ). Some v) (sym (told ∙ ap (λ (v : Option ℕ). unwrap_or v 0) is))
+dropped-is o k n is said = is ∙ ap (λ (v : ℕ). Some v) (sym (said ∙ ap (λ (v : Option ℕ). unwrap_or v 0) is))
 
 -- octets are dropped only where the phase is followed
 followed : (g : Gathering) (k : ℕ) → g.dropped ≡ Some k → 0 < k → (steps : ℕ) × (g.seen ≡ Some steps)
