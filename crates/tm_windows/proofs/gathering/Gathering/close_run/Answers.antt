@@ -72,6 +72,11 @@ runs g count m all rest done blocks prefix to undropped some room is still r pre
     (subst (λ (o : Option ℕ). IsAt w r.to o at) undropped r.at) here
     (all-undropped w g.t count (length blocks) held rest few (omega (arith, cut.inside, cut.within)) still)
 
+-- how many octets are left after these
+left-and-run : (held left : List ℕ) (size : ℕ) → left ≡ drop size held → size ≤ length held
+    → length left + size ≡ length held
+left-and-run held left size is most = omega (arith, ap length is, length-drop size held, most)
+
 pub returns-in-Ok : goal.returns-in-Ok
 returns-in-Ok g c =
     let s = c.args.self.now in
@@ -87,13 +92,8 @@ returns-in-Ok g c =
     let prefix = take m s.held.octets in
     let prefixes = closed-same s.shape s.workers.shape s.starts s.t (take m c.as_slice.result.now) prefix ok.0
     (λ v o. after_windows v s.t o count next) s.workers_shape (ap (take m) c.as_slice.ensures.octets) ok.2 in
-    let rest_is : length left + size ≡ length s.held.octets = omega (
-      arith,
-      ap length c.drop_first.ensures.octets,
-      length-drop size s.held.octets,
-      cut.inside,
-      cut.within,
-    ) in
+    let rest_is = left-and-run s.held.octets left size c.drop_first.ensures.octets
+    (omega (arith, cut.inside, cut.within)) in
     record {
       ok = (
         ok.0,
