@@ -54,24 +54,30 @@ distance_le_weights [] w e = omega arith
 distance_le_weights (x ∷ xs) [] e = absurd (omega arith)
 distance_le_weights (x ∷ xs) (y ∷ ys) e = omega (arith, distance_le_weights xs ys (omega arith), one_place x y)
 
-pub pattern_unique : (e n : ℕ) (s : ℕ → ℕ) (v w : List ℕ) → n ≤ 255 → IsPattern e n s v → IsPattern e n s w → v ≡ w
-pattern_unique e n s v w small pv pw =
-    let same : length v ≡ length w = pv.size ∙ sym pw.size in
+-- words with the same syndromes that differ in no more than 2e places are one word
+pub near_words_same : (e : ℕ) (s : ℕ → ℕ) (v w : List ℕ) → length v ≤ 255 → length v ≡ length w → AreElements v
+    → AreElements w
+    → ((k : ℕ) → k < 2 * e → value_at v (root e k) ≡ s k) → ((k : ℕ) → k < 2 * e → value_at w (root e k) ≡ s k)
+    → distance v w ≤ 2 * e → v ≡ w
+near_words_same e s v w small same ev ew sv sw near =
     elim (cases_eq (distance v w) 0) [
       | inl z ↦ same_of_distance v w same z
       | inr ne ↦ absurd (omega (
         arith,
-        distance_le_weights v w same,
-        pv.few,
-        pw.few,
+        near,
         weight-sums v w,
-        weight_law e (sums v w) (AreElements-sums v w pv.elements pw.elements)
-            (omega (arith, length-sums v w same, pv.size))
-            (λ k lt. value_at-sums v w (root e k) same ∙ ap (λ (y : ℕ). bit_xor y (value_at w (root e k)))
-            (pv.meets k lt) ∙ ap (bit_xor (s k)) (pw.meets k lt) ∙ xor_self (s k))
+        weight_law e (sums v w) (AreElements-sums v w ev ew) (omega (arith, length-sums v w same))
+            (λ k lt. value_at-sums v w (root e k) same ∙ ap (λ (y : ℕ). bit_xor y (value_at w (root e k))) (sv k lt)
+            ∙ ap (bit_xor (s k)) (sw k lt) ∙ xor_self (s k))
             (λ z. ne (sym (weight-sums v w) ∙ z)),
       ))
     ]
+
+pub pattern_unique : (e n : ℕ) (s : ℕ → ℕ) (v w : List ℕ) → n ≤ 255 → IsPattern e n s v → IsPattern e n s w → v ≡ w
+pattern_unique e n s v w small pv pw =
+    let same : length v ≡ length w = pv.size ∙ sym pw.size in
+    near_words_same e s v w (omega (arith, pv.size)) same pv.elements pw.elements pv.meets pw.meets
+    (omega (arith, distance_le_weights v w same, pv.few, pw.few))
 
 -- a near codeword gives a pattern
 pub pattern_of_codeword : (e n : ℕ) (s : ℕ → ℕ) (u c : List ℕ) → length u ≡ n → length c ≡ n → AreElements u

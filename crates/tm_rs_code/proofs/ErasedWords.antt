@@ -12,10 +12,10 @@ use Rattle.tm_rs_code.specs.Erasures.{IsErasedPattern, IsNearestErased, IsWithin
 use Rattle.tm_rs_code.specs.Erasures.NearestErased.{Fixed, Beyond}
 use Rattle.tm_rs_code.specs.Pattern.{locator_of}
 use Rattle.tm_rs_code.specs.ErrorValues.{Covers, IsLocated, symbol_at}
-use Rattle.tm_rs_code.proofs.DistanceLaw.{value_at-sums, length-sums, AreElements-sums, weight-sums, weight_law, same_of_distance}
+use Rattle.tm_rs_code.proofs.DistanceLaw.{value_at-sums, length-sums, AreElements-sums, weight-sums}
 use Rattle.tm_rs_code.proofs.Nearest.{distance-comm}
 use Rattle.tm_rs_code.proofs.OnlyNearest.{distance_outside, length-outside}
-use Rattle.tm_rs_code.proofs.Corrections.{distance_le_weights, distance-sums}
+use Rattle.tm_rs_code.proofs.Corrections.{distance_le_weights, distance-sums, near_words_same}
 use Rattle.tm_rs_code.proofs.ErasedPlaces.{root_has_symbol, symbol_has_root, symbol_at-head, symbol_at-tail}
 
 -- ---- parts of sums
@@ -61,22 +61,13 @@ pub erased_pattern_unique : (e : ℕ) (fs : List Bool) (s : ℕ → ℕ) (v w : 
     → IsErasedPattern e fs s v → IsErasedPattern e fs s w → v ≡ w
 erased_pattern_unique e fs s v w short pv pw =
     let same : length v ≡ length w = pv.size ∙ sym pw.size in
-    elim (cases_eq (distance v w) 0) [
-      | inl z ↦ same_of_distance v w same z
-      | inr ne ↦ absurd (omega (
-        arith,
-        distance_outside fs v w same (sym pv.size),
-        distance_le_weights (outside fs v) (outside fs w) (same_length fs v w same),
-        pv.few,
-        pw.few,
-        weight-sums v w,
-        weight_law e (sums v w) (AreElements-sums v w pv.elements pw.elements)
-            (omega (arith, length-sums v w same, pv.size))
-            (λ k lt. value_at-sums v w (root e k) same ∙ ap (λ (y : ℕ). bit_xor y (value_at w (root e k)))
-            (pv.meets k lt) ∙ ap (bit_xor (s k)) (pw.meets k lt) ∙ xor_self (s k))
-            (λ z. ne (sym (weight-sums v w) ∙ z)),
-      ))
-    ]
+    near_words_same e s v w (omega (arith, pv.size)) same pv.elements pw.elements pv.meets pw.meets (omega (
+      arith,
+      distance_outside fs v w same (sym pv.size),
+      distance_le_weights (outside fs v) (outside fs w) (same_length fs v w same),
+      pv.few,
+      pw.few,
+    ))
 
 outside_weight : (fs : List Bool) (u c : List ℕ) → length u ≡ length c
     → weight (outside fs (sums u c)) ≡ distance (outside fs c) (outside fs u)
