@@ -30,7 +30,8 @@ head_power : (f : ℕ → ℕ) (s n c x : ℕ) → value_at (c ∷ listing f s n
 head_power f s n c x =
     ap (λ (k : ℕ). bit_xor (times c (power x k)) (value_at (listing f s n) x)) (length-map-range_with_len f s n)
 
-middle : (a b c d : ℕ) → bit_xor (bit_xor a b) (bit_xor c d) ≡ bit_xor (bit_xor a c) (bit_xor b d)
+-- the middle two of four sums change places
+pub middle : (a b c d : ℕ) → bit_xor (bit_xor a b) (bit_xor c d) ≡ bit_xor (bit_xor a c) (bit_xor b d)
 middle a b c d =
     xor_assoc a b (bit_xor c d) ∙ ap (bit_xor a) (sym (xor_assoc b c d) ∙ ap (λ (y : ℕ). bit_xor y d) (xor_comm b c)
     ∙ xor_assoc c b d)

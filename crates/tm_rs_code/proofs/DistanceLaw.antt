@@ -9,7 +9,8 @@ use Rattle.tm_gf256.proofs.Ring.{plus-times, zero-times, one-times, power-lt, po
 use Rattle.tm_gf256.specs.Poly.{value_at}
 use Rattle.tm_rs_code.specs.Code.{AreElements, place_of, root, IsCodeword, distance, weight}
 use Rattle.tm_rs_code.specs.Register.{sums}
-use Rattle.tm_rs_code.proofs.Vanish.{Term, power_sum, AreTerms, ApartFrom, AreApart, AreZero, vanish, middle}
+use Rattle.tm_gf256.proofs.ProductLaw.{middle}
+use Rattle.tm_rs_code.proofs.Vanish.{Term, power_sum, AreTerms, ApartFrom, AreApart, AreZero, vanish}
 
 -- ---- places
 

@@ -15,7 +15,7 @@ use Rattle.tm_rs_code.proofs.DistanceLaw.{terms_of, AreTerms-terms_of, AreApart-
 use Rattle.tm_rs_code.proofs.Factor.{at_most_degree, product_of, length-product_of}
 use Rattle.tm_rs_code.proofs.Windows.{window, window-sums, sums_from, weighted, places_of, AreElements-places_of, AllOther-places_of, AllDifferent-places_of}
 use Rattle.tm_rs_code.proofs.Values.{window-same}
-use Rattle.tm_rs_code.proofs.Vanish.{middle}
+use Rattle.tm_gf256.proofs.ProductLaw.{middle}
 use Rattle.tm_gf256.proofs.Ring.{times-plus}
 use Rattle.tm_rs_code.proofs.Locator.{locator-terms_of}
 use Rattle.tm_rs_code.proofs.Forney.{value_of-terms_of, no_symbol, place_is}

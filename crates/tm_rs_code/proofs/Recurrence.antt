@@ -5,7 +5,7 @@ use Rattle.std.specs.Int.Bits.{xor_zero_r, xor_assoc, xor_self}
 use Rattle.std.proofs.lemmas.Bool.{cases_eq, lt-ltb, le-ltb}
 use Rattle.tm_gf256.specs.Field.{times}
 use Rattle.tm_gf256.proofs.Ring.{times-lt, times-assoc, times-plus, plus-times, times-zero, zero-times, plus-lt}
-use Rattle.tm_rs_code.proofs.Vanish.{middle}
+use Rattle.tm_gf256.proofs.ProductLaw.{middle}
 use Rattle.tm_rs_code.specs.Code.{AreElements}
 use Rattle.tm_rs_code.specs.Recurrence.{discrepancy, listing, Generates, Failed, shifted, patched}
 use Rattle.tm_rs_code.proofs.Windows.{window}

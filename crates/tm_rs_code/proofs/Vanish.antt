@@ -1,8 +1,9 @@
 -- A sum of m powers with different places that vanishes at m powers in a row is empty of values.
 use Rattle.std.proofs.Common.{◌≡◌, ◌<◌, ◌≢◌, ℕ, zero, suc, ◌+◌, List, [], ◌∷◌, length, refl, ap, sym, ◌∙◌, arith, add-zero as add_zero}
 use Rattle.std.specs.Prelude.{bit_xor}
-use Rattle.std.specs.Int.Bits.{xor_zero_r, xor_assoc, xor_comm, xor_self}
+use Rattle.std.specs.Int.Bits.{xor_zero_r, xor_self}
 use Rattle.tm_gf256.specs.Field.{times, power}
+use Rattle.tm_gf256.proofs.ProductLaw.{middle}
 use Rattle.tm_gf256.proofs.Ring.{times-lt, times-comm, times-assoc, times-plus, plus-times, times-zero, zero-times, times-cancel, power-lt, power-nonzero, plus_apart, plus-lt}
 
 -- a value at a place
@@ -37,12 +38,6 @@ AreZero [] = Unit {0}
 AreZero (t ∷ ts) = (t.value ≡ 0) × AreZero ts
 
 -- ---- sums
-
-pub middle : (a b c d : ℕ) → bit_xor (bit_xor a b) (bit_xor c d) ≡ bit_xor (bit_xor a c) (bit_xor b d)
-middle a b c d =
-    xor_assoc a b (bit_xor c d)
-    ∙ ap (bit_xor a) (sym (xor_assoc b c d) ∙ ap (λ (y : ℕ). bit_xor y d) (xor_comm b c) ∙ xor_assoc c b d)
-    ∙ sym (xor_assoc a c (bit_xor b d))
 
 pub swap_factors : (a b c : ℕ) → times a (times b c) ≡ times b (times a c)
 swap_factors a b c = sym (times-assoc a b c) ∙ ap (λ (y : ℕ). times y c) (times-comm a b) ∙ times-assoc b a c

@@ -4,7 +4,8 @@ use Rattle.std.specs.Prelude.{bit_xor}
 use Rattle.tm_gf256.specs.Field.{times, power}
 use Rattle.tm_gf256.proofs.Ring.{times-lt, times-comm, times-assoc, times-plus, plus-times, times-zero, zero-times, times-cancel, power-add}
 use Rattle.tm_gf256.specs.Poly.{value_at}
-use Rattle.tm_rs_code.proofs.Vanish.{Term, power_sum, AreTerms, ApartFrom, AreApart, AreZero, vanish, power_sum-zero, middle, swap_factors}
+use Rattle.tm_gf256.proofs.ProductLaw.{middle}
+use Rattle.tm_rs_code.proofs.Vanish.{Term, power_sum, AreTerms, ApartFrom, AreApart, AreZero, vanish, power_sum-zero, swap_factors}
 use Rattle.tm_rs_code.specs.Code.{AreElements}
 use Rattle.tm_rs_code.proofs.Factor.{value_at-lt, AreRoots, AllDifferent, AllOther, at_most_degree, product_of}
 
