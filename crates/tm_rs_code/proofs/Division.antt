@@ -17,6 +17,7 @@ use Rattle.tm_rs_code.proofs.Factor.{value_at-carry, value_at-lt, AreRoots, at_m
 use Rattle.tm_rs_code.proofs.Windows.{window, sums_from, places_of, length-places_of, AreElements-places_of, AllDifferent-places_of}
 use Rattle.tm_rs_code.proofs.Values.{window-same}
 use Rattle.tm_rs_code.proofs.Recurrence.{length-listing, AreElements-listing, discrepancy-window}
+use Rattle.tm_rs_code.proofs.Roots.{head_is, tail_is}
 use Rattle.tm_rs_code.proofs.Forney.{value_is, value_of}
 
 pub listing-push : (c : ℕ → ℕ) (i n : ℕ) → listing c i (suc n) ≡ listing c i n ++ c (i + n) ∷ []
@@ -128,12 +129,6 @@ value_at_root e s ts terms apart c elements l same whole begins x xl root_is =
           (AreElements-listing (quotient_at c x) (λ i. divided-lt c elements x (suc i)) 1 l) again in
           omega (arith, most.0, length-places_of ts, length-listing (quotient_at c x) 1 l);
     }
-  where
-    head_is : (x y : ℕ) (xs ys : List ℕ) → x ∷ xs ≡ y ∷ ys → x ≡ y
-    head_is x y xs ys e = cc
-
-    tail_is : (x y : ℕ) (xs ys : List ℕ) → x ∷ xs ≡ y ∷ ys → xs ≡ ys
-    tail_is x y xs ys e = cc
 
 -- ---- a place that is no root has no value
 

@@ -17,7 +17,7 @@ use Rattle.tm_rs_code.proofs.Factor.{AreRoots, at_most_degree, product_of, lengt
 use Rattle.tm_rs_code.proofs.Windows.{window, window-sums, sums_from, weighted, places_of, length-places_of}
 use Rattle.tm_rs_code.proofs.Values.{Solution, solution, window-same, same_below, power_sum-lt}
 use Rattle.tm_rs_code.proofs.Locator.{locator-terms_of}
-use Rattle.tm_rs_code.proofs.Roots.{AreElements-roots, NoZero-roots, AllDifferent-roots, AreRoots-roots, weight_le_roots, put, spread, length-spread, AreElements-spread, value_at-spread, AreZero-roots}
+use Rattle.tm_rs_code.proofs.Roots.{AreElements-roots, NoZero-roots, AllDifferent-roots, AreRoots-roots, weight_le_roots, head_is, tail_is, put, spread, length-spread, AreElements-spread, value_at-spread, AreZero-roots}
 use Rattle.tm_rs_code.proofs.Division.{AreRoots-product}
 use Rattle.tm_rs_code.proofs.Covering.{length-locator}
 use Rattle.tm_rs_code.proofs.OnlyNearest.{length-outside}
@@ -165,12 +165,6 @@ SameZeros-over g (w ∷ ws) e =
           (λ z. ap (λ (y : ℕ). times y (over g x)) z ∙ zero-times (over g x)),
       SameZeros-over g ws (tail_is _ w _ ws e),
     )
-  where
-    head_is : (x y : ℕ) (xs ys : List ℕ) → x ∷ xs ≡ y ∷ ys → x ≡ y
-    head_is x y xs ys e = cc
-
-    tail_is : (x y : ℕ) (xs ys : List ℕ) → x ∷ xs ≡ y ∷ ys → xs ≡ ys
-    tail_is x y xs ys e = cc
 
 -- terms at the roots stand at erased places alone
 put-zero : (b : Bool) (ts : List Term) (f : List Term → List ℕ) (fs : List Bool) (g : Bool)

@@ -121,10 +121,10 @@ spread p (suc n) ts = put (eqb (value_at p (place_of n)) 0) ts (spread p n)
 no_cons : (A : Type 0) (x : ℕ) (xs : List ℕ) → [] ≡ x ∷ xs → A
 no_cons A x xs e = cc
 
-head_is : (x y : ℕ) (xs ys : List ℕ) → x ∷ xs ≡ y ∷ ys → x ≡ y
+pub head_is : (x y : ℕ) (xs ys : List ℕ) → x ∷ xs ≡ y ∷ ys → x ≡ y
 head_is x y xs ys e = cc
 
-tail_is : (x y : ℕ) (xs ys : List ℕ) → x ∷ xs ≡ y ∷ ys → xs ≡ ys
+pub tail_is : (x y : ℕ) (xs ys : List ℕ) → x ∷ xs ≡ y ∷ ys → xs ≡ ys
 tail_is x y xs ys e = cc
 
 put-length : (n : ℕ) (f : List Term → List ℕ) → ((ts : List Term) → length (f ts) ≡ n) → (b : Bool) (ts : List Term)
