@@ -13,15 +13,14 @@ use Rattle.tm_rs_code.specs.Erasures.{IsErasedPattern, count_erased, marks, outs
 use Rattle.tm_rs_code.specs.Pattern.{Explains, locator_of, roots_below}
 use Rattle.tm_rs_code.proofs.Vanish.{Term, AreZero, power_sum-zero}
 use Rattle.tm_rs_code.proofs.DistanceLaw.{terms_of, length-terms_of, length-sums, AreElements-sums, value_at-sums}
-use Rattle.tm_rs_code.proofs.Factor.{AreRoots, at_most_degree, product_of, length-product_of, value_at-lt}
+use Rattle.tm_rs_code.proofs.Factor.{AreRoots, product_of, length-product_of, value_at-lt}
 use Rattle.tm_rs_code.proofs.Windows.{window, window-sums, sums_from, weighted, places_of, length-places_of}
 use Rattle.tm_rs_code.proofs.Values.{Solution, solution, window-same, same_below, power_sum-lt}
 use Rattle.tm_rs_code.proofs.Locator.{locator-terms_of}
-use Rattle.tm_rs_code.proofs.Roots.{AreElements-roots, NoZero-roots, AllDifferent-roots, AreRoots-roots, weight_le_roots, head_is, tail_is, put, spread, length-spread, AreElements-spread, value_at-spread, AreZero-roots}
-use Rattle.tm_rs_code.proofs.Division.{AreRoots-product}
+use Rattle.tm_rs_code.proofs.Roots.{AreElements-roots, NoZero-roots, AllDifferent-roots, AreRoots-roots, head_is, tail_is, put, spread, length-spread, AreElements-spread, value_at-spread, AreZero-roots}
 use Rattle.tm_rs_code.proofs.Covering.{length-locator}
 use Rattle.tm_rs_code.proofs.OnlyNearest.{length-outside}
-use Rattle.tm_rs_code.proofs.ErasedPlaces.{AreElements-product, VanishesAt, erasures_vanish, length-marks, weight-marks, SameZeros, same_locator, same_weight, scaled_word, length-scaled_word, AreElements-scaled_word, window-word, window-sum}
+use Rattle.tm_rs_code.proofs.ErasedPlaces.{count_of_roots, VanishesAt, erasures_vanish, length-marks, weight-marks, SameZeros, same_locator, same_weight, scaled_word, length-scaled_word, AreElements-scaled_word, window-word, window-sum}
 
 -- ---- from a pattern with erased places
 
@@ -190,24 +189,8 @@ ZeroOutside-spread g (f ∷ fs) ts v =
 count_of_erasures : (fs : List Bool) → length fs ≤ 255 → length (roots_below (locator_of (marks fs)) (length fs))
     ≡ count_erased fs
 count_of_erasures fs short =
-    let gs : List ℕ = product_of (places_of (terms_of (marks fs))) in
-    let ls : locator_of (marks fs) ≡ 1 ∷ gs = locator-terms_of (marks fs) in
-    let enough : weight (marks fs) ≤ length (roots_below (1 ∷ gs) (length fs)) =
-    subst (λ (k : ℕ). weight (marks fs) ≤ length (roots_below (1 ∷ gs) k)) (length-marks fs)
-    (weight_le_roots gs (marks fs) (AreRoots-product (places_of (terms_of (marks fs))))) in
-    let most = at_most_degree (roots_below (1 ∷ gs) (length fs)) gs (AreElements-roots (1 ∷ gs) (length fs))
-    (AllDifferent-roots (1 ∷ gs) (length fs) short) (AreElements-product (places_of (terms_of (marks fs))))
-    (AreRoots-roots gs (length fs)) in
-    ap (λ (ys : List ℕ). length (roots_below ys (length fs))) ls
-    ∙ omega (
-      arith,
-      enough,
-      most.0,
-      length-product_of (places_of (terms_of (marks fs))),
-      length-places_of (terms_of (marks fs)),
-      length-terms_of (marks fs),
-      weight-marks fs,
-    )
+    ap (λ (n : ℕ). length (roots_below (locator_of (marks fs)) n)) (sym (length-marks fs))
+    ∙ count_of_roots (marks fs) (omega (arith, length-marks fs)) ∙ weight-marks fs
 
 back : (x y : ℕ) → bit_xor x (bit_xor y x) ≡ y
 back x y =

@@ -8,16 +8,17 @@ use Rattle.tm_gf256.proofs.Ring.{zero-times, times-lt, plus-lt, power-lt}
 use Rattle.tm_gf256.specs.Poly.{value_at}
 use Rattle.tm_rs_code.specs.Code.{AreElements, place_of, root, weight}
 use Rattle.tm_rs_code.specs.Erasures.{count_erased, marks}
-use Rattle.tm_rs_code.specs.Pattern.{carry, locator_of, times_linear}
+use Rattle.tm_rs_code.specs.Pattern.{carry, locator_of, roots_below, times_linear}
 use Rattle.tm_rs_code.specs.ErrorValues.{symbol_at}
 use Rattle.tm_rs_code.proofs.Vanish.{power_sum, ApartFrom}
-use Rattle.tm_rs_code.proofs.DistanceLaw.{terms_of, AreTerms-terms_of, AreApart-terms_of, place_apart, exchanged, power_sum-terms_of}
+use Rattle.tm_rs_code.proofs.DistanceLaw.{terms_of, length-terms_of, AreTerms-terms_of, AreApart-terms_of, place_apart, exchanged, power_sum-terms_of}
 use Rattle.tm_rs_code.proofs.Factor.{at_most_degree, product_of, length-product_of}
-use Rattle.tm_rs_code.proofs.Windows.{window, window-sums, sums_from, weighted, places_of, AreElements-places_of, AllOther-places_of, AllDifferent-places_of}
+use Rattle.tm_rs_code.proofs.Windows.{window, window-sums, sums_from, weighted, places_of, length-places_of, AreElements-places_of, AllOther-places_of, AllDifferent-places_of}
 use Rattle.tm_rs_code.proofs.Values.{window-same}
 use Rattle.tm_gf256.proofs.ProductLaw.{middle}
 use Rattle.tm_gf256.proofs.Ring.{times-plus}
 use Rattle.tm_rs_code.proofs.Locator.{locator-terms_of}
+use Rattle.tm_rs_code.proofs.Roots.{AreElements-roots, AllDifferent-roots, AreRoots-roots, weight_le_roots}
 use Rattle.tm_rs_code.proofs.Forney.{value_of-terms_of, no_symbol, place_is}
 use Rattle.tm_rs_code.proofs.Division.{AreRoots-product, no_value_there}
 
@@ -51,6 +52,23 @@ AreElements-carry x a (q ∷ qs) h = (plus-lt q (times x a) h.0 (times-lt x a), 
 pub AreElements-product : (rs : List ℕ) → AreElements (product_of rs)
 AreElements-product [] = tt
 AreElements-product (r ∷ rs) = AreElements-carry r 1 (product_of rs) (AreElements-product rs)
+
+-- a locator has as many roots as the word has symbols that are not 0
+pub count_of_roots : (w : List ℕ) → length w ≤ 255 → length (roots_below (locator_of w) (length w)) ≡ weight w
+count_of_roots w short =
+    let gs : List ℕ = product_of (places_of (terms_of w)) in
+    let most = at_most_degree (roots_below (1 ∷ gs) (length w)) gs (AreElements-roots (1 ∷ gs) (length w))
+    (AllDifferent-roots (1 ∷ gs) (length w) short) (AreElements-product (places_of (terms_of w)))
+    (AreRoots-roots gs (length w)) in
+    ap (λ (ys : List ℕ). length (roots_below ys (length w))) (locator-terms_of w)
+    ∙ omega (
+      arith,
+      weight_le_roots gs w (AreRoots-product (places_of (terms_of w))),
+      most.0,
+      length-product_of (places_of (terms_of w)),
+      length-places_of (terms_of w),
+      length-terms_of w,
+    )
 
 -- a root of the locator is the place of a symbol that is not 0
 pub root_has_symbol : (u : List ℕ) (p : ℕ) → AreElements u → length u ≤ 255 → p < 255

@@ -9,12 +9,11 @@ use Rattle.tm_rs_code.specs.Code.{AreElements, place_of, weight}
 use Rattle.tm_rs_code.specs.Pattern.{Explains, roots_below, add_place}
 use Rattle.tm_rs_code.specs.Recurrence.{listing, Generates}
 use Rattle.tm_rs_code.proofs.Vanish.{Term, power_sum, AreTerms, AreZero, power_sum-zero}
-use Rattle.tm_rs_code.proofs.DistanceLaw.{terms_of, length-terms_of, AreTerms-terms_of, AreApart-terms_of, place_apart, exchanged}
-use Rattle.tm_rs_code.proofs.Factor.{AreRoots, AllOther, AllDifferent, at_most_degree}
-use Rattle.tm_rs_code.proofs.Windows.{window, sums_from, places_of, length-places_of, each_vanishes, AreRoots-places_of, weighted, window-sums}
+use Rattle.tm_rs_code.proofs.DistanceLaw.{terms_of, place_apart, exchanged}
+use Rattle.tm_rs_code.proofs.Factor.{AreRoots, AllOther, AllDifferent}
+use Rattle.tm_rs_code.proofs.Windows.{window, sums_from, places_of, length-places_of, weighted, window-sums}
 use Rattle.tm_rs_code.proofs.Values.{Solution, solution, NoZero, same_below, power_sum-lt}
-use Rattle.tm_rs_code.proofs.Recurrence.{length-listing, AreElements-listing, discrepancy-window}
-use Rattle.tm_rs_code.proofs.Locator.{HaveValues-terms_of, window_is}
+use Rattle.tm_rs_code.proofs.Recurrence.{length-listing, discrepancy-window}
 
 -- ---- the roots below n
 
@@ -82,29 +81,6 @@ weight_le_roots cs (c ∷ ds) h =
             | inr s ↦ absurd (s.1 h'.0)
           ]
     ]
-
--- where there is a pattern, its recurrence has as many roots below n as its length
-pub count_of_roots : (e count n : ℕ) (s : ℕ → ℕ) (w : List ℕ) → Explains e count n s w → n ≤ 255 → (c : ℕ → ℕ)
-    → ((i : ℕ) → c i < 256)
-    → (l : ℕ) → Generates c l s (count) → 2 * l ≤ count → l ≤ weight w
-    → length (roots_below (listing c 0 (suc l)) n) ≡ l
-count_of_roots e count n s w p small c elements l g few le =
-    let len : length w ≤ 255 = omega (arith, p.size) in
-    let monic : listing c 0 (suc l) ≡ 1 ∷ listing c 1 l = ap (λ (y : ℕ). y ∷ listing c 1 l) g.first in
-    let roots : AreRoots (listing c 1 l) (places_of (terms_of w)) =
-    AreRoots-places_of (listing c 1 l) (terms_of w) (AreTerms-terms_of w p.elements) (HaveValues-terms_of w)
-    (each_vanishes (1 ∷ listing c 1 l) (128 - e) (terms_of w) (AreTerms-terms_of w p.elements) (AreApart-terms_of w len)
-    (λ m lt. ap (λ (ys : List ℕ). window ys (sums_from (128 - e) (terms_of w)) m) (sym monic)
-    ∙ window_is e count n s w p c l m (omega (arith, length-terms_of w, p.few))
-    ∙ g.meets (m + l) (omega arith) (omega (arith, length-terms_of w, p.few)))) in
-    let enough : weight w ≤ length (roots_below (1 ∷ listing c 1 l) n) =
-    subst (λ (k : ℕ). weight w ≤ length (roots_below (1 ∷ listing c 1 l) k)) p.size
-    (weight_le_roots (listing c 1 l) w roots) in
-    let most = at_most_degree (roots_below (1 ∷ listing c 1 l) n) (listing c 1 l)
-    (AreElements-roots (1 ∷ listing c 1 l) n)
-    (AllDifferent-roots (1 ∷ listing c 1 l) n small) (AreElements-listing c elements 1 l)
-    (AreRoots-roots (listing c 1 l) n) in
-    ap (λ (ys : List ℕ). length (roots_below ys n)) monic ∙ omega (arith, enough, most.0, length-listing c 1 l)
 
 -- ---- the word of terms at the roots
 

@@ -5,11 +5,12 @@ use Rattle.std.proofs.lemmas.Bool.Decides.{eqb_tells}
 use Rattle.tm_gf256.specs.declared.Gf.{Gf}
 use Rattle.tm_gf256.specs.Poly.{entry, numbers, value_at}
 use Rattle.tm_rs_code.specs.Code.{place_of}
-use Rattle.tm_rs_code.specs.Pattern.{Explains, IsPattern, roots_below}
+use Rattle.tm_rs_code.specs.Pattern.{Explains, IsPattern, locator_of, roots_below}
 use Rattle.tm_rs_code.specs.Recurrence.{listing}
 use Rattle.tm_rs_code.proofs.Corrections.{explained, explains}
 use Rattle.tm_rs_code.proofs.Locator.{is_locator}
-use Rattle.tm_rs_code.proofs.Roots.{count_of_roots, pattern_exists}
+use Rattle.tm_rs_code.proofs.Roots.{pattern_exists}
+use Rattle.tm_rs_code.proofs.ErasedPlaces.{count_of_roots}
 use Rattle.tm_rs_locator.specs.Locator.{IsLocatorOf, Locates}
 use Rattle.tm_rs_locator.specs.State.{IsShortest, Unexplained}
 use Rattle.tm_rs_locator.proofs.Transitions.{entry_past}
@@ -42,14 +43,6 @@ no_more_root p n h = elim (eqb_tells (value_at p (place_of n)) 0) [ inl t ↦ ab
 pub listed : (cs : List Gf) (l : ℕ) → l < length cs → listing (entry cs) 0 (suc l) ≡ numbers (take (l + 1) cs)
 listed cs l h = ap (listing (entry cs) 0) (sym (add-one l)) ∙ listing-take cs (l + 1) (omega arith)
 
--- too few roots below n
-pub none_at_end : (e count n : ℕ) (s : ℕ → ℕ) (cs : List Gf) (l : ℕ) → IsShortest count s (entry cs) l → n ≤ 255
-    → length cs ≡ 17 → count ≤ 32
-    → length (roots_below (numbers (take (l + 1) cs)) n) ≢ l → (w : List ℕ) → Explains e count n s w → ⊥
-none_at_end e count n s cs l h small len most ne w p =
-    ne (ap (λ (ys : List ℕ). length (roots_below ys n)) (sym (listed cs l (omega (arith, h.few))))
-    ∙ count_of_roots e count n s w p small (entry cs) h.elements l h.generates h.few (h.least e n small w p))
-
 pub exists_at_end : (e count n : ℕ) (s : ℕ → ℕ) (cs : List Gf) (l : ℕ) → IsShortest count s (entry cs) l → n ≤ 255
     → length cs ≡ 17 → count ≤ 32
     → ((k : ℕ) → s k < 256) → length (roots_below (numbers (take (l + 1) cs)) n) ≡ l → (w : List ℕ)
@@ -70,6 +63,16 @@ located_at_end e count n s cs l h small len most w p =
       product = sym (listed cs l (omega (arith, h.few))) ∙ is.1;
       beyond = λ i lt. h.generates.beyond i lt;
     }
+
+-- too few roots below n
+pub none_at_end : (e count n : ℕ) (s : ℕ → ℕ) (cs : List Gf) (l : ℕ) → IsShortest count s (entry cs) l → n ≤ 255
+    → length cs ≡ 17 → count ≤ 32
+    → length (roots_below (numbers (take (l + 1) cs)) n) ≢ l → (w : List ℕ) → Explains e count n s w → ⊥
+none_at_end e count n s cs l h small len most ne w p =
+    let is = located_at_end e count n s cs l h small len most w p in
+    ne (ap (λ (ys : List ℕ). length (roots_below ys n)) is.product
+    ∙ ap (λ (k : ℕ). length (roots_below (locator_of w) k)) (sym p.size)
+    ∙ count_of_roots w (omega (arith, p.size)) ∙ sym is.places)
 
 -- ---- without erasures
 
