@@ -30,6 +30,11 @@ listing-take (y ∷ ys) (suc n) h =
 pub elements_of : (ys : List Gf) → ((k : ℕ) → k < length ys → entry ys k < 256) → (k : ℕ) → entry ys k < 256
 elements_of ys h k = elim (cases_lt k (length ys)) [ inl lt ↦ h k lt | inr ge ↦ rw (entry_past ys k ge) (omega arith) ]
 
+-- the number of roots below n
+pub same_roots : (cs : List Gf) (l n m : ℕ) → n ≡ m → length (roots_below (numbers (take (l + 1) cs)) n)
+    ≡ length (roots_below (numbers (take (l + 1) cs)) m)
+same_roots cs l n m e = ap (λ (k : ℕ). length (roots_below (numbers (take (l + 1) cs)) k)) e
+
 pub one_more_root : (p : List ℕ) (n : ℕ) → value_at p (place_of n) ≡ 0
     → length (roots_below p (suc n)) ≡ suc (length (roots_below p n))
 one_more_root p n h = elim (eqb_tells (value_at p (place_of n)) 0) [ inl t ↦ rw t.0 refl | inr t ↦ absurd (t.1 h) ]

@@ -1,22 +1,15 @@
-use Rattle.std.proofs.Common.{◌≡◌, ◌+◌, ◌-◌, ◌*◌, ℕ, List, length, take, arith, sym, ◌∙◌, ap, subst, refl, true, false}
-use Rattle.tm_gf256.specs.declared.Gf.{Gf}
+use Rattle.std.proofs.Common.{◌≡◌, ◌+◌, ◌-◌, ◌*◌, ℕ, length, take, arith, sym, ◌∙◌, subst, refl, true, false}
 use Rattle.tm_gf256.specs.Poly.{entry, numbers}
 use Rattle.tm_rs_code.specs.Erasures.{count_erased}
-use Rattle.tm_rs_code.specs.Pattern.{roots_below}
 use Rattle.tm_rs_code.specs.PlaceValues.{AreValues}
 use Rattle.tm_rs_locator.specs.State.{IsShortest, Unexplained}
-use Rattle.tm_rs_locator.proofs.Endings.{elements_of}
+use Rattle.tm_rs_locator.proofs.Endings.{elements_of, same_roots}
 use Rattle.tm_rs_locator.proofs.ErasedEndings.{least_steps, most_steps, modified_is, none_unexplained, none_by_roots, none_by_erased, some_erased}
 use Rattle.tm_rs_locator.proofs.errata.locate_erased.Goals as goal
 
 -- how many syndromes are left
 known_is : (e all fs_count count : ℕ) → all ≡ e → count ≡ fs_count → 2 * all - count ≡ 2 * e - fs_count
 known_is e all fs_count count a b = omega arith
-
--- the number of roots below n
-same_roots : (cs : List Gf) (l n m : ℕ) → n ≡ m → length (roots_below (numbers (take (l + 1) cs)) n)
-    ≡ length (roots_below (numbers (take (l + 1) cs)) m)
-same_roots cs l n m e = ap (λ (k : ℕ). length (roots_below (numbers (take (l + 1) cs)) k)) e
 
 pub returns-in_default-clause-none : goal.returns-in_default-clause-none
 returns-in_default-clause-none g c =

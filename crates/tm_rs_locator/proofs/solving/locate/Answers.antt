@@ -1,16 +1,9 @@
-use Rattle.std.proofs.Common.{◌≡◌, ◌+◌, ◌*◌, ℕ, List, length, take, arith, sym, ◌∙◌, ap, subst}
-use Rattle.tm_gf256.specs.declared.Gf.{Gf}
+use Rattle.std.proofs.Common.{◌+◌, ◌*◌, ℕ, take, arith, sym, ◌∙◌, ap, subst}
 use Rattle.tm_gf256.specs.Poly.{entry, numbers}
-use Rattle.tm_rs_code.specs.Pattern.{roots_below}
 use Rattle.tm_rs_code.specs.PlaceValues.{AreValues}
 use Rattle.tm_rs_locator.specs.State.{IsShortest, Unexplained}
-use Rattle.tm_rs_locator.proofs.Endings.{no_pattern, no_pattern_at_end, locates_at_end, elements_of}
+use Rattle.tm_rs_locator.proofs.Endings.{no_pattern, no_pattern_at_end, locates_at_end, elements_of, same_roots}
 use Rattle.tm_rs_locator.proofs.solving.locate.Goals as goal
-
--- the number of roots below n
-same_roots : (cs : List Gf) (l n m : ℕ) → n ≡ m → length (roots_below (numbers (take (l + 1) cs)) n)
-    ≡ length (roots_below (numbers (take (l + 1) cs)) m)
-same_roots cs l n m e = ap (λ (k : ℕ). length (roots_below (numbers (take (l + 1) cs)) k)) e
 
 pub returns-in_default-clause-none : goal.returns-in_default-clause-none
 returns-in_default-clause-none g c =
