@@ -1,5 +1,6 @@
 -- The symbol of the error pattern at a place.
 use Rattle.std.proofs.Common.{◌≡◌, ◌≢◌, ◌<◌, ◌+◌, ◌*◌, ℕ, zero, suc, List, [], ◌∷◌, length, arith, ap, sym, ◌∙◌, refl, inl, inr, subst}
+use Rattle.std.proofs.Math.Seq.{take-length}
 use Rattle.std.proofs.lemmas.Bool.Decides.{eqb_tells}
 use Rattle.tm_gf256.specs.declared.Gf.{Gf}
 use Rattle.tm_gf256.specs.Field.{times, power}
@@ -12,15 +13,10 @@ use Rattle.tm_rs_code.specs.ErrorValues.{Covers, IsLocated, symbol_at}
 use Rattle.tm_rs_code.proofs.Forney.{place_is}
 use Rattle.tm_rs_code.proofs.Division.{IsValue}
 use Rattle.tm_rs_code.proofs.Covering.{symbol_is, length-locator}
-use Rattle.tm_rs_locator.proofs.Endings.{elements_of}
-
-listing-cons : (y : Gf) (ys : List Gf) (i n : ℕ) → listing (entry (y ∷ ys)) (suc i) n ≡ listing (entry ys) i n
-listing-cons y ys i zero = refl
-listing-cons y ys i (suc n) = ap (λ (zs : List ℕ). entry ys i ∷ zs) (listing-cons y ys (suc i) n)
+use Rattle.tm_rs_locator.proofs.Endings.{elements_of, listing-take}
 
 pub listing-all : (ys : List Gf) → listing (entry ys) 0 (length ys) ≡ numbers ys
-listing-all [] = refl
-listing-all (y ∷ ys) = ap (λ (zs : List ℕ). y.0 ∷ zs) (listing-cons y ys 0 (length ys) ∙ listing-all ys)
+listing-all ys = listing-take ys (length ys) (omega arith) ∙ ap numbers (take-length ys)
 
 pub symbol_at-lt : (w : List ℕ) (p : ℕ) → AreElements w → symbol_at w p < 256
 symbol_at-lt [] p h = omega arith
