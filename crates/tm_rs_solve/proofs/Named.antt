@@ -4,13 +4,14 @@ use Rattle.std.proofs.Math.Nat.{mul-le-mul}
 use Rattle.tm_gf256.specs.declared.Gf.{Gf}
 use Rattle.tm_gf256.specs.Poly.{entry, numbers, value_at}
 use Rattle.tm_rs_code.specs.Code.{IsStrength, place_of, weight}
-use Rattle.tm_rs_code.specs.Erasures.{IsErasedPattern, count_erased, inside, marks, outside, places_named}
+use Rattle.tm_rs_code.specs.Erasures.{count_erased, inside, marks, places_named}
 use Rattle.tm_rs_code.specs.ErrorValues.{IsLocated, symbol_at}
 use Rattle.tm_rs_code.specs.Pattern.{locator_of, times_linear}
 use Rattle.tm_rs_code.specs.Recurrence.{listing}
 use Rattle.tm_rs_code.proofs.Corrections.{symbol-index}
 use Rattle.tm_rs_code.proofs.ErasedWords.{length-places_named, located_erased}
 use Rattle.tm_rs_code.proofs.ErasedPlaces.{length-marks}
+use Rattle.tm_rs_locator.specs.Locator.{LocatesErased}
 use Rattle.tm_rs_locator.proofs.Erasures.{drop_step, length-drop, none_dropped}
 use Rattle.tm_rs_locator.proofs.Products.{linear-swap}
 use Rattle.tm_rs_locator.proofs.Endings.{listed}
@@ -164,24 +165,25 @@ one_at_most r x e = go (eqb x 0) e
 
 -- ---- the pattern
 
-pub located_for : (e e' : ℕ) (fs : List Bool) (s : ℕ → ℕ) (g : List ℕ) (coefs : List Gf) (degree : ℕ) (w : List ℕ)
-    → length fs ≤ 255 → IsErasedPattern e fs s w
-    → g ≡ locator_of (outside fs w) → e' ≡ e → degree < length coefs
-    → listing (entry coefs) 0 (suc degree) ≡ locator_of (places_named g fs)
-    → IsLocated e' s (numbers (take (degree + 1) coefs)) (places_named g fs) w
-located_for e e' fs s g coefs degree w short p is same inside_ full =
-    subst (λ (k : ℕ). IsLocated k s (numbers (take (degree + 1) coefs)) (places_named g fs) w) (sym same)
-    (subst (λ (ls : List ℕ). IsLocated e s ls (places_named g fs) w) (sym full ∙ listed coefs degree inside_)
-    (located_erased e fs s g w short p is))
+-- Where the locator of a pattern's other places was found, the places it names and the erased ones.
+module _ (e : ℕ) (fs : List Bool) (s : ℕ → ℕ) (coefs : List Gf) (degree : ℕ) (short : length fs ≤ 255)
+    (found : LocatesErased e fs s coefs degree) where
+  abbrev pub all_named : List ℕ
+  all_named = places_named (numbers (take (degree + 1) coefs)) fs
 
-pub named_few : (e : ℕ) (fs : List Bool) (s : ℕ → ℕ) (g : List ℕ) (w : List ℕ) → length fs ≤ 255
-    → IsErasedPattern e fs s w
-    → g ≡ locator_of (outside fs w) → weight (places_named g fs) ≤ 2 * e
-named_few e fs s g w short p is = located_few (located_erased e fs s g w short p is)
-  where
-    located_few : IsLocated e s (locator_of (places_named g fs)) (places_named g fs) w
-        → weight (places_named g fs) ≤ 2 * e
-    located_few h = h.few
+  all_located : IsLocated e s (locator_of all_named) all_named found.0
+  all_located = located_erased e fs s (numbers (take (degree + 1) coefs)) found.0 short found.1 found.2.product
+
+  pub named_few : weight all_named ≤ 2 * e
+  named_few = all_located.few
+
+  pub located_for : (e' : ℕ) (all : List Gf) (places : ℕ) → e' ≡ e → e ≤ 16 → length all ≡ 33
+      → places ≡ weight all_named → listing (entry all) 0 (suc places) ≡ locator_of all_named
+      → IsLocated e' s (numbers (take (places + 1) all)) all_named found.0
+  located_for e' all places same most room count full =
+      subst (λ (k : ℕ). IsLocated k s (numbers (take (places + 1) all)) all_named found.0) (sym same)
+      (subst (λ (ls : List ℕ). IsLocated e s ls all_named found.0)
+      (sym full ∙ listed all places (omega (arith, named_few))) all_located)
 
 -- ---- how many steps
 

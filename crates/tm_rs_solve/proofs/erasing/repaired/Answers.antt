@@ -20,75 +20,51 @@ returns-then-l-repair-clause-nearest g c =
 
 pub all_places-places-requires-clause-few : goal.all_places-places-requires-clause-few
 all_places-places-requires-clause-few g c =
-    let found = c.in-Some.ensures.some in
     omega (
       arith,
       c.requires.bound,
-      named_few c.args.params.now.e c.args.erased.now (entry c.args.values.now)
-          (numbers (take (c.in-Some.l.degree + 1) c.in-Some.l.coefs)) found.0
-          (omega (arith, c.n-n.ensures.range.1, c.requires.flags)) found.1 found.2.product,
+      named_few c.args.params.now.e c.args.erased.now (entry c.args.values.now) c.in-Some.l.coefs c.in-Some.l.degree
+          (omega (arith, c.n-n.ensures.range.1, c.requires.flags)) c.in-Some.ensures.some,
     )
 
 pub overflow_add-locator : goal.overflow_add-locator
 overflow_add-locator g c =
-    let found = c.in-Some.ensures.some in
     omega (
       arith,
       c.all_places-places.ensures.degree,
-      named_few c.args.params.now.e c.args.erased.now (entry c.args.values.now)
-          (numbers (take (c.in-Some.l.degree + 1) c.in-Some.l.coefs)) found.0
-          (omega (arith, c.n-n.ensures.range.1, c.requires.flags)) found.1 found.2.product,
+      named_few c.args.params.now.e c.args.erased.now (entry c.args.values.now) c.in-Some.l.coefs c.in-Some.l.degree
+          (omega (arith, c.n-n.ensures.range.1, c.requires.flags)) c.in-Some.ensures.some,
     )
 
 pub shared_ref_as_front-locator : goal.shared_ref_as_front-locator
 shared_ref_as_front-locator g c =
-    let found = c.in-Some.ensures.some in
     omega (
       arith,
       c.all_places-places.ensures.degree,
       c.all_places-places.ensures.room,
-      named_few c.args.params.now.e c.args.erased.now (entry c.args.values.now)
-          (numbers (take (c.in-Some.l.degree + 1) c.in-Some.l.coefs)) found.0
-          (omega (arith, c.n-n.ensures.range.1, c.requires.flags)) found.1 found.2.product,
+      named_few c.args.params.now.e c.args.erased.now (entry c.args.values.now) c.in-Some.l.coefs c.in-Some.l.degree
+          (omega (arith, c.n-n.ensures.range.1, c.requires.flags)) c.in-Some.ensures.some,
     )
 
 pub count_inside-inside-requires-clause-located : goal.count_inside-inside-requires-clause-located
-count_inside-inside-requires-clause-located g c =
-    let found = c.in-Some.ensures.some in (
-      places_named (numbers (take (c.in-Some.l.degree + 1) c.in-Some.l.coefs)) c.args.erased.now,
-      found.0,
-      located_for c.args.params.now.e c.e-e.result c.args.erased.now (entry c.args.values.now)
-          (numbers (take (c.in-Some.l.degree + 1) c.in-Some.l.coefs))
-          c.all_places-places.result.coefs c.all_places-places.result.degree found.0
-          (omega (arith, c.n-n.ensures.range.1, c.requires.flags)) found.1 found.2.product c.e-e.ensures.value
-          (omega (
-            arith,
-            c.all_places-places.ensures.degree,
-            c.all_places-places.ensures.room,
-            named_few c.args.params.now.e c.args.erased.now (entry c.args.values.now)
-                (numbers (take (c.in-Some.l.degree + 1) c.in-Some.l.coefs)) found.0
-                (omega (arith, c.n-n.ensures.range.1, c.requires.flags)) found.1 found.2.product,
-          )) c.all_places-places.ensures.locator,
-    )
+count_inside-inside-requires-clause-located g c = (
+  places_named (numbers (take (c.in-Some.l.degree + 1) c.in-Some.l.coefs)) c.args.erased.now,
+  c.in-Some.ensures.some.0,
+  located_for c.args.params.now.e c.args.erased.now (entry c.args.values.now) c.in-Some.l.coefs c.in-Some.l.degree
+      (omega (arith, c.n-n.ensures.range.1, c.requires.flags)) c.in-Some.ensures.some c.e-e.result
+      c.all_places-places.result.coefs c.all_places-places.result.degree c.e-e.ensures.value (omega arith)
+      c.all_places-places.ensures.room c.all_places-places.ensures.degree c.all_places-places.ensures.locator,
+)
 
 pub correct-requires-clause-located : goal.correct-requires-clause-located
-correct-requires-clause-located g c =
-    let found = c.in-Some.ensures.some in (
-      places_named (numbers (take (c.in-Some.l.degree + 1) c.in-Some.l.coefs)) c.args.erased.now,
-      found.0,
-      located_for c.args.params.now.e c.e-e.result c.args.erased.now (entry c.args.values.now)
-          (numbers (take (c.in-Some.l.degree + 1) c.in-Some.l.coefs))
-          c.all_places-places.result.coefs c.all_places-places.result.degree found.0
-          (omega (arith, c.n-n.ensures.range.1, c.requires.flags)) found.1 found.2.product c.e-e.ensures.value
-          (omega (
-            arith,
-            c.all_places-places.ensures.degree,
-            c.all_places-places.ensures.room,
-            named_few c.args.params.now.e c.args.erased.now (entry c.args.values.now)
-                (numbers (take (c.in-Some.l.degree + 1) c.in-Some.l.coefs)) found.0
-                (omega (arith, c.n-n.ensures.range.1, c.requires.flags)) found.1 found.2.product,
-          )) c.all_places-places.ensures.locator,
-    )
+correct-requires-clause-located g c = (
+  places_named (numbers (take (c.in-Some.l.degree + 1) c.in-Some.l.coefs)) c.args.erased.now,
+  c.in-Some.ensures.some.0,
+  located_for c.args.params.now.e c.args.erased.now (entry c.args.values.now) c.in-Some.l.coefs c.in-Some.l.degree
+      (omega (arith, c.n-n.ensures.range.1, c.requires.flags)) c.in-Some.ensures.some c.e-e.result
+      c.all_places-places.result.coefs c.all_places-places.result.degree c.e-e.ensures.value (omega arith)
+      c.all_places-places.ensures.room c.all_places-places.ensures.degree c.all_places-places.ensures.locator,
+)
 
 pub returns-else-l-repair-clause-nearest : goal.returns-else-l-repair-clause-nearest
 returns-else-l-repair-clause-nearest g c =
@@ -96,18 +72,10 @@ returns-else-l-repair-clause-nearest g c =
     let named : List ℕ = places_named (numbers (take (c.in-Some.l.degree + 1) c.in-Some.l.coefs)) c.args.erased.now in
     let whole : IsLocated c.e-e.result (entry c.args.values.now)
     (numbers (take (c.all_places-places.result.degree + 1) c.all_places-places.result.coefs)) named found.0 =
-    located_for c.args.params.now.e c.e-e.result c.args.erased.now (entry c.args.values.now)
-    (numbers (take (c.in-Some.l.degree + 1) c.in-Some.l.coefs))
-    c.all_places-places.result.coefs c.all_places-places.result.degree found.0
-    (omega (arith, c.n-n.ensures.range.1, c.requires.flags)) found.1 found.2.product c.e-e.ensures.value
-    (omega (
-      arith,
-      c.all_places-places.ensures.degree,
-      c.all_places-places.ensures.room,
-      named_few c.args.params.now.e c.args.erased.now (entry c.args.values.now)
-          (numbers (take (c.in-Some.l.degree + 1) c.in-Some.l.coefs)) found.0
-          (omega (arith, c.n-n.ensures.range.1, c.requires.flags)) found.1 found.2.product,
-    )) c.all_places-places.ensures.locator in
+    located_for c.args.params.now.e c.args.erased.now (entry c.args.values.now) c.in-Some.l.coefs c.in-Some.l.degree
+    (omega (arith, c.n-n.ensures.range.1, c.requires.flags)) c.in-Some.ensures.some c.e-e.result
+    c.all_places-places.result.coefs c.all_places-places.result.degree c.e-e.ensures.value (omega arith)
+    c.all_places-places.ensures.room c.all_places-places.ensures.degree c.all_places-places.ensures.locator in
     fixed_erased c.args.params.now.e c.args.repair c.in-Some.l.degree c.count_inside-inside.result c.args.erased.now
     (entry c.args.values.now) (numbers c.args.word.now) (numbers c.correct.new.word) found.0
     (length-numbers c.args.word.now ∙ c.requires.size ∙ sym c.requires.flags)
@@ -123,9 +91,8 @@ returns-else-l-repair-clause-cost g c =
     omega (
       arith,
       c.all_places-places.ensures.degree,
-      named_few c.args.params.now.e c.args.erased.now (entry c.args.values.now)
-          (numbers (take (c.in-Some.l.degree + 1) c.in-Some.l.coefs)) found.0
-          (omega (arith, c.n-n.ensures.range.1, c.requires.flags)) found.1 found.2.product,
+      named_few c.args.params.now.e c.args.erased.now (entry c.args.values.now) c.in-Some.l.coefs c.in-Some.l.degree
+          (omega (arith, c.n-n.ensures.range.1, c.requires.flags)) c.in-Some.ensures.some,
     ) in
     most_steps c.args.params.now.e (count_erased c.args.erased.now) c.all_places-places.result.degree c.args.steps.now
     c.locate_erased.new.steps c.all_places-places.new.steps c.e-e.ensures.strength
