@@ -8,6 +8,7 @@ pub mod Clean
 mod Starts
 pub mod Complement
 mod Encoded
+pub mod EqualLists
 mod OctetTables
 mod KeptSymbols
 mod LanesTaken

@@ -1,36 +1,18 @@
 -- The tables of the symbols of octets, each entry tested.
 use Rattle.std.proofs.Common.{◌≡◌, ◌<◌, ◌≤◌, ◌+◌, ◌-◌, ◌*◌, ◌/◌, ◌%◌, ◌∙◌, ℕ, List, [], ◌∷◌, get_or, refl, eqb, true, false, Bool, ◌&&◌, arith, ap, subst, zero, suc, inl, inr, ltb}
 use Rattle.std.specs.Prelude.{bit_xor, ◌==◌, if◌then◌else◌}
-use Rattle.std.proofs.lemmas.Bool.{eqb-true, ltb-true, cases_eq, cases_lt}
+use Rattle.std.proofs.lemmas.Bool.{eqb-true, ltb-true, and_parts, cases_eq, cases_lt}
 use lib.Lanes.{zip2}
 use Rattle.tm_base.specs.Bits.{bits_of_octet, low_bits}
 use Rattle.tm_conv.specs.declared.rates.Rate.TheVariants.{R12}
 use Rattle.tm_conv.specs.Path.{c1, c2, sent_c2, next_register, path, register_after}
 use Rattle.tm_conv.specs.Encoding.{bit_numbers, level, levels}
 use Rattle.tm_conv.specs.declared.octets.tables.TheConstants.{FROM_REGISTER, FROM_OCTET, REGISTER_AFTER}
+use Rattle.tm_conv.proofs.EqualLists.{same, same_is}
 
 unfoldable all_below : ℕ → (ℕ → Bool) → Bool
 all_below zero p = true
 all_below (suc n) p = p n && all_below n p
-
-unfoldable same : List ℕ → List ℕ → Bool
-same [] [] = true
-same [] (y ∷ ys) = false
-same (x ∷ xs) [] = false
-same (x ∷ xs) (y ∷ ys) = eqb x y && same xs ys
-
-and_parts : (a b : Bool) → (a && b) ≡ true → (a ≡ true) × (b ≡ true)
-and_parts true b e = (refl, e)
-and_parts false b e = absurd cc
-
-same_is : (xs ys : List ℕ) → same xs ys ≡ true → xs ≡ ys
-unfolding same
-same_is [] [] e = refl
-same_is [] (y ∷ ys) e = absurd cc
-same_is (x ∷ xs) [] e = absurd cc
-same_is (x ∷ xs) (y ∷ ys) e =
-    let both = and_parts (eqb x y) (same xs ys) e in
-    ap (λ (v : ℕ). v ∷ xs) (eqb-true x y both.0) ∙ ap (λ (vs : List ℕ). y ∷ vs) (same_is xs ys both.1)
 
 at_below : (n : ℕ) (p : ℕ → Bool) → all_below n p ≡ true → (k : ℕ) → k < n → p k ≡ true
 unfolding all_below
@@ -178,8 +160,8 @@ all_at t lt =
                                                                                               (omega arith)
                                                                                           | inr g14 ↦
                                                                                               at_part 15360 t pass_15
-                                                                                                  (omega arith)
-                                                                                                  (omega arith)
+                                                                                              (omega arith)
+                                                                                              (omega arith)
                                                                                         ])
                                                                                   ])
                                                                             ])

@@ -1,11 +1,12 @@
 -- Survivors walked back eight steps at a time.
-use Rattle.std.proofs.Common.{◌≡◌, ℕ, ◌+◌, ◌-◌, ◌*◌, ◌/◌, ◌%◌, ◌^◌, ◌<◌, ◌≤◌, ◌∙◌, sym, ap, subst, refl, arith, suc, zero, length, get_or, take, drop, List, [], ◌∷◌, ◌++◌, Bool, true, false, ◌&&◌, eqb, append_assoc, inl, inr}
-use Rattle.std.proofs.lemmas.Bool.{eqb-true, cases_lt, and_parts, agree_below, agree_below_at}
+use Rattle.std.proofs.Common.{◌≡◌, ℕ, ◌+◌, ◌-◌, ◌*◌, ◌/◌, ◌%◌, ◌^◌, ◌<◌, ◌≤◌, ◌∙◌, sym, ap, subst, refl, arith, suc, zero, length, get_or, take, drop, List, [], ◌∷◌, ◌++◌, true, append_assoc, inl, inr}
+use Rattle.std.proofs.lemmas.Bool.{cases_lt, agree_below, agree_below_at}
 use Rattle.std.proofs.lemmas.List.{reverse-append, reverse-reverse, drop_at, drop-drop, length-take-le}
 use borrow.Rule.Slice.PartMut.{put_mid, post_of}
 use Rattle.std.proofs.Math.Seq.{take-add}
 use mathlib.Core.List.{reverse}
 use Rattle.tm_conv.specs.Path.{register_after}
+use Rattle.tm_conv.proofs.EqualLists.{same, same_is}
 use Rattle.tm_viterbi.specs.Walk.{before, past_of, start_of, history}
 use Rattle.tm_viterbi.specs.declared.traceback.eight_bits.TheConstants.{EIGHT_BITS}
 
@@ -14,21 +15,6 @@ use Rattle.tm_viterbi.specs.declared.traceback.eight_bits.TheConstants.{EIGHT_BI
 abbrev pub eight_bits : ℕ → List ℕ
 eight_bits x =
     (x % 2) ∷ (x / 2 % 2) ∷ (x / 4 % 2) ∷ (x / 8 % 2) ∷ (x / 16 % 2) ∷ (x / 32 % 2) ∷ (x / 64 % 2) ∷ (x / 128 % 2) ∷ []
-
-unfoldable same : List ℕ → List ℕ → Bool
-same [] [] = true
-same [] (y ∷ ys) = false
-same (x ∷ xs) [] = false
-same (x ∷ xs) (y ∷ ys) = eqb x y && same xs ys
-
-same_is : (xs ys : List ℕ) → same xs ys ≡ true → xs ≡ ys
-unfolding same
-same_is [] [] e = refl
-same_is [] (y ∷ ys) e = absurd cc
-same_is (x ∷ xs) [] e = absurd cc
-same_is (x ∷ xs) (y ∷ ys) e =
-    let both = and_parts (eqb x y) (same xs ys) e in
-    ap (λ (v : ℕ). v ∷ xs) (eqb-true x y both.0) ∙ ap (λ (vs : List ℕ). y ∷ vs) (same_is xs ys both.1)
 
 each_row : agree_below (λ x. same (get_or EIGHT_BITS x []) (eight_bits x)) (λ x. true) 256 ≡ true
 unfolding same
