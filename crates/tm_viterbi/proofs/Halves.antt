@@ -1,12 +1,12 @@
 -- Lanes by sixteens.
 use Rattle.std.proofs.Common.{◌≡◌, ℕ, ◌+◌, ◌-◌, ◌*◌, ◌/◌, ◌%◌, ◌^◌, ◌<◌, ◌++◌, ◌∙◌, min, cond, ltb, sym, subst, ap, refl, true, arith, length, length-append, get_or, List, [], ◌∷◌, map, w16, inl, inr}
 use Rattle.std.proofs.lemmas.Bool.{cases_lt}
-use Rattle.std.proofs.lemmas.List.{get_or-map, length-map, get_or_append_left, get_or-append_right}
+use Rattle.std.proofs.lemmas.List.{length-map, get_or_append_left, get_or-append_right}
 use Rattle.std.proofs.lemmas.Nat.Bits.{bit_at_cat_low, bit_at_cat_high}
 use Rattle.std.proofs.lemmas.Simd.{swz_l, SwzOk, SwzOk-from_below, Each1-from_get_or, length-swz_l, get_or-swz_l_below}
 use Rattle.tm_conv.specs.Path.{c1, c2}
 use Rattle.tm_viterbi.specs.AddCompareSelect.{IsEach, IsHalf, first_metric, second_metric}
-use Rattle.tm_viterbi.proofs.Vectors.{follows, follows_at}
+use Rattle.tm_viterbi.proofs.Vectors.{follows, follows_at, get_or-from_table}
 use Rattle.tm_viterbi.proofs.Butterfly.{AreMetrics, low_metric, high_metric}
 
 -- lanes taken from xs by a table of places
@@ -14,10 +14,7 @@ pub IsHalf-from_table : (xs places : List ℕ) (f : ℕ → ℕ) → length plac
     → IsHalf (map (λ k. get_or xs k 0) places) (λ i. get_or xs (f i) 0)
 IsHalf-from_table xs places f long e = record {
   long = length-map places (λ k. get_or xs k 0) ∙ long;
-  each = λ i lt.
-      let there = follows_at f 0 places i e (omega arith) in
-      let same : 0 + i ≡ i = omega arith in
-      get_or-map (λ k. get_or xs k 0) places i 0 0 (omega arith) ∙ ap (λ k. get_or xs k 0) (there ∙ ap f same);
+  each = λ i lt. get_or-from_table xs places f e i (omega arith);
 }
 
 -- of two equal lists one after the other the first is meant

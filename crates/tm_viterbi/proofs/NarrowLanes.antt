@@ -1,21 +1,10 @@
 -- The lesser of two vectors of lanes of sixteen bits.
-use Rattle.std.proofs.Common.{◌≡◌, ℕ, ◌+◌, ◌-◌, ◌*◌, ◌/◌, ◌%◌, ◌^◌, ◌<◌, ◌∙◌, min, sym, refl, ap, cond, ltb, eqb, not, arith, length, get_or, List, [], ◌∷◌, suc, Bool, true, false, w16, map, pow-suc}
+use Rattle.std.proofs.Common.{◌≡◌, ℕ, ◌+◌, ◌-◌, ◌*◌, ◌/◌, ◌%◌, ◌^◌, ◌<◌, ◌∙◌, min, sym, refl, ap, cond, ltb, eqb, not, arith, length, get_or, List, [], ◌∷◌, Bool, true, false, w16, map, pow-suc}
 use Rattle.std.proofs.lemmas.List.{get_or-map}
-use lib.Lanes.{zip2, sel_l, mask_l, top, Each2}
-use mir.Val.{Fits}
+use lib.Lanes.{zip2, sel_l, mask_l, top}
 use Rattle.std.proofs.lemmas.Bool.Decides.{nat_tests}
 use Rattle.std.proofs.lemmas.Simd.{tops_compared, length-zip2, get_or-zip2, length-sel_l, get_or-sel_l, mask_l-mod, bit_mask_l}
 use Rattle.tm_viterbi.specs.AddCompareSelect.{IsHalf}
-
-pub Each2-from_get_or : (xs ys : List ℕ) → length xs ≡ length ys
-    → ((i : ℕ) → i < length xs → Fits w16 (get_or xs i 0 + get_or ys i 0)) → Each2 (λ a b. Fits w16 (a + b)) xs ys
-Each2-from_get_or [] ys l h = tt
-Each2-from_get_or (x ∷ xs) [] l h = tt
-Each2-from_get_or (x ∷ xs) (y ∷ ys) l h = (
-  h 0 (let k : 0 < suc (length xs) = omega arith in k),
-  Each2-from_get_or xs ys (let k : suc (length xs) ≡ suc (length ys) = l in omega arith)
-      (λ i lt. h (suc i) (let k : suc i < suc (length xs) = omega arith in k)),
-)
 
 abbrev pub below_mask : List ℕ → List ℕ → List Bool
 below_mask xs ys = map (top 15) (zip2 (λ a b. cond (ltb a b) (2 ^ 16 - 1) 0) xs ys)

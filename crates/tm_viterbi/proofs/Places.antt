@@ -1,19 +1,16 @@
 -- The positions that the lanes are taken from.
 use Rattle.std.proofs.Common.{◌≡◌, ℕ, ◌+◌, ◌*◌, ◌∙◌, ap, arith, length, get_or, List, [], ◌∷◌, ◌++◌, refl, map, true, take, drop}
-use Rattle.std.proofs.lemmas.List.{get_or-map, length-map, take-take, take_all, take-append-drop, length-drop}
+use Rattle.std.proofs.lemmas.List.{length-map, take-take, take_all, take-append-drop, length-drop}
 use Rattle.tm_conv.specs.Path.{c1, c2}
 use Rattle.tm_viterbi.specs.AddCompareSelect.{IsEach}
-use Rattle.tm_viterbi.proofs.Vectors.{follows, follows_at}
+use Rattle.tm_viterbi.proofs.Vectors.{follows, get_or-from_table}
 
 -- lanes taken from xs by a table of places
 pub IsEach-from_table : (xs places : List ℕ) (f : ℕ → ℕ) → length places ≡ 32 → follows f 0 places ≡ true
     → IsEach (map (λ k. get_or xs k 0) places) (λ i. get_or xs (f i) 0)
 IsEach-from_table xs places f long e = record {
   long = length-map places (λ k. get_or xs k 0) ∙ long;
-  each = λ i lt.
-      let there = follows_at f 0 places i e (omega arith) in
-      let same : 0 + i ≡ i = omega arith in
-      get_or-map (λ k. get_or xs k 0) places i 0 0 (omega arith) ∙ ap (λ k. get_or xs k 0) (there ∙ ap f same);
+  each = λ i lt. get_or-from_table xs places f e i (omega arith);
 }
 
 abbrev near_places : List ℕ

@@ -1,19 +1,19 @@
 -- The lesser of two vectors of lanes, and tables of positions.
-use Rattle.std.proofs.Common.{◌≡◌, ℕ, ◌+◌, ◌-◌, ◌/◌, ◌%◌, ◌^◌, ◌<◌, ◌∙◌, min, ap, subst, cond, ltb, eqb, arith, length, get_or, List, [], ◌∷◌, zero, suc, refl, Bool, true, false, ◌&&◌, w32, map}
+use Rattle.std.proofs.Common.{◌≡◌, ℕ, ◌+◌, ◌-◌, ◌/◌, ◌%◌, ◌^◌, ◌<◌, ◌∙◌, min, ap, subst, cond, ltb, eqb, arith, length, get_or, List, [], ◌∷◌, zero, suc, Bool, true, false, ◌&&◌, w32, map}
 use lib.Lanes.{zip2, sel_l, mask_l, top, Each2}
-use mir.Val.{Fits}
 use Rattle.std.proofs.lemmas.Bool.Decides.{nat_tests}
-use Rattle.std.proofs.lemmas.Bool.{eqb-true}
+use Rattle.std.proofs.lemmas.Bool.{eqb-true, and_parts}
+use Rattle.std.proofs.lemmas.List.{get_or-map}
 use Rattle.std.proofs.lemmas.Simd.{tops_compared, length-zip2, length-sel_l, get_or-sel_l, get_or-zip2, mask_l-lt, mask_l-mod, bit_mask_l}
 use Rattle.tm_viterbi.specs.AddCompareSelect.{IsEach}
 
-pub Each2-from_get_or : (xs ys : List ℕ) → length xs ≡ length ys
-    → ((i : ℕ) → i < length xs → Fits w32 (get_or xs i 0 + get_or ys i 0)) → Each2 (λ a b. Fits w32 (a + b)) xs ys
-Each2-from_get_or [] ys l h = tt
-Each2-from_get_or (x ∷ xs) [] l h = tt
-Each2-from_get_or (x ∷ xs) (y ∷ ys) l h = (
+pub Each2-from_get_or : (P : ℕ → ℕ → Type 0) (xs ys : List ℕ) → length xs ≡ length ys
+    → ((i : ℕ) → i < length xs → P (get_or xs i 0) (get_or ys i 0)) → Each2 P xs ys
+Each2-from_get_or P [] ys l h = tt
+Each2-from_get_or P (x ∷ xs) [] l h = tt
+Each2-from_get_or P (x ∷ xs) (y ∷ ys) l h = (
   h 0 (let k : 0 < suc (length xs) = omega arith in k),
-  Each2-from_get_or xs ys (let k : suc (length xs) ≡ suc (length ys) = l in omega arith)
+  Each2-from_get_or P xs ys (let k : suc (length xs) ≡ suc (length ys) = l in omega arith)
       (λ i lt. h (suc i) (let k : suc i < suc (length xs) = omega arith in k)),
 )
 
@@ -67,10 +67,6 @@ unfoldable pub follows : (ℕ → ℕ) → ℕ → List ℕ → Bool
 follows f start [] = true
 follows f start (x ∷ xs) = eqb x (f start) && follows f (start + 1) xs
 
-and_parts : (a b : Bool) → (a && b) ≡ true → (a ≡ true) × (b ≡ true)
-and_parts true b e = (refl, e)
-and_parts false b e = absurd cc
-
 pub follows_at : (f : ℕ → ℕ) (start : ℕ) (xs : List ℕ) (i : ℕ) → follows f start xs ≡ true → i < length xs
     → get_or xs i 0 ≡ f (start + i)
 unfolding follows
@@ -81,3 +77,10 @@ follows_at f start (x ∷ xs) zero e lt =
 follows_at f start (x ∷ xs) (suc i) e lt =
     let same : start + 1 + i ≡ start + suc i = omega arith in
     follows_at f (start + 1) xs i (and_parts _ _ e).1 (let h : suc i < suc (length xs) = lt in omega arith) ∙ ap f same
+
+-- what a table of such places takes from xs
+pub get_or-from_table : (xs places : List ℕ) (f : ℕ → ℕ) → follows f 0 places ≡ true → (i : ℕ) → i < length places
+    → get_or (map (λ k. get_or xs k 0) places) i 0 ≡ get_or xs (f i) 0
+get_or-from_table xs places f e i lt =
+    let same : 0 + i ≡ i = omega arith in
+    get_or-map (λ k. get_or xs k 0) places i 0 0 lt ∙ ap (λ k. get_or xs k 0) (follows_at f 0 places i e lt ∙ ap f same)

@@ -18,12 +18,12 @@ get_or-add xs ys i lx ly lt = get_or-zip2 (λ a b. a + b) xs ys i 0 0 0 (omega a
 
 pub overflow_add-one : goal.overflow_add-one
 overflow_add-one c =
-    Each2-from_get_or c.args.first c.args.near (omega arith)
+    Each2-from_get_or _ c.args.first c.args.near (omega arith)
     (λ i lt. record { fits = c.requires.first_fits i (omega arith) })
 
 pub overflow_add-other : goal.overflow_add-other
 overflow_add-other c =
-    Each2-from_get_or c.args.second c.args.far (omega arith)
+    Each2-from_get_or _ c.args.second c.args.far (omega arith)
     (λ i lt. record { fits = c.requires.second_fits i (omega arith) })
 
 pub returns-clause-sums : goal.returns-clause-sums

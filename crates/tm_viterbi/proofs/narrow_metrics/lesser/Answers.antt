@@ -1,7 +1,8 @@
 use Rattle.std.proofs.Common.{◌≡◌, ℕ, ◌+◌, ◌<◌, ◌∙◌, min, ap, cond, ltb, arith, length, get_or, List}
 use lib.Lanes.{zip2}
 use Rattle.std.proofs.lemmas.Simd.{length-zip2, get_or-zip2}
-use Rattle.tm_viterbi.proofs.NarrowLanes.{Each2-from_get_or, least_sums, lesser_bits, lesser_small}
+use Rattle.tm_viterbi.proofs.Vectors.{Each2-from_get_or}
+use Rattle.tm_viterbi.proofs.NarrowLanes.{least_sums, lesser_bits, lesser_small}
 use Rattle.tm_viterbi.proofs.narrow_metrics.lesser.Goals as goal
 
 add : List ℕ → List ℕ → List ℕ
@@ -18,12 +19,12 @@ get_or-add xs ys i lx ly lt = get_or-zip2 (λ a b. a + b) xs ys i 0 0 0 (omega a
 
 pub overflow_add-one : goal.overflow_add-one
 overflow_add-one c =
-    Each2-from_get_or c.args.first c.args.first_metrics (omega arith)
+    Each2-from_get_or _ c.args.first c.args.first_metrics (omega arith)
     (λ i lt. record { fits = c.requires.first_fits i (omega arith) })
 
 pub overflow_add-other : goal.overflow_add-other
 overflow_add-other c =
-    Each2-from_get_or c.args.second c.args.second_metrics (omega arith)
+    Each2-from_get_or _ c.args.second c.args.second_metrics (omega arith)
     (λ i lt. record { fits = c.requires.second_fits i (omega arith) })
 
 pub returns-clause-sums : goal.returns-clause-sums
