@@ -25,33 +25,49 @@ pub record AreMetrics (sums metrics : List ℕ) (s one other : ℕ) : Type 0 whe
   pub first : first_metric sums metrics s ≡ one
   pub second : second_metric sums metrics s ≡ other
 
-pub low_metrics : (sums metrics even odd near far : List ℕ) → AreLanes sums metrics even odd near far → (s : ℕ) → s < 32
-    → AreMetrics sums metrics s (get_or even s 0 + get_or near s 0) (get_or odd s 0 + get_or far s 0)
-low_metrics sums metrics even odd near far h s lt =
-    let q : s / 32 ≡ 0 = omega arith in
-    let m : s % 32 ≡ s = omega arith in
-    let F : ℕ → ℕ → ℕ = λ i b. sum_via sums metrics (2 * i) b in
-    let G : ℕ → ℕ → ℕ = λ i b. sum_via sums metrics (2 * i + 1) b in
+metrics_at : (sums metrics : List ℕ) (s i b : ℕ) → s % 32 ≡ i → s / 32 ≡ b
+    → AreMetrics sums metrics s (sum_via sums metrics (2 * i) b) (sum_via sums metrics (2 * i + 1) b)
+metrics_at sums metrics s i b m q = record {
+  first = ap (λ v. sum_via sums metrics (2 * v) (s / 32)) m ∙ ap (λ v. sum_via sums metrics (2 * i) v) q;
+  second = ap (λ v. sum_via sums metrics (2 * v + 1) (s / 32)) m ∙ ap (λ v. sum_via sums metrics (2 * i + 1) v) q;
+}
+
+pub low_metric : (sums metrics : List ℕ) (s : ℕ) → s < 32
+    → AreMetrics sums metrics s (get_or sums (2 * s) 0 + get_or metrics (2 * c1 (2 * s) 0 + c2 (2 * s) 0) 0)
+    (get_or sums (2 * s + 1) 0 + get_or metrics (2 * c1 (2 * s + 1) 0 + c2 (2 * s + 1) 0) 0)
+low_metric sums metrics s lt = metrics_at sums metrics s s 0 (omega arith) (omega arith)
+
+pub high_metric : (sums metrics : List ℕ) (i : ℕ) → i < 32
+    → AreMetrics sums metrics (32 + i)
+    (get_or sums (2 * i) 0 + get_or metrics (2 * c1 (2 * i + 1) 0 + c2 (2 * i + 1) 0) 0)
+    (get_or sums (2 * i + 1) 0 + get_or metrics (2 * c1 (2 * i) 0 + c2 (2 * i) 0) 0)
+high_metric sums metrics i lt =
+    let h = metrics_at sums metrics (32 + i) i 1 (omega arith) (omega arith) in
     record {
-      first = ap (λ v. F v (s / 32)) m ∙ ap (λ v. F s v) q ∙ omega (arith, h.evens.each s lt, h.nears.each s lt);
-      second = ap (λ v. G v (s / 32)) m ∙ ap (λ v. G s v) q ∙ omega (arith, h.odds.each s lt, h.fars.each s lt);
+      first = h.first ∙ ap (λ v. get_or sums (2 * i) 0 + get_or metrics v 0) (pair_one i lt);
+      second = h.second ∙ ap (λ v. get_or sums (2 * i + 1) 0 + get_or metrics v 0) (pair_other i lt);
     }
 
-pub high_metrics : (sums metrics even odd near far : List ℕ) → AreLanes sums metrics even odd near far → (s i : ℕ)
+-- the same by what the lanes hold
+low_metrics : (sums metrics even odd near far : List ℕ) → AreLanes sums metrics even odd near far → (s : ℕ) → s < 32
+    → AreMetrics sums metrics s (get_or even s 0 + get_or near s 0) (get_or odd s 0 + get_or far s 0)
+low_metrics sums metrics even odd near far h s lt =
+    let low = low_metric sums metrics s lt in
+    record {
+      first = low.first ∙ omega (arith, h.evens.each s lt, h.nears.each s lt);
+      second = low.second ∙ omega (arith, h.odds.each s lt, h.fars.each s lt);
+    }
+
+high_metrics : (sums metrics even odd near far : List ℕ) → AreLanes sums metrics even odd near far → (s i : ℕ)
     → i < 32
     → s ≡ 32 + i
     → AreMetrics sums metrics s (get_or even i 0 + get_or far i 0) (get_or odd i 0 + get_or near i 0)
 high_metrics sums metrics even odd near far h s i lt e =
-    let q : s / 32 ≡ 1 = omega arith in
-    let m : s % 32 ≡ i = omega arith in
-    let F : ℕ → ℕ → ℕ = λ i b. sum_via sums metrics (2 * i) b in
-    let G : ℕ → ℕ → ℕ = λ i b. sum_via sums metrics (2 * i + 1) b in
+    let high = high_metric sums metrics i lt in
     record {
-      first = ap (λ v. F v (s / 32)) m ∙ ap (λ v. F i v) q
-          ∙ ap (λ v. get_or sums (2 * i) 0 + get_or metrics v 0) (pair_one i lt)
+      first = ap (λ v. first_metric sums metrics v) e ∙ high.first
           ∙ omega (arith, h.evens.each i lt, h.fars.each i lt);
-      second = ap (λ v. G v (s / 32)) m ∙ ap (λ v. G i v) q
-          ∙ ap (λ v. get_or sums (2 * i + 1) 0 + get_or metrics v 0) (pair_other i lt)
+      second = ap (λ v. second_metric sums metrics v) e ∙ high.second
           ∙ omega (arith, h.odds.each i lt, h.nears.each i lt);
     }
 
@@ -102,33 +118,3 @@ AreSurvivors-from_lanes sums metrics even odd near far low high h lows highs ll 
           bit_at_cat_high high 32 low s ll g ∙ highs i il
           ∙ survivor_of (first_metric sums metrics s) (second_metric sums metrics s) _ _ w.first w.second)
     ]
-
--- the same of the sums themselves
-pub low_metric : (sums metrics : List ℕ) (s : ℕ) → s < 32
-    → AreMetrics sums metrics s (get_or sums (2 * s) 0 + get_or metrics (2 * c1 (2 * s) 0 + c2 (2 * s) 0) 0)
-    (get_or sums (2 * s + 1) 0 + get_or metrics (2 * c1 (2 * s + 1) 0 + c2 (2 * s + 1) 0) 0)
-low_metric sums metrics s lt =
-    let q : s / 32 ≡ 0 = omega arith in
-    let m : s % 32 ≡ s = omega arith in
-    let F : ℕ → ℕ → ℕ = λ i b. sum_via sums metrics (2 * i) b in
-    let G : ℕ → ℕ → ℕ = λ i b. sum_via sums metrics (2 * i + 1) b in
-    record {
-      first = ap (λ v. F v (s / 32)) m ∙ ap (λ v. F s v) q;
-      second = ap (λ v. G v (s / 32)) m ∙ ap (λ v. G s v) q;
-    }
-
-pub high_metric : (sums metrics : List ℕ) (i : ℕ) → i < 32
-    → AreMetrics sums metrics (32 + i)
-    (get_or sums (2 * i) 0 + get_or metrics (2 * c1 (2 * i + 1) 0 + c2 (2 * i + 1) 0) 0)
-    (get_or sums (2 * i + 1) 0 + get_or metrics (2 * c1 (2 * i) 0 + c2 (2 * i) 0) 0)
-high_metric sums metrics i lt =
-    let q : (32 + i) / 32 ≡ 1 = omega arith in
-    let m : (32 + i) % 32 ≡ i = omega arith in
-    let F : ℕ → ℕ → ℕ = λ i b. sum_via sums metrics (2 * i) b in
-    let G : ℕ → ℕ → ℕ = λ i b. sum_via sums metrics (2 * i + 1) b in
-    record {
-      first = ap (λ v. F v ((32 + i) / 32)) m ∙ ap (λ v. F i v) q
-          ∙ ap (λ v. get_or sums (2 * i) 0 + get_or metrics v 0) (pair_one i lt);
-      second = ap (λ v. G v ((32 + i) / 32)) m ∙ ap (λ v. G i v) q
-          ∙ ap (λ v. get_or sums (2 * i + 1) 0 + get_or metrics v 0) (pair_other i lt);
-    }
