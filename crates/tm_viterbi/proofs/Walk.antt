@@ -127,67 +127,38 @@ rival total more n s edge lt grows sum r past long best q (b ∷ other) path =
       first = λ le. let k : rank r past ≤ rank q other = h.first (omega (arith, g, le)) in omega (arith, k, size);
     }
 
-pub first_best : (total more : ℕ → List ℕ → ℕ) (n s : ℕ) (edge : ℕ → ℕ → ℕ) → s < 64 → Grows total more n edge
-    → (x y r q : ℕ) (past other : List ℕ)
-    → IsBestTo total n (2 * (s % 32)) x r past → IsBestTo total n (2 * (s % 32) + 1) y q other
-    → x + edge (2 * (s % 32)) (s / 32) ≤ y + edge (2 * (s % 32) + 1) (s / 32)
-    → IsBestTo more (n + 1) s (x + edge (2 * (s % 32)) (s / 32)) r ((s / 32) ∷ past)
-first_best total more n s edge lt grows x y r q past other a b le =
-    let p0 = 2 * (s % 32) in
-    let p1 = 2 * (s % 32) + 1 in
+-- the best path over register p is the best of both where it costs less than the best over the other register,
+-- or as little and p is the lower
+best_over : (total more : ℕ → List ℕ → ℕ) (n s : ℕ) (edge : ℕ → ℕ → ℕ) → s < 64 → Grows total more n edge
+    → (p o x y r q : ℕ) (past other : List ℕ) → next_register p (s / 32) ≡ s
+    → ((w : ℕ) → (w ≡ 2 * (s % 32)) ⊎ (w ≡ 2 * (s % 32) + 1) → (w ≡ p) ⊎ (w ≡ o))
+    → IsBestTo total n p x r past → IsBestTo total n o y q other
+    → IsNoWorse (x + edge p (s / 32)) (suc p) (y + edge o (s / 32)) o
+    → IsBestTo more (n + 1) s (x + edge p (s / 32)) r ((s / 32) ∷ past)
+best_over total more n s edge lt grows p o x y r q past other goes both a b less =
     let d = s / 32 in
-    let compare : (p v : ℕ) (rest : List ℕ) → (p ≡ p0) ⊎ (p ≡ p1) → IsPathTo n p v rest
-    → IsNoWorse (x + edge p0 d) (rank r past) (total v rest + edge p d) (rank v rest)
-    = λ p v rest cases path. elim cases [
-      | inl e ↦ (let P : ℕ → Type 0 = λ w. IsPathTo n w v rest in
-          let h : IsNoWorse x (rank r past) (total v rest) (rank v rest) = a.best v rest (subst P e path) in
-          let f : edge p d ≡ edge p0 d = ap (λ w. edge w d) e in
+    let compare : (w v : ℕ) (rest : List ℕ) → (w ≡ 2 * (s % 32)) ⊎ (w ≡ 2 * (s % 32) + 1) → IsPathTo n w v rest
+    → IsNoWorse (x + edge p d) (rank r past) (total v rest + edge w d) (rank v rest)
+    = λ w v rest cases path. elim (both w cases) [
+      | inl e ↦ (let h = a.best v rest (subst (λ (u : ℕ). IsPathTo n u v rest) e path) in
+          let f : edge w d ≡ edge p d = ap (λ u. edge u d) e in
           record { least = omega (arith, h.least, f); first = λ l. h.first (omega (arith, l, f)) })
-      | inr e ↦ (let P : ℕ → Type 0 = λ w. IsPathTo n w v rest in
-          let path1 : IsPathTo n p1 v rest = subst P e path in
-          let h : IsNoWorse y (rank q other) (total v rest) (rank v rest) = b.best v rest path1 in
-          let f : edge p d ≡ edge p1 d = ap (λ w. edge w d) e in
+      | inr e ↦ (let along : IsPathTo n o v rest = subst (λ (u : ℕ). IsPathTo n u v rest) e path in
+          let h = b.best v rest along in
+          let f : edge w d ≡ edge o d = ap (λ u. edge u d) e in
           record {
-            least = omega (arith, h.least, f, le);
-            first = λ l. let k : rank r past
-                < rank v rest = rank_lt n p0 p1 r v past rest (omega arith) a.is_path path1 in omega (arith, k);
+            least = omega (arith, h.least, f, less.least);
+            first = λ l. let lower : p < o = less.first (omega (arith, h.least, l, f)) in
+                let k : rank r past < rank v rest = rank_lt n p o r v past rest lower a.is_path along in
+                omega (arith, k);
           })
     ] in
     record {
-      is_path = path_more n s p0 r past lt a.is_path (omega arith);
+      is_path = path_more n s p r past lt a.is_path goes;
       is_sum =
           grows.is r past d a.is_path.long ∙ ap (λ v. v + edge (register_back r past) d) a.is_sum
           ∙ ap (λ v. x + edge v d) a.is_path.ends;
-      best = rival total more n s edge lt grows (x + edge p0 d) r past a.is_path.long compare;
-    }
-
-pub second_best : (total more : ℕ → List ℕ → ℕ) (n s : ℕ) (edge : ℕ → ℕ → ℕ) → s < 64 → Grows total more n edge
-    → (x y r q : ℕ) (past other : List ℕ)
-    → IsBestTo total n (2 * (s % 32)) x r past → IsBestTo total n (2 * (s % 32) + 1) y q other
-    → y + edge (2 * (s % 32) + 1) (s / 32) < x + edge (2 * (s % 32)) (s / 32)
-    → IsBestTo more (n + 1) s (y + edge (2 * (s % 32) + 1) (s / 32)) q ((s / 32) ∷ other)
-second_best total more n s edge lt grows x y r q past other a b less =
-    let p0 = 2 * (s % 32) in
-    let p1 = 2 * (s % 32) + 1 in
-    let d = s / 32 in
-    let compare : (p v : ℕ) (rest : List ℕ) → (p ≡ p0) ⊎ (p ≡ p1) → IsPathTo n p v rest
-    → IsNoWorse (y + edge p1 d) (rank q other) (total v rest + edge p d) (rank v rest)
-    = λ p v rest cases path. elim cases [
-      | inl e ↦ (let P : ℕ → Type 0 = λ w. IsPathTo n w v rest in
-          let h : IsNoWorse x (rank r past) (total v rest) (rank v rest) = a.best v rest (subst P e path) in
-          let f : edge p d ≡ edge p0 d = ap (λ w. edge w d) e in
-          record { least = omega (arith, h.least, f, less); first = λ l. absurd (omega (arith, h.least, l, f, less)) })
-      | inr e ↦ (let P : ℕ → Type 0 = λ w. IsPathTo n w v rest in
-          let h : IsNoWorse y (rank q other) (total v rest) (rank v rest) = b.best v rest (subst P e path) in
-          let f : edge p d ≡ edge p1 d = ap (λ w. edge w d) e in
-          record { least = omega (arith, h.least, f); first = λ l. h.first (omega (arith, l, f)) })
-    ] in
-    record {
-      is_path = path_more n s p1 q other lt b.is_path (omega arith);
-      is_sum =
-          grows.is q other d b.is_path.long ∙ ap (λ v. v + edge (register_back q other) d) b.is_sum
-          ∙ ap (λ v. y + edge v d) b.is_path.ends;
-      best = rival total more n s edge lt grows (y + edge p1 d) q other b.is_path.long compare;
+      best = rival total more n s edge lt grows (x + edge p d) r past a.is_path.long compare;
     }
 
 -- what an edge costs, by the four branch metrics of a step
@@ -215,10 +186,13 @@ AreBest-more total more n survivor sums metrics next survivors grows is_next sur
     elim (cases_lt second first) as (λ _. P (get_or next s 0) (before survivor s)) [
       | inl h ↦ (let one : survivor / 2 ^ s % 2 ≡ 1 = chosen ∙ choice_second first second first second refl refl h in
           goes second p1 (omega (arith, least, h)) (omega (arith, one))
-          (second_best total more n s (edge_cost metrics) lt grows _ _ _ _ _ _ a b h))
+          (best_over total more n s (edge_cost metrics) lt grows p1 p0 _ _ _ _ _ _ (omega arith)
+          (λ w cases. elim cases [ inl e ↦ inr e | inr e ↦ inl e ]) b a
+          (record { least = omega (arith, h); first = λ l. absurd (omega (arith, h, l)) })))
       | inr h ↦ (let none : survivor / 2 ^ s % 2 ≡ 0 = chosen ∙ choice_first first second first second refl refl h in
           goes first p0 (omega (arith, least, h)) (omega (arith, none))
-          (first_best total more n s (edge_cost metrics) lt grows _ _ _ _ _ _ a b h))
+          (best_over total more n s (edge_cost metrics) lt grows p0 p1 _ _ _ _ _ _ (omega arith) (λ w cases. cases) a b
+          (record { least = h; first = λ _. omega arith })))
     ]
 
 -- before any step each path is a register alone
