@@ -1,6 +1,6 @@
 -- One more turn of reading.
 use Rattle.std.proofs.lemmas.Bool.Decides.{nat_tests}
-use Rattle.std.proofs.Common.{◌≡◌, ◌==◌, ◌&&◌, ◌||◌, Bool, true, false, nat_lt, ℕ, ◌+◌, ◌-◌, ◌≤◌, ◌<◌, drop, append_assoc, take-append-drop, ◌⊎◌, inl, inr, List, ◌++◌, length, take, refl, sym, ◌∙◌, ap, arith, Option}
+use Rattle.std.proofs.Common.{◌≡◌, ◌==◌, ◌&&◌, ◌||◌, Bool, true, false, nat_lt, ℕ, zero, suc, ◌+◌, ◌-◌, ◌≤◌, ◌<◌, drop, append_assoc, take-append-drop, ◌⊎◌, inl, inr, List, ◌++◌, length, length-append, take, refl, sym, ◌∙◌, ap, arith, Option}
 use Rattle.std.specs.Io.KnownBytes.{append_known, prepend_known}
 use Rattle.std.proofs.Math.Seq.{take-append-add}
 use Rattle.std.proofs.lemmas.List.{take_all, length-take-le, take-append-le}
@@ -27,30 +27,30 @@ kept-is limit kept xs ys le cases =
     same (inl c) = take_all (limit - length xs) ys (omega arith) ∙ sym (take_all kept ys (omega arith))
     same (inr e) = ap (λ n. take n ys) (omega arith)
 
--- the octets up to the limit go on by those that are kept of a turn
-pub turn-is : (limit room count kept : ℕ) (octets buf rest : List ℕ) → length octets + room ≡ limit + 1 → 0 < count
-    → count ≤ room → count ≤ length buf →
-    ((kept ≡ count) × (0 < room - count)) ⊎ ((kept ≡ count - 1) × (room - count ≡ 0))
-    → take limit (octets ++ take count buf) ≡ take limit octets ++ take kept (buf ++ rest)
-turn-is limit room count kept octets buf rest total some within prefix cases =
-    kept-is limit kept octets (take count buf) (omega arith) (which cases)
-    ∙ ap (λ l. octets ++ l) same ∙ ap (λ l. l ++ take kept (buf ++ rest)) (sym (take_all limit octets (omega arith)))
+-- The octets up to the limit go on by those that are kept of a turn, which are all, or all but the last once nothing
+-- more may be read. What may still be read is less by those that were.
+pub turn-is : {room count kept : ℕ} (limit : ℕ) (octets buf rest : List ℕ) → length octets + room ≡ limit + 1
+    → kept ≡ count - (1 - (room - count)) → 0 < count → count ≤ room → count ≤ length buf
+    → (take limit (octets ++ take count buf) ≡ take limit octets ++ take kept (buf ++ rest))
+    × (length (octets ++ take count buf) + (room - count) ≡ limit + 1)
+turn-is {room} {count} {kept} limit octets buf rest total is_kept some within prefix = (
+  kept-is limit kept octets (take count buf) (omega arith) (which (room - count) refl)
+      ∙ ap (λ l. octets ++ l) same ∙ ap (λ l. l ++ take kept (buf ++ rest)) (sym (take_all limit octets (omega arith))),
+  omega (arith, long, length-append octets (take count buf)),
+)
   where
     long : length (take count buf) ≡ count
     long = length-take-le count buf prefix
 
-    below : kept ≤ count
-    below = elim cases [ inl c ↦ omega arith | inr c ↦ omega arith ]
-
-    which : ((kept ≡ count) × (0 < room - count)) ⊎ ((kept ≡ count - 1) × (room - count ≡ 0))
+    which : (left : ℕ) → left ≡ room - count
         → ((kept ≡ length (take count buf)) × (length octets + length (take count buf) ≤ limit))
         ⊎ (length octets + kept ≡ limit)
-    which (inl c) = inl (omega (arith, long), omega (arith, long))
-    which (inr c) = inr (omega (arith, long))
+    which zero is = inr (omega (arith, long))
+    which (suc left) is = inl (omega (arith, long), omega (arith, long))
 
     same : take kept (take count buf) ≡ take kept (buf ++ rest)
     same =
-        sym (take-append-le kept (take count buf) (drop count buf ++ rest) (omega (arith, long, below)))
+        sym (take-append-le kept (take count buf) (drop count buf ++ rest) (omega (arith, long)))
         ∙ ap (take kept) (sym (append_assoc (take count buf) (drop count buf) rest)
         ∙ ap (λ l. l ++ rest) (take-append-drop count buf))
 
