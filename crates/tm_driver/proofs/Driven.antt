@@ -69,6 +69,15 @@ module _ {F : Type 0} (fed : F → F → List ℕ → Type 0) (stopped : F → F
   ends-driven stated is ended unended ending octets d = ended-by ended unended ending octets
       (subst (λ (n : ℕ). DrivenTo fed stopped finished failed n before now ended unended ending octets) is d)
 
+-- how what was driven ends, of such a command, whatever the limit is called
+abbrev pub EndsDone : {F : Type 0} → (F → F → List ℕ → Type 0) → (F → F → List ℕ → Type 0) → (F → F → Type 0)
+    → (F → F → Type 0) → F → F → Meaning → ℕ → Taken → Type 1
+EndsDone fed fails ends failed before now meaning limit taken =
+    (stated : ℕ) → stated ≡ limit → (ended unended : Type 0) (ending : Ending) (octets : List ℕ)
+    → DrivenTo fed (λ a b o why. (why ≡ stop.SinkFault) × fails a b o)
+    (λ a b by. (by ≡ outcome.Done) × ends a b) failed stated before now ended unended ending octets
+    → Ends ending meaning limit octets taken
+
 -- the same of a command whose input is whole and not bad whatever it is, and which stops at a fault of a sink alone
 module _ {F : Type 0} (fed fails : F → F → List ℕ → Type 0) (ends failed : F → F → Type 0) (before now : F)
     (meaning : Meaning) (limit : ℕ) (taken : Taken)
@@ -94,9 +103,7 @@ module _ {F : Type 0} (fed fails : F → F → List ℕ → Type 0) (ends failed
   end-shows middle o outcome.Bad within were_fed p = let no = p.0 in cc no
   end-shows middle o outcome.LeftOver within were_fed p = let no = p.0 in cc no
 
-  pub done-driven : (stated : ℕ) → stated ≡ limit → (ended unended : Type 0) (ending : Ending) (octets : List ℕ)
-      → DrivenTo fed Stopped Finished failed stated before now ended unended ending octets
-      → Ends ending meaning limit octets taken
+  pub done-driven : EndsDone fed fails ends failed before now meaning limit taken
   done-driven stated is ended unended ending octets d =
       ends-driven fed Stopped Finished failed before now meaning limit taken early stop-shows end-shows broken stated is
       ended unended ending octets d

@@ -19,12 +19,9 @@ use Rattle.tm_inner.proofs.WithPhase.{HasPhase, OnePhase, choice-stays, with_pha
 use Rattle.tm_inner.proofs.InnerBits.{HasBlocks, has_blocks}
 use Rattle.tm_inner.proofs.PhasePieces.{PhaseStays, items_of-with_phase}
 use Rattle.tm_inner.proofs.PlainBits.{bits-nil}
-use Rattle.tm_driver.specs.Driven.{DrivenTo}
-use Rattle.tm_driver.specs.Meaning.{Ends, Output, WroteEarly, WrotePrefixes, taken_by}
-use Rattle.tm_driver.specs.declared.ending.Ending.{Ending}
+use Rattle.tm_driver.specs.Meaning.{Output, WroteEarly, WrotePrefixes, taken_by}
 use Rattle.tm_driver.specs.declared.ending.Outcome.TheVariants as outcome
-use Rattle.tm_driver.specs.declared.ending.Stop.TheVariants as stop
-use Rattle.tm_driver.proofs.Driven.{Shows, WroteInOrder, done-driven}
+use Rattle.tm_driver.proofs.Driven.{EndsDone, Shows, WroteInOrder, done-driven}
 use Rattle.tm_driver.proofs.SinkTexts.{prefix-of, wrote-prefix, wrote-nothing, wrote-then, wrote-then_prefix}
 use Rattle.tm_path_commands.specs.Bits.{CutsWriting, EndsWriting, FailsWriting, Gathers, GathersLast, IsEmptied, Packing, PhaseWaits, Writes, WritesAll, WritesAllPart, WritesMore, WritesPart, WrotePart, WroteWaiting, AreBitsInOrder, IsBits, bits_meaning, bits_of_handed, end_line, fill, filled_octets, line_of, open_bits, phase_line}
 use Rattle.tm_path_commands.specs.Lines.{bits_end_text}
@@ -483,11 +480,8 @@ module _ (exists : HasBlocks) (stands : StandFirst) (phase : HasPhase) (one : On
           fails-all c octets (out before) (out now) (notes before) (notes now) accepted
           (p c (out before) (notes before) [] accepted (λ _. fresh) (omega arith))
 
-      pub driven-ends : (limit : ℕ) → limit ≡ c.limit → (ended unended : Type 0) (ending : Ending) (octets : List ℕ)
-          → DrivenTo Fed (λ a b o why. (why ≡ stop.SinkFault) × Fails a b o)
-          (λ a b by. (by ≡ outcome.Done) × Finishes a b)
-          Failed limit before now ended unended ending octets
-          → Ends ending (bits_meaning c) c.limit octets (taken_by (out before) (out now) (notes before) (notes now))
+      pub driven-ends : EndsDone Fed Fails Finishes Failed before now (bits_meaning c) c.limit
+          (taken_by (out before) (out now) (notes before) (notes now))
       driven-ends = done-driven Fed Fails Finishes Failed before now (bits_meaning c) c.limit
           (taken_by (out before) (out now) (notes before) (notes now))
           (λ o within p. ends-early c (receiver now) (waiting now) o (out before) (out now) (notes before) (notes now)

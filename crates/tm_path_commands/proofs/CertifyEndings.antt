@@ -17,12 +17,9 @@ use Rattle.tm_inner.proofs.InnerBits.{HasBlocks, has_blocks}
 use Rattle.tm_inner.proofs.Unfollowed.{blocks-unfollowed}
 use Rattle.tm_inner.proofs.PhasePieces.{PhaseStays}
 use Rattle.tm_cert_file.specs.Certifying.{Certifying}
-use Rattle.tm_driver.specs.Driven.{DrivenTo}
-use Rattle.tm_driver.specs.Meaning.{Ends, WroteEarly, taken_by}
-use Rattle.tm_driver.specs.declared.ending.Ending.{Ending}
+use Rattle.tm_driver.specs.Meaning.{WroteEarly, taken_by}
 use Rattle.tm_driver.specs.declared.ending.Outcome.TheVariants as outcome
-use Rattle.tm_driver.specs.declared.ending.Stop.TheVariants as stop
-use Rattle.tm_driver.proofs.Driven.{Shows, WroteInOrder, done-driven}
+use Rattle.tm_driver.proofs.Driven.{EndsDone, Shows, WroteInOrder, done-driven}
 use Rattle.tm_driver.proofs.SinkTexts.{wrote-prefix, wrote-nothing}
 use Rattle.tm_path_commands.specs.Certify.{IsCertifiedAll, IsCertifiedSoFar, TextAt, certified_meaning}
 use Rattle.tm_path_commands.specs.Certifying.{Certifies, CertifiesMore, CertifyFails, CutsCertificate, EndsCertificate, FailsCertifying, WritesAt, WroteCertificate, WroteCertificatePrefix}
@@ -187,11 +184,8 @@ module _ (exists : HasBlocks) (stands : StandFirst) (phase : HasPhase) (stays : 
           fails-all exists stands has one parts c (out before) (out now) octets accepted
           (p c (out before) [] accepted (λ _. fresh) (omega arith))
 
-      pub driven-ends : (limit : ℕ) → limit ≡ c.limit → (ended unended : Type 0) (ending : Ending) (octets : List ℕ)
-          → DrivenTo Fed (λ a b o why. (why ≡ stop.SinkFault) × Fails a b o)
-          (λ a b by. (by ≡ outcome.Done) × Finishes a b)
-          Failed limit before now ended unended ending octets
-          → Ends ending (certified_meaning c) c.limit octets (taken_by (out before) (out now) noted noted)
+      pub driven-ends : EndsDone Fed Fails Finishes Failed before now (certified_meaning c) c.limit
+          (taken_by (out before) (out now) noted noted)
       driven-ends = done-driven Fed Fails Finishes Failed before now (certified_meaning c) c.limit
           (taken_by (out before) (out now) noted noted)
           (λ o within p. ends-early c (receiver now) (kept now) o (out before) (out now) noted accepted

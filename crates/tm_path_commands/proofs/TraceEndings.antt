@@ -33,13 +33,10 @@ use Rattle.tm_inner.proofs.HandedBits.{handed-due-none}
 use Rattle.tm_inner.proofs.PhasePieces.{PhaseStays, with_phase-more, items_of-with_phase}
 use Rattle.tm_inner.proofs.WithPhase.{HasPhase, OnePhase, with_phase-exists, with_phase-prefix, with_phase-so_far}
 use Rattle.tm_driver.specs.Courses.{SinkState}
-use Rattle.tm_driver.specs.Driven.{DrivenTo}
-use Rattle.tm_driver.specs.Meaning.{Ends, Output, WroteBoth, WroteEarly, WrotePrefixes, taken_by}
+use Rattle.tm_driver.specs.Meaning.{Output, WroteBoth, WroteEarly, WrotePrefixes, taken_by}
 use Rattle.tm_driver.specs.Texts.{TookText, BrokeText}
-use Rattle.tm_driver.specs.declared.ending.Ending.{Ending}
 use Rattle.tm_driver.specs.declared.ending.Outcome.TheVariants as outcome
-use Rattle.tm_driver.specs.declared.ending.Stop.TheVariants as stop
-use Rattle.tm_driver.proofs.Driven.{Shows, WroteInOrder, done-driven}
+use Rattle.tm_driver.proofs.Driven.{EndsDone, Shows, WroteInOrder, done-driven}
 use Rattle.tm_driver.proofs.SinkTexts.{broke-prefix, prefix-of, wrote-prefix, wrote-nothing}
 use Rattle.tm_path_commands.specs.declared.tally.Tally.{Tally}
 use Rattle.tm_path_commands.specs.Lines.{no_blocks, trace_end_text}
@@ -595,11 +592,7 @@ module _ (exists : HasBlocks) (stands : StandFirst) (phase : HasPhase) (one : On
           trace-fails name lines last count c (receiver before) (taker before) (taker now) octets new accepted
           (omega arith) stood (p c same)
 
-      pub driven-ends : (limit : ℕ) → limit ≡ c.limit → (ended unended : Type 0) (ending : Ending) (octets : List ℕ)
-          → DrivenTo Fed (λ a b o why. (why ≡ stop.SinkFault) × Fails a b o)
-          (λ a b by. (by ≡ outcome.Done) × Finishes a b)
-          Failed limit before now ended unended ending octets
-          → Ends ending (trace_meaning c) c.limit octets
+      pub driven-ends : EndsDone Fed Fails Finishes Failed before now (trace_meaning c) c.limit
           (taken_by (lines (taker before)).taken (lines (taker now)).taken noted noted)
       driven-ends =
           let start = lines (taker before) in
