@@ -895,15 +895,18 @@ rest-run rules inverted (suc count) at before bits size match held =
     (λ next. rest-run rules inverted count (at + 32 + rules.block_bits) next (drop (32 + rules.block_bits) bits)
     (omega arith) (matches_in-is (match_of rules (drop (32 + rules.block_bits) bits)) inverted both.0) both.1)
 
--- the bits after the codeblock of the place awaited, where it is whole: none, or a marker that
--- matches as its own, and so on
+-- after the codeblock of the place awaited there are no bits, or those of a marker that matches as its own, and so on
+abbrev IsRunAfter : Searching → List Bool → Awaited → Type 0
+IsRunAfter s bits m =
+    let left = drop (m.found.place + 32 + s.rules.block_bits) bits in
+    (length left ≡ 0) ⊎ ((count : ℕ) × (length left ≡ count * (32 + s.rules.block_bits) + 32)
+    × (match_of s.rules left ≡ Some m.found.inverted)
+    × (are_verified s.rules m.found.inverted count left ≡ true))
+
+-- those bits, where the codeblock is whole
 record Left (s : Searching) (bits : List Bool) (m : Awaited) : Type 0 where
   size : length (drop (m.found.place + 32 + s.rules.block_bits) bits) ≡ s.after - s.rules.block_bits
-  run : (length (drop (m.found.place + 32 + s.rules.block_bits) bits) ≡ 0)
-      ⊎ ((count : ℕ) × (length (drop (m.found.place + 32 + s.rules.block_bits) bits)
-      ≡ count * (32 + s.rules.block_bits) + 32)
-      × (match_of s.rules (drop (m.found.place + 32 + s.rules.block_bits) bits) ≡ Some m.found.inverted)
-      × (are_verified s.rules m.found.inverted count (drop (m.found.place + 32 + s.rules.block_bits) bits) ≡ true))
+  run : IsRunAfter s bits m
 
 left-of : (s : Searching) (bits : List Bool) (m : Awaited) → s.rules.block_bits ≤ s.after
     → m.found.place + 32 + s.after ≡ length bits → IsRun s bits (Some m) → Left s bits m
@@ -915,11 +918,7 @@ left-of s bits m full ends run =
   where
     go : length (drop (m.found.place + 32 + s.rules.block_bits) bits) ≡ s.after - s.rules.block_bits
         → IsRun s bits (Some m)
-        → (length (drop (m.found.place + 32 + s.rules.block_bits) bits) ≡ 0)
-        ⊎ ((count : ℕ) × (length (drop (m.found.place + 32 + s.rules.block_bits) bits)
-        ≡ count * (32 + s.rules.block_bits) + 32)
-        × (match_of s.rules (drop (m.found.place + 32 + s.rules.block_bits) bits) ≡ Some m.found.inverted)
-        × (are_verified s.rules m.found.inverted count (drop (m.found.place + 32 + s.rules.block_bits) bits) ≡ true))
+        → IsRunAfter s bits m
     go size (inl few) = inl (omega arith)
     go size (inr (zero, count, held)) = inl (omega arith)
     go size (inr (suc more, count, held)) =
@@ -996,13 +995,7 @@ reported-of s room bits found h m was pending =
         (drop (m.found.place + 32 + s.rules.block_bits) bits)
     rest-of s bits m left = go left.run
       where
-        go : (length (drop (m.found.place + 32 + s.rules.block_bits) bits) ≡ 0)
-            ⊎ ((count : ℕ) × (length (drop (m.found.place + 32 + s.rules.block_bits) bits)
-            ≡ count * (32 + s.rules.block_bits) + 32)
-            × (match_of s.rules (drop (m.found.place + 32 + s.rules.block_bits) bits) ≡ Some m.found.inverted)
-            × (are_verified s.rules m.found.inverted count (drop (m.found.place + 32 + s.rules.block_bits) bits)
-            ≡ true))
-            → Rest s.rules (m.found.place + 32 + s.rules.block_bits) m.next
+        go : IsRunAfter s bits m → Rest s.rules (m.found.place + 32 + s.rules.block_bits) m.next
             (drop (m.found.place + 32 + s.rules.block_bits) bits)
         go (inl empty) =
             rest-short s.rules (m.found.place + 32 + s.rules.block_bits) m.next
@@ -1131,12 +1124,7 @@ reported_last s s' room m pending t short free fresh bits found stood =
     empty left = go left.size left.run
       where
         go : length (drop (m.found.place + 32 + s.rules.block_bits) bits) ≡ s.after - s.rules.block_bits
-            → (length (drop (m.found.place + 32 + s.rules.block_bits) bits) ≡ 0)
-            ⊎ ((count : ℕ) × (length (drop (m.found.place + 32 + s.rules.block_bits) bits)
-            ≡ count * (32 + s.rules.block_bits) + 32)
-            × (match_of s.rules (drop (m.found.place + 32 + s.rules.block_bits) bits) ≡ Some m.found.inverted)
-            × (are_verified s.rules m.found.inverted count (drop (m.found.place + 32 + s.rules.block_bits) bits)
-            ≡ true))
+            → IsRunAfter s bits m
             → length (drop (m.found.place + 32 + s.rules.block_bits) bits) ≡ 0
         go size (inl none_left) = none_left
         go size (inr (count, size', match, held)) = absurd (omega arith)
@@ -1199,11 +1187,7 @@ reported_next s s' room m a received pending t most long awaits after bits found
   where
     go : Parts s room bits found → Reported s bits found m → length
         (drop (m.found.place + 32 + s.rules.block_bits) bits) ≡ s.after - s.rules.block_bits
-        → (length (drop (m.found.place + 32 + s.rules.block_bits) bits) ≡ 0)
-        ⊎ ((count : ℕ) × (length (drop (m.found.place + 32 + s.rules.block_bits) bits)
-        ≡ count * (32 + s.rules.block_bits) + 32)
-        × (match_of s.rules (drop (m.found.place + 32 + s.rules.block_bits) bits) ≡ Some m.found.inverted)
-        × (are_verified s.rules m.found.inverted count (drop (m.found.place + 32 + s.rules.block_bits) bits) ≡ true))
+        → IsRunAfter s bits m
         → Gives s s' room bits found m.found
     go h reported size (inl none_left) = absurd (omega arith)
     go h reported size (inr (count, size', match, held)) =

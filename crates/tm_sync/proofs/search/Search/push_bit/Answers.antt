@@ -1,21 +1,30 @@
-use Rattle.std.proofs.Common.{◌≡◌, ◌≤◌, ◌+◌, ◌∙◌, ◌<◌, ◌^◌, ◌%◌, sym, refl, ap, arith}
+use Rattle.std.proofs.Common.{◌≡◌, ◌≤◌, ◌+◌, ◌∙◌, ◌<◌, ◌^◌, ◌%◌, sym, refl, ap, arith, Bool, List}
 use Rattle.tm_base.specs.Bits.{number_of}
+use Rattle.tm_sync.specs.declared.found.Found.{Found}
 use Rattle.tm_sync.specs.Places.{match_of}
-use Rattle.tm_sync.specs.Searching.{Searching}
+use Rattle.tm_sync.specs.Searching.{Searching, SearchStandsFor, Remembers}
 use Rattle.tm_sync.proofs.Recent.{top-bit}
 use Rattle.tm_sync.proofs.Given.{counts, grows, start-there, push_far}
+use Rattle.tm_sync.proofs.search.Search.push_bit.Goals.{After-remember}
 use Rattle.tm_sync.proofs.search.Search.push_bit.Goals as goal
+
+-- what the room holds when it was given the bit
+held : (c : After-remember) (bits : List Bool) (found : List Found)
+    → SearchStandsFor c.args.self.now c.args.room.now bits found
+    → Remembers c.args.room.now c.remember.new.room bits c.args.bit
+held c bits found h =
+    let s = c.args.self.now in
+    let pushed : c.self.inside.pushed ≡ s.pushed = ap (λ (v : Searching). v.pushed) c.self.view_is in
+    let received : c.self.inside.received ≡ number_of bits % 2 ^ 32 =
+    ap (λ (v : Searching). v.received) (c.self.view_is ∙ h.search) in
+    c.remember.ensures.remembers bits c.args.bit (pushed ∙ (start-there s c.args.room.now bits found h).0)
+    (λ long. top-bit c.self.inside.received bits received long)
 
 pub returns-then-is_far-clause-stands : goal.returns-then-is_far-clause-stands
 returns-then-is_far-clause-stands c = λ bits found few h.
     let s = c.args.self.now in
-    let there = start-there s c.args.room.now bits found h in
-    let small : s.pushed < 2 ^ 63 = omega (arith, there.0) in
-    let pushed : c.self.inside.pushed ≡ s.pushed = ap (λ (v : Searching). v.pushed) c.self.view_is in
-    let received : c.self.inside.received ≡ number_of bits % 2 ^ 32 =
-    ap (λ (v : Searching). v.received) (c.self.view_is ∙ h.search) in
-    let kept = c.remember.ensures.remembers bits c.args.bit (pushed ∙ there.0)
-    (λ long. top-bit c.self.inside.received bits received long) in
+    let small : s.pushed < 2 ^ 63 = omega (arith, (start-there s c.args.room.now bits found h).0) in
+    let kept = held (goal.at.returns-then-is_far-clause-stands c).After-remember bits found h in
     let far = c.is_far.ensures c.if-is_far.true in
     let free = c.self.invariant.3 far.0 in
     let start : c.self.inside.start + 32 ≤ c.self.inside.pushed = free.2 in
@@ -30,12 +39,7 @@ returns-then-is_far-clause-stands c = λ bits found few h.
 pub returns-clause-stands : goal.returns-clause-stands
 returns-clause-stands c = λ bits found few h.
     let s = c.args.self.now in
-    let there = start-there s c.args.room.now bits found h in
-    let small : s.pushed < 2 ^ 63 = omega (arith, there.0) in
-    let pushed : c.self.inside.pushed ≡ s.pushed = ap (λ (v : Searching). v.pushed) c.self.view_is in
-    let received : c.self.inside.received ≡ number_of bits % 2 ^ 32 =
-    ap (λ (v : Searching). v.received) (c.self.view_is ∙ h.search) in
-    let kept = c.remember.ensures.remembers bits c.args.bit (pushed ∙ there.0)
-    (λ long. top-bit c.self.inside.received bits received long) in
+    let small : s.pushed < 2 ^ 63 = omega (arith, (start-there s c.args.room.now bits found h).0) in
+    let kept = held (goal.at.returns-clause-stands c).After-remember bits found h in
     c.look_closer.ensures.stands s c.args.room.now c.args.bit bits found few
     (counts s _ _ c.args.bit _ c.self.view_is c.from.ensures small refl refl refl refl refl refl refl) kept h
