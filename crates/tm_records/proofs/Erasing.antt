@@ -1,11 +1,10 @@
 -- The lines of records, batch by batch, and how `erased` ends.
-use Rattle.std.proofs.Common.{◌≡◌, inl, inr, ℕ, zero, suc, ◌+◌, ◌-◌, ◌*◌, ◌/◌, ◌%◌, ◌<◌, ◌≤◌, ◌==◌, ◌||◌, Bool, true, false, List, [], ◌∷◌, ◌++◌, length, map, take, drop, Option, Some, refl, sym, ap, ◌∙◌, subst, arith, append_assoc, take-append-drop, length-append}
+use Rattle.std.proofs.Common.{◌≡◌, inl, inr, ℕ, zero, suc, ◌+◌, ◌*◌, ◌/◌, ◌%◌, ◌<◌, ◌≤◌, ◌==◌, ◌||◌, Bool, true, false, List, [], ◌∷◌, ◌++◌, length, map, take, drop, Option, Some, refl, sym, ap, ◌∙◌, subst, arith, append_assoc, take-append-drop, length-append}
 use Rattle.std.specs.Prelude.{slice_get, if◌then◌else◌}
 use Rattle.std.specs.List.{list_any}
-use Rattle.std.proofs.Math.Seq.{take-add}
 use Rattle.std.proofs.lemmas.Bool.Decides.{nat_tests}
 use Rattle.std.proofs.lemmas.Grind.{flat_map-append}
-use Rattle.std.proofs.lemmas.List.{append-nil, drop_at, take_rest}
+use Rattle.std.proofs.lemmas.List.{append-nil, drop_at}
 use Rattle.std.proofs.lemmas.List.Folds.{list_any-append}
 use Rattle.std.proofs.lemmas.Nat.{div-add-mod', div-mul-add, mod-mul-add, mod_below, div_below, le-div}
 use Rattle.tm_base.specs.Written.{Wrote, WrotePrefix}
@@ -234,19 +233,6 @@ broke-longer c start now octets more b = record {
   few = omega (arith, b.few, length-append octets more);
   wrote = b.wrote;
 }
-
--- the octets of one piece more
-pub piece-more : (given piece : List ℕ) (at count : ℕ)
-    → (given ++ take at piece) ++ take count (take (length piece - at) (drop at piece)) ≡ given ++ take (at + count)
-    piece
-piece-more given piece at count =
-    append_assoc given (take at piece) (take count (take (length piece - at) (drop at piece)))
-    ∙ ap (λ l. given ++ l) (ap (λ l. take at piece ++ take count l) (take_rest piece at)
-    ∙ sym (take-add at count piece))
-
-pub piece-all : (given piece : List ℕ) (count : ℕ) → (given ++ take count piece) ++ drop count piece ≡ given ++ piece
-piece-all given piece count = append_assoc given (take count piece) (drop count piece)
-    ∙ ap (λ l. given ++ l) (take-append-drop count piece)
 
 -- nothing was taken yet
 pub holds-none : (c : Coding) (workers : ℕ) (batch : Batch) (start : Option (List ℕ))

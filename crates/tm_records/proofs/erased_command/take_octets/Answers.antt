@@ -2,7 +2,8 @@ use Rattle.std.proofs.Common.{◌∙◌, ◌+◌, ◌-◌, ◌++◌, length, tak
 use Rattle.std.proofs.lemmas.Grind.{common_steps}
 use Rattle.tm_records.specs.Erasing.{Holds, Broke}
 use Rattle.tm_driver.proofs.Results.{on_err-all}
-use Rattle.tm_records.proofs.Erasing.{held-more, broke-longer, piece-more, piece-all}
+use Rattle.tm_driver.proofs.Pieces.{piece-more, piece-all}
+use Rattle.tm_records.proofs.Erasing.{held-more, broke-longer}
 use Rattle.tm_records.proofs.erased_command.take_octets.Goals as goal
 
 pub loop-at-preserved : goal.loop-at-preserved
