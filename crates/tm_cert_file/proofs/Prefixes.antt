@@ -1,5 +1,5 @@
 -- What octets hold of a window is what a prefix of them holds that is long enough.
-use Rattle.std.proofs.Common.{◌≡◌, ℕ, zero, suc, ◌+◌, ◌*◌, ◌≤◌, List, ◌∷◌, ◌++◌, length, take, drop, get_or, refl, ap, ◌∙◌, arith}
+use Rattle.std.proofs.Common.{◌≡◌, ℕ, zero, suc, ◌+◌, ◌*◌, ◌≤◌, List, ◌∷◌, ◌++◌, length, take, drop, refl, ap, ◌∙◌, arith}
 use Rattle.std.proofs.lemmas.List.{get_or_append_left, drop-append-le, take-append-le, length-drop}
 use Rattle.std.specs.Int.{w32, w64, from_be_bytes}
 use Rattle.tm_conv.specs.declared.rates.Rate.{Rate}
@@ -8,23 +8,27 @@ use Rattle.tm_cert_file.specs.Window.{steps_in, kept_in, start_in, metric_in, bi
 
 pub from_be_bytes_4-prefix : (xs ys : List ℕ) → 4 ≤ length xs → from_be_bytes w32 (xs ++ ys) ≡ from_be_bytes w32 xs
 from_be_bytes_4-prefix xs ys long =
-    let a : get_or (xs ++ ys) 0 0 ≡ get_or xs 0 0 = get_or_append_left xs ys 0 0 (omega arith) in
-    let b : get_or (xs ++ ys) 1 0 ≡ get_or xs 1 0 = get_or_append_left xs ys 0 1 (omega arith) in
-    let c : get_or (xs ++ ys) 2 0 ≡ get_or xs 2 0 = get_or_append_left xs ys 0 2 (omega arith) in
-    let d : get_or (xs ++ ys) 3 0 ≡ get_or xs 3 0 = get_or_append_left xs ys 0 3 (omega arith) in
-    omega arith
+    omega (
+      arith,
+      get_or_append_left xs ys 0 0 (omega arith),
+      get_or_append_left xs ys 0 1 (omega arith),
+      get_or_append_left xs ys 0 2 (omega arith),
+      get_or_append_left xs ys 0 3 (omega arith),
+    )
 
 pub from_be_bytes_8-prefix : (xs ys : List ℕ) → 8 ≤ length xs → from_be_bytes w64 (xs ++ ys) ≡ from_be_bytes w64 xs
 from_be_bytes_8-prefix xs ys long =
-    let a : get_or (xs ++ ys) 0 0 ≡ get_or xs 0 0 = get_or_append_left xs ys 0 0 (omega arith) in
-    let b : get_or (xs ++ ys) 1 0 ≡ get_or xs 1 0 = get_or_append_left xs ys 0 1 (omega arith) in
-    let c : get_or (xs ++ ys) 2 0 ≡ get_or xs 2 0 = get_or_append_left xs ys 0 2 (omega arith) in
-    let d : get_or (xs ++ ys) 3 0 ≡ get_or xs 3 0 = get_or_append_left xs ys 0 3 (omega arith) in
-    let e : get_or (xs ++ ys) 4 0 ≡ get_or xs 4 0 = get_or_append_left xs ys 0 4 (omega arith) in
-    let f : get_or (xs ++ ys) 5 0 ≡ get_or xs 5 0 = get_or_append_left xs ys 0 5 (omega arith) in
-    let g : get_or (xs ++ ys) 6 0 ≡ get_or xs 6 0 = get_or_append_left xs ys 0 6 (omega arith) in
-    let h : get_or (xs ++ ys) 7 0 ≡ get_or xs 7 0 = get_or_append_left xs ys 0 7 (omega arith) in
-    omega arith
+    omega (
+      arith,
+      get_or_append_left xs ys 0 0 (omega arith),
+      get_or_append_left xs ys 0 1 (omega arith),
+      get_or_append_left xs ys 0 2 (omega arith),
+      get_or_append_left xs ys 0 3 (omega arith),
+      get_or_append_left xs ys 0 4 (omega arith),
+      get_or_append_left xs ys 0 5 (omega arith),
+      get_or_append_left xs ys 0 6 (omega arith),
+      get_or_append_left xs ys 0 7 (omega arith),
+    )
 
 pub steps_in-prefix : (xs ys : List ℕ) → 17 ≤ length xs → steps_in (xs ++ ys) ≡ steps_in xs
 steps_in-prefix xs ys long = from_be_bytes_4-prefix xs ys (omega arith)
