@@ -200,22 +200,22 @@ cut-push exists rate invert starts t steps all count octets column taken middle 
 -- ---- the sums that give the columns
 
 -- a column of sums that began like this
-pub column-of : (rate rate' : Rate) (invert invert' : Bool) (starts starts' : Option ℕ) (t t' : ℕ)
-    (octets column : List ℕ)
+pub column-of : {rate rate' : Rate} {invert invert' : Bool} {starts starts' : Option ℕ} {t t' : ℕ}
+    {octets column : List ℕ}
     → rate' ≡ rate → invert' ≡ invert → starts' ≡ starts → t' ≡ t
     → IsColumn (starts_from starts') rate' invert' t' octets column
     → IsColumn (starts_from starts) rate invert t octets column
-column-of rate rate' invert invert' starts starts' t t' octets column er ei es et is =
+column-of {rate} {rate'} {invert} {invert'} {starts} {starts'} {t} {t'} {octets} {column} er ei es et is =
     subst (λ v. IsColumn (starts_from starts) rate invert v octets column) et
     (subst (λ (v : Option ℕ). IsColumn (starts_from v) rate invert t' octets column) es
     (subst (λ (v : Bool). IsColumn (starts_from starts') rate v t' octets column) ei
     (subst (λ (v : Rate). IsColumn (starts_from starts') v invert' t' octets column) er is)))
 
 -- the octets of the steps before, and of the next step
-pub octets-next : (rate : Rate) (t here steps at count : ℕ) (octets : List ℕ) → at ≡ steps_size rate t steps
+pub octets-next : {here at count : ℕ} (rate : Rate) (t steps : ℕ) (octets : List ℕ) → at ≡ steps_size rate t steps
     → here ≡ t + steps → count ≡ step_size rate here
     → take at octets ++ take (at + count - at) (drop at octets) ≡ take (steps_size rate t (steps + 1)) octets
-octets-next rate t here steps at count octets place there size =
+octets-next {here} {at} {count} rate t steps octets place there size =
     let next : count ≡ step_size rate (t + steps) = size ∙ ap (step_size rate) there in
     let end : at + count ≡ steps_size rate t (steps + 1) = omega (arith, place, next, steps_size-more rate t steps) in
     let same : at + count - at ≡ count = omega arith in

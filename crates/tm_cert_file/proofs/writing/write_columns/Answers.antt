@@ -1,10 +1,8 @@
 use Rattle.std.proofs.Common.{rules, [], ◌≡◌, ◌+◌, ◌<◌, ◌≤◌, ◌∙◌, sym, ap, subst, arith, length, take}
 use Rattle.std.specs.Io.KnownBytes.{append_known}
 use Rattle.tm_conv.specs.Path.{steps_size, step_size}
-use Rattle.tm_conv.specs.Columns.{IsColumn}
 use Rattle.tm_conv.proofs.Sizes.{step_size_pos, same_from_steps_size}
 use Rattle.tm_conv.proofs.Paths.{steps_size-zero, steps_size-more}
-use Rattle.tm_viterbi.specs.Starts.{starts_from}
 use Rattle.tm_viterbi.specs.Summing.{SumsFor}
 use Rattle.tm_cert_file.proofs.Spans.{steps_below, step_fits}
 use Rattle.tm_cert_file.proofs.WrittenPrefixes.{on_err-all}
@@ -14,10 +12,8 @@ use Rattle.tm_cert_file.proofs.writing.write_columns.Goals as goal
 pub loop-at-init : goal.loop-at-init
 loop-at-init g c =
     let none : c.new-sums.result.steps ≡ 0 = c.new-sums.ensures.began.4 in
-    let is : IsColumn (starts_from c.args.start) c.args.rate c.args.invert c.args.first [] c.column.result.now =
-    column-of c.args.rate _ c.args.invert _ c.args.start _ c.args.first _ [] c.column.result.now
-    c.new-sums.ensures.began.0 c.new-sums.ensures.began.1 c.new-sums.ensures.began.3 c.new-sums.ensures.began.2
-    (c.column.ensures.least [] c.new-sums.ensures.stands) in
+    let is = column-of c.new-sums.ensures.began.0 c.new-sums.ensures.began.1 c.new-sums.ensures.began.3
+    c.new-sums.ensures.began.2 (c.column.ensures.least [] c.new-sums.ensures.stands) in
     let wrote = c.in_ok-put_all.ensures.ok ∙ ap (append_known (g.O.Sink.taken c.args.out.now)) c.column_octets.ensures
     in
     record {
@@ -41,10 +37,8 @@ loop-at-init g c =
 
 pub returns-in_err-put_all-clause-err : goal.returns-in_err-put_all-clause-err
 returns-in_err-put_all-clause-err g c =
-    let is : IsColumn (starts_from c.args.start) c.args.rate c.args.invert c.args.first [] c.column.result.now =
-    column-of c.args.rate _ c.args.invert _ c.args.start _ c.args.first _ [] c.column.result.now
-    c.new-sums.ensures.began.0 c.new-sums.ensures.began.1 c.new-sums.ensures.began.3 c.new-sums.ensures.began.2
-    (c.column.ensures.least [] c.new-sums.ensures.stands) in
+    let is = column-of c.new-sums.ensures.began.0 c.new-sums.ensures.began.1 c.new-sums.ensures.began.3
+    c.new-sums.ensures.began.2 (c.column.ensures.least [] c.new-sums.ensures.stands) in
     let broke = c.in_err-put_all.ensures.err in
     on_err-all c.from_residual.result (λ steps size.
     cut-first c.columns_law.ensures.exists c.args.rate c.args.invert c.args.start c.args.first steps broke.0
@@ -82,23 +76,16 @@ returns-in_err-put_all-2-clause-err g c =
     let here = c.loop-at in
     let began = here.invariant.began in
     let now = c.step.ensures.began in
-    let place : here.at ≡ steps_size c.args.rate c.args.first here.sums.steps = here.invariant.at in
-    let stands : SumsFor c.step.new.self (take (steps_size c.args.rate c.args.first (here.sums.steps + 1))
-    c.args.octets.now) =
-    subst (SumsFor c.step.new.self) (octets-next c.args.rate c.args.first here.t here.sums.steps here.at
-    c.step_len.result c.args.octets.now place here.invariant.t c.step_len.ensures)
-    (c.step.ensures.stands (take here.at c.args.octets.now) here.invariant.stands) in
-    let is : IsColumn (starts_from c.args.start) c.args.rate c.args.invert c.args.first
-    (take (steps_size c.args.rate c.args.first (here.sums.steps + 1)) c.args.octets.now)
-    c.column-in-loop-at.result.now =
-    column-of c.args.rate _ c.args.invert _ c.args.start _ c.args.first _ _ c.column-in-loop-at.result.now
-    (now.0 ∙ began.0) (now.1 ∙ began.1) (now.3 ∙ began.3) (now.2 ∙ began.2)
+    let stands = subst (SumsFor c.step.new.self)
+    (octets-next c.args.rate c.args.first here.sums.steps c.args.octets.now here.invariant.at here.invariant.t
+    c.step_len.ensures) (c.step.ensures.stands (take here.at c.args.octets.now) here.invariant.stands) in
+    let is = column-of (now.0 ∙ began.0) (now.1 ∙ began.1) (now.3 ∙ began.3) (now.2 ∙ began.2)
     (c.column-in-loop-at.ensures.least _ stands) in
     let broke = c.in_err-put_all-2.ensures.err in
     on_err-all c.from_residual-in_err-put_all-2.result (λ steps size.
     cut-push c.columns_law.ensures.exists c.args.rate c.args.invert c.args.start c.args.first here.sums.steps steps
     broke.0 c.args.octets.now c.column-in-loop-at.result.now _ _ _
-    (steps_below c.args.rate c.args.first here.sums.steps steps (omega (arith, place, size, c.loop-at-test.true)))
+    (steps_below c.args.rate c.args.first here.sums.steps steps (omega (arith, here.invariant.at, size, c.loop-at-test.true)))
     (omega (arith, size)) here.invariant.took is
     (omega (arith, broke.1, ap length c.column_octets-in-loop-at.ensures))
     (broke.2 ∙ ap (λ v. append_known (g.O.Sink.taken here.out) (take broke.0 v))
@@ -116,17 +103,10 @@ loop-at-preserved g c =
     let here = c.loop-at in
     let began = here.invariant.began in
     let now = c.step.ensures.began in
-    let place : here.at ≡ steps_size c.args.rate c.args.first here.sums.steps = here.invariant.at in
-    let stands : SumsFor c.step.new.self (take (steps_size c.args.rate c.args.first (here.sums.steps + 1))
-    c.args.octets.now) =
-    subst (SumsFor c.step.new.self) (octets-next c.args.rate c.args.first here.t here.sums.steps here.at
-    c.step_len.result c.args.octets.now place here.invariant.t c.step_len.ensures)
-    (c.step.ensures.stands (take here.at c.args.octets.now) here.invariant.stands) in
-    let is : IsColumn (starts_from c.args.start) c.args.rate c.args.invert c.args.first
-    (take (steps_size c.args.rate c.args.first (here.sums.steps + 1)) c.args.octets.now)
-    c.column-in-loop-at.result.now =
-    column-of c.args.rate _ c.args.invert _ c.args.start _ c.args.first _ _ c.column-in-loop-at.result.now
-    (now.0 ∙ began.0) (now.1 ∙ began.1) (now.3 ∙ began.3) (now.2 ∙ began.2)
+    let stands = subst (SumsFor c.step.new.self)
+    (octets-next c.args.rate c.args.first here.sums.steps c.args.octets.now here.invariant.at here.invariant.t
+    c.step_len.ensures) (c.step.ensures.stands (take here.at c.args.octets.now) here.invariant.stands) in
+    let is = column-of (now.0 ∙ began.0) (now.1 ∙ began.1) (now.3 ∙ began.3) (now.2 ∙ began.2)
     (c.column-in-loop-at.ensures.least _ stands) in
     let count : c.step.new.self.steps ≡ here.sums.steps + 1 = c.step.ensures.steps in
     let wrote = c.in_ok-put_all-2.ensures.ok ∙ ap (append_known (g.O.Sink.taken here.out))
@@ -135,9 +115,9 @@ loop-at-preserved g c =
     ∙ ap (step_size c.args.rate) here.invariant.t in
     let few : here.sums.steps < c.requires.steps.0 =
     steps_below c.args.rate c.args.first here.sums.steps c.requires.steps.0
-    (omega (arith, place, c.requires.steps.2, c.loop-at-test.true)) in
+    (omega (arith, here.invariant.at, c.requires.steps.2, c.loop-at-test.true)) in
     let end : here.at + c.step_len.result ≡ steps_size c.args.rate c.args.first (here.sums.steps + 1) =
-    omega (arith, place, size, steps_size-more c.args.rate c.args.first here.sums.steps) in
+    omega (arith, here.invariant.at, size, steps_size-more c.args.rate c.args.first here.sums.steps) in
     record {
       at = end ∙ ap (steps_size c.args.rate c.args.first) (sym count);
       within =
@@ -145,7 +125,7 @@ loop-at-preserved g c =
             arith,
             step_fits c.args.rate c.args.first here.sums.steps c.requires.steps.0 few,
             size,
-            place,
+            here.invariant.at,
             c.requires.steps.2,
           );
       t = omega (arith, count, here.invariant.t);
