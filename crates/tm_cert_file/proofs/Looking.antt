@@ -17,7 +17,7 @@ use Rattle.tm_cert_file.specs.Before.{Rules, Before}
 use Rattle.tm_cert_file.specs.Seen.{reason_in, is_due, is_over, has_shape, are_bits, IsSeen, IsJudged, seen_by}
 use Rattle.tm_cert_file.specs.Reading.{Reading, HasPassed}
 use Rattle.tm_cert_file.proofs.Prefixes.{steps_in-prefix}
-use Rattle.tm_cert_file.proofs.Stages.{shape_of, joined_of, Holds, Holds-from_none, none-from_Holds, Holds-more, HeldBefore}
+use Rattle.tm_cert_file.proofs.Stages.{shape_of, joined_of, Holds, Holds-from_none, none-from_Holds, IsReached, Holds-more, HeldBefore}
 
 -- ---- the numbers of a window
 
@@ -76,10 +76,8 @@ none_there rules before octets none over = by (cases_lt 0 (length octets))
 -- nothing is seen until the next stage
 pub open-more : (rules : Rules) (before : Before) (xs ys : List ℕ) → IsSeen rules before xs More
     → is_over before.next ≡ false
-    → (17 ≤ length xs + length ys → 17 ≤ length xs)
-    → (17 ≤ length xs → bits_end (steps_in xs) ≤ length xs + length ys → bits_end (steps_in xs) ≤ length xs)
-    → (17 ≤ length xs → soft_end rules.rate before.t (steps_in xs) ≤ length xs + length ys
-    → soft_end rules.rate before.t (steps_in xs) ≤ length xs)
+    → IsReached 17 xs ys → (17 ≤ length xs → IsReached (bits_end (steps_in xs)) xs ys)
+    → (17 ≤ length xs → IsReached (soft_end rules.rate before.t (steps_in xs)) xs ys)
     → (17 ≤ length xs → length xs + length ys < window_size rules.rate before.t (steps_in xs))
     → IsSeen rules before (xs ++ ys) More
 open-more rules before xs ys seen due header bits soft size = (

@@ -200,13 +200,15 @@ joined_of-prefix rules before xs ys long =
     let soft = soft_in-prefix rules.rate before.t xs ys long in
     λ i. is_joined before (start i) (soft i)
 
+-- octets reach as far as this if they do with more of them
+abbrev pub IsReached : ℕ → List ℕ → List ℕ → Type 0
+IsReached end xs ys = end ≤ length xs + length ys → end ≤ length xs
+
 -- with more octets, of which none is the last of a stage
 pub Holds-more : (rules : Rules) (before : Before) (xs ys : List ℕ) → Holds rules before xs
     → (0 < length xs + length ys → is_over before.next ≡ false)
-    → (17 ≤ length xs + length ys → 17 ≤ length xs)
-    → (17 ≤ length xs → bits_end (steps_in xs) ≤ length xs + length ys → bits_end (steps_in xs) ≤ length xs)
-    → (17 ≤ length xs → soft_end rules.rate before.t (steps_in xs) ≤ length xs + length ys
-    → soft_end rules.rate before.t (steps_in xs) ≤ length xs)
+    → IsReached 17 xs ys → (17 ≤ length xs → IsReached (bits_end (steps_in xs)) xs ys)
+    → (17 ≤ length xs → IsReached (soft_end rules.rate before.t (steps_in xs)) xs ys)
     → Holds rules before (xs ++ ys)
 Holds-more rules before xs ys holds due header bits soft =
     let long : length (xs ++ ys) ≡ length xs + length ys = length-append xs ys in
