@@ -104,6 +104,15 @@ seen_none rules before octets none = subst (λ (v : List ℕ). IsSeen rules befo
 
 -- ---- at a stage, and between two
 
+-- once the soft octets are there, the tests before theirs hold
+pub held-at_soft : {rules : Rules} {before : Before} {octets : List ℕ} → HeldBefore rules before octets
+    → 17 < length octets → length octets ≡ soft_end rules.rate before.t (steps_in octets)
+    → (shape_of rules before octets ≡ true) × (are_bits (bits_in octets) ≡ true)
+held-at_soft {rules} {before} {octets} held after end =
+    let shape = held.shape after in
+    let some = (Shaped-from_shape rules before octets shape).some in
+    (shape, held.bits (omega (arith, end, some, steps_size_ge rules.rate before.t (steps_in octets))))
+
 module _ (rules : Rules) (before : Before) (octets : List ℕ) (due : is_over before.next ≡ false) where
   pub seen_header : length octets < 17 → IsSeen rules before octets More
   seen_header few = (

@@ -5,13 +5,13 @@ use Rattle.std.specs.Int.{w32, w64, from_be_bytes}
 use Rattle.std.specs.List.{starts_with}
 use Rattle.std.specs.Prelude.{nat_eq}
 use Rattle.tm_conv.specs.Path.{AreBits, steps_size}
-use Rattle.tm_conv.proofs.Sizes.{steps_size_ge, steps_size-most}
+use Rattle.tm_conv.proofs.Sizes.{steps_size-most}
 use Rattle.tm_path_cert.specs.Claim.{is_start}
 use Rattle.tm_cert_file.specs.Window.{steps_in, kept_in, start_in, metric_in, bits_in, soft_in, columns_in, soft_end, window_size}
 use Rattle.tm_cert_file.specs.Seen.{is_over, has_shape, are_bits, is_joined, IsSeen, IsJudged}
 use Rattle.tm_cert_file.proofs.Spans.{same_size}
 use Rattle.tm_cert_file.proofs.Stages.{shape_of, joined_of, HeldBefore, HeldBefore-from_open, reason-over, reason-shape, reason-bits, reason-joint}
-use Rattle.tm_cert_file.proofs.Looking.{Shaped-from_shape, seen_header, seen_shape, seen_bits, seen_soft, seen_between, same_part, same_verdict, seen-by_verdict, AreBits-from_are_bits}
+use Rattle.tm_cert_file.proofs.Looking.{Shaped-from_shape, seen_header, seen_shape, seen_bits, seen_soft, seen_between, held-at_soft, same_part, same_verdict, seen-by_verdict, AreBits-from_are_bits}
 use Rattle.tm_cert_file.proofs.reader.Reader.look.Goals as goal
 use Rattle.tm_cert_file.proofs.reader.Reader.look.Goals.{After-read_u32-steps, After-has_shape-is_right, After-are_bits-is_right, After-span, After-is_joined-is_right, After-read_u64}
 
@@ -110,42 +110,43 @@ module _ (c : After-read_u64) (read : c.as_slice-held.result.now ≡ c.args.self
       (steps_in c.args.self.now.octets)
   place = omega (arith, steps_are, size)
 
-  its_bits : take (17 + c.read_u32-steps.result - 17) (drop 17 c.as_slice-held.result.now)
-      ≡ bits_in c.args.self.now.octets
-  its_bits =
-      same_part c.as_slice-held.result.now c.args.self.now.octets 17 17 (17 + c.read_u32-steps.result - 17)
-      (steps_in c.args.self.now.octets) read refl (omega (arith, steps_are))
+  -- what was read of it, as it is in the octets
+  record ItsParts : Type 0 where
+    end : length c.args.self.now.octets ≡ window_size c.args.self.now.rules.rate c.args.self.now.before.t
+        (steps_in c.args.self.now.octets)
+    bits : take (17 + c.read_u32-steps.result - 17) (drop 17 c.as_slice-held.result.now)
+        ≡ bits_in c.args.self.now.octets
+    soft : take (17 + c.read_u32-steps.result + c.span.result - (17 + c.read_u32-steps.result))
+        (drop (17 + c.read_u32-steps.result) c.as_slice-held.result.now)
+        ≡ soft_in c.args.self.now.rules.rate c.args.self.now.before.t c.args.self.now.octets
+    columns : take (length c.as_slice-held.result.now - (17 + c.read_u32-steps.result + c.span.result))
+        (drop (17 + c.read_u32-steps.result + c.span.result) c.as_slice-held.result.now)
+        ≡ drop (soft_end c.args.self.now.rules.rate c.args.self.now.before.t (steps_in c.args.self.now.octets))
+        c.args.self.now.octets
+    count : length (bits_in c.args.self.now.octets) ≡ steps_in c.args.self.now.octets
 
-  its_soft : take (17 + c.read_u32-steps.result + c.span.result - (17 + c.read_u32-steps.result))
-      (drop (17 + c.read_u32-steps.result) c.as_slice-held.result.now)
-      ≡ soft_in c.args.self.now.rules.rate c.args.self.now.before.t c.args.self.now.octets
-  its_soft =
-      same_part c.as_slice-held.result.now c.args.self.now.octets (17 + c.read_u32-steps.result)
-      (17 + steps_in c.args.self.now.octets)
-      (17 + c.read_u32-steps.result + c.span.result - (17 + c.read_u32-steps.result))
-      (steps_size c.args.self.now.rules.rate c.args.self.now.before.t (steps_in c.args.self.now.octets)) read
-      (ap (λ v. 17 + v) steps_are) (omega (arith, size))
-
-  its_columns : take (length c.as_slice-held.result.now - (17 + c.read_u32-steps.result + c.span.result))
-      (drop (17 + c.read_u32-steps.result + c.span.result) c.as_slice-held.result.now)
-      ≡ drop (soft_end c.args.self.now.rules.rate c.args.self.now.before.t (steps_in c.args.self.now.octets))
-      c.args.self.now.octets
-  its_columns =
-      take_rest c.as_slice-held.result.now (17 + c.read_u32-steps.result + c.span.result)
-      ∙ (λ i. drop (place i) (read i))
-
-  just : HeldBefore c.args.self.now.rules c.args.self.now.before c.args.self.now.octets
-      → 17 < length c.args.self.now.octets
-      → length c.args.self.now.octets ≡ window_size c.args.self.now.rules.rate c.args.self.now.before.t
-      (steps_in c.args.self.now.octets)
-  just held_before after =
-      omega (arith, ap length read, steps_are, size, c.if-held-soft_end-2.false, held_before.size after)
-
-  bits_long : length c.args.self.now.octets ≡ window_size c.args.self.now.rules.rate c.args.self.now.before.t
-      (steps_in c.args.self.now.octets) → length (bits_in c.args.self.now.octets) ≡ steps_in c.args.self.now.octets
-  bits_long end =
-      length-take-le (steps_in c.args.self.now.octets) (drop 17 c.args.self.now.octets)
-      (omega (arith, end, length-drop 17 c.args.self.now.octets))
+  its_parts : HeldBefore c.args.self.now.rules c.args.self.now.before c.args.self.now.octets
+      → 17 < length c.args.self.now.octets → ItsParts
+  its_parts held_before after =
+      let octets = c.args.self.now.octets in
+      let end : length octets ≡ window_size c.args.self.now.rules.rate c.args.self.now.before.t (steps_in octets) =
+      omega (arith, ap length read, steps_are, size, c.if-held-soft_end-2.false, held_before.size after) in
+      record {
+        end = end;
+        bits =
+            same_part c.as_slice-held.result.now octets 17 17 (17 + c.read_u32-steps.result - 17) (steps_in octets) read
+            refl (omega (arith, steps_are));
+        soft =
+            same_part c.as_slice-held.result.now octets (17 + c.read_u32-steps.result) (17 + steps_in octets)
+            (17 + c.read_u32-steps.result + c.span.result - (17 + c.read_u32-steps.result))
+            (steps_size c.args.self.now.rules.rate c.args.self.now.before.t (steps_in octets)) read
+            (ap (λ v. 17 + v) steps_are) (omega (arith, size));
+        columns =
+            take_rest c.as_slice-held.result.now (17 + c.read_u32-steps.result + c.span.result)
+            ∙ (λ i. drop (place i) (read i));
+        count =
+            length-take-le (steps_in octets) (drop 17 octets) (omega (arith, end, length-drop 17 octets));
+      }
 
 -- ---- the answers
 
@@ -257,18 +258,12 @@ returns-then-is_right-3 c =
     let size = size_is (goal.at.returns-then-is_right-3 c).After-span (steps k) in
     let long = ap length (same k) in
     let after : 17 < length s.octets = omega (arith, long, c.if-held-eq-HEADER.false) in
-    let shape = (held k).shape after in
     let end : length s.octets ≡ soft_end s.rules.rate s.before.t (steps_in s.octets) =
     omega (arith, long, steps k, size, c.if-held-soft_end.true) in
-    let bits = (held k).bits (omega (
-      arith,
-      end,
-      steps_size_ge s.rules.rate s.before.t (steps_in s.octets),
-      (Shaped-from_shape s.rules s.before s.octets shape).some,
-    )) in
+    let holds = held-at_soft (held k) after end in
     let is = joint_is (goal.at.returns-then-is_right-3 c).After-is_joined-is_right (same k) (steps k) (long ∙ end) in
     record {
-      seen = seen_soft s.rules s.before s.octets (due k) end shape bits (sym is ∙ c.if-is_right-3.true);
+      seen = seen_soft s.rules s.before s.octets (due k) end holds.0 holds.1 (sym is ∙ c.if-is_right-3.true);
       just = λ e. absurd cc;
     }
 
@@ -279,18 +274,12 @@ returns-else-is_right-3 c =
     let size = size_is (goal.at.returns-else-is_right-3 c).After-span (steps k) in
     let long = ap length (same k) in
     let after : 17 < length s.octets = omega (arith, long, c.if-held-eq-HEADER.false) in
-    let shape = (held k).shape after in
     let end : length s.octets ≡ soft_end s.rules.rate s.before.t (steps_in s.octets) =
     omega (arith, long, steps k, size, c.if-held-soft_end.true) in
-    let bits = (held k).bits (omega (
-      arith,
-      end,
-      steps_size_ge s.rules.rate s.before.t (steps_in s.octets),
-      (Shaped-from_shape s.rules s.before s.octets shape).some,
-    )) in
+    let holds = held-at_soft (held k) after end in
     let is = joint_is (goal.at.returns-else-is_right-3 c).After-is_joined-is_right (same k) (steps k) (long ∙ end) in
     record {
-      seen = reason-joint s.rules s.before s.octets (due k) shape bits (omega (arith, end))
+      seen = reason-joint s.rules s.before s.octets (due k) holds.0 holds.1 (omega (arith, end))
           (sym is ∙ c.if-is_right-3.false);
       just = λ e. absurd cc;
     }
@@ -323,35 +312,30 @@ verdict_on-verdict-requires c =
     let long = ap length (same k) in
     let after : 17 < length s.octets = omega (arith, long, c.if-held-eq-HEADER.false) in
     let shape = (held k).shape after in
-    let at = (goal.at.verdict_on-verdict-requires c).After-read_u64 in
-    let end = just at (same k) (steps k) size (held k) after in
-    let its = its_bits at (same k) (steps k) size in
-    let soft = its_soft at (same k) (steps k) size in
-    let columns = its_columns at (same k) (steps k) size in
-    let count = bits_long at (same k) (steps k) size end in
+    let its = its_parts (goal.at.verdict_on-verdict-requires c).After-read_u64 (same k) (steps k) size (held k) after in
     let joined = and_parts (is_start s.before.starts (start_in s.octets))
     (starts_with nat_eq (soft_in s.rules.rate s.before.t s.octets) s.before.octets)
-    ((held k).joined (omega (arith, end))) in
+    ((held k).joined (omega (arith, its.end))) in
     let rate = ap (λ v. v.rules.rate) c.self.view_is in
     let t = ap (λ v. v.before.t) c.self.view_is in
     let starts = ap (λ v. v.before.starts) c.self.view_is in
-    let its_count = ap length its ∙ count in
+    let its_count = ap length its.bits ∙ its.count in
     record {
       few = omega (arith, its_count, few k shape, steps k);
-      bits = subst AreBits (sym its) (AreBits-from_are_bits (bits_in s.octets) ((held k).bits (omega (arith, end))));
+      bits = subst AreBits (sym its.bits) (AreBits-from_are_bits (bits_in s.octets) ((held k).bits (omega (arith, its.end))));
       first = omega (arith, c.self.invariant.2);
       starts = c.self.invariant.3;
-      soft = ap length soft
+      soft = ap length its.soft
           ∙ length-take-le (steps_size s.rules.rate s.before.t (steps_in s.octets))
           (drop (17 + steps_in s.octets) s.octets)
-          (omega (arith, end, length-drop (17 + steps_in s.octets) s.octets))
+          (omega (arith, its.end, length-drop (17 + steps_in s.octets) s.octets))
           ∙ sym (λ i. steps_size (rate i) (t i) (its_count i));
       columns =
           omega (
             arith,
-            ap length columns,
+            ap length its.columns,
             length-drop (soft_end s.rules.rate s.before.t (steps_in s.octets)) s.octets,
-            end,
+            its.end,
             its_count,
           );
       register = omega (arith, start k, (Shaped-from_shape s.rules s.before s.octets shape).register);
@@ -366,12 +350,7 @@ returns c =
     let long = ap length (same k) in
     let after : 17 < length s.octets = omega (arith, long, c.if-held-eq-HEADER.false) in
     let shape = (held k).shape after in
-    let at = (goal.at.returns c).After-read_u64 in
-    let end = just at (same k) (steps k) size (held k) after in
-    let its = its_bits at (same k) (steps k) size in
-    let soft = its_soft at (same k) (steps k) size in
-    let columns = its_columns at (same k) (steps k) size in
-    let count = bits_long at (same k) (steps k) size end in
+    let its = its_parts (goal.at.returns c).After-read_u64 (same k) (steps k) size (held k) after in
     let metric : c.read_u64.result ≡ metric_in s.octets = c.read_u64.ensures
     ∙ ap (from_be_bytes w64) (take_rest c.as_slice-held.result.now 9 ∙ ap (drop 9) (same k)) in
     let rate = ap (λ v. v.rules.rate) c.self.view_is in
@@ -380,15 +359,15 @@ returns c =
     let starts = ap (λ v. v.before.starts) c.self.view_is in
     let judged : IsJudged s.rules s.before s.octets c.verdict_on-verdict.result = record {
       right =
-          seen_between s.rules s.before s.octets (due k) (held k) after (λ e. absurd (omega (arith, e, end)))
-          (λ e. absurd (omega (arith, e, end)));
-      whole = omega (arith, end);
+          seen_between s.rules s.before s.octets (due k) (held k) after (λ e. absurd (omega (arith, e, its.end)))
+          (λ e. absurd (omega (arith, e, its.end)));
+      whole = omega (arith, its.end);
       is_verdict = same_verdict _ _ _ _ _ _ _ _ _ _ c.verdict_on-verdict.result
-          (λ i. record { rate = rate i; invert = invert i; first = t i; starts = starts i; soft = soft i })
-          ((λ i. columns_in (length (its i) + 1) (columns i))
+          (λ i. record { rate = rate i; invert = invert i; first = t i; starts = starts i; soft = its.soft i })
+          ((λ i. columns_in (length (its.bits i) + 1) (its.columns i))
           ∙ ap (λ v. columns_in (v + 1) (drop (soft_end s.rules.rate s.before.t (steps_in s.octets)) s.octets))
-          count)
-          (start k) its metric c.verdict_on-verdict.ensures;
+          its.count)
+          (start k) its.bits metric c.verdict_on-verdict.ensures;
     } in
     let seen : IsSeen s.rules s.before s.octets c.seen_by.result
     =
@@ -398,6 +377,6 @@ returns c =
       seen = seen;
       just = λ e. record {
         passed = subst (λ v. IsSeen s.rules s.before s.octets v) e seen;
-        just = end;
+        just = its.end;
       };
     }
