@@ -1,4 +1,4 @@
-use Rattle.std.proofs.Common.{rules, ◌≡◌, ◌∙◌, ◌+◌, ◌-◌, ◌*◌, ◌%◌, ◌^◌, ◌/◌, ◌≤◌, ◌++◌, length, bit_and, bit_or, ap, take, arith, refl}
+use Rattle.std.proofs.Common.{rules, ℕ, ◌≡◌, ◌∙◌, ◌+◌, ◌-◌, ◌*◌, ◌%◌, ◌^◌, ◌/◌, ◌≤◌, ◌++◌, length, bit_and, bit_or, ap, take, arith, refl}
 use Rattle.std.proofs.lemmas.Grind.{take-set_at}
 use Rattle.std.proofs.lemmas.List.{length-set, length-take-le}
 use Rattle.tm_base.specs.Bits.{bits_of, low_bits}
@@ -7,14 +7,17 @@ use Rattle.tm_path_commands.specs.Bits.{Packing}
 use Rattle.tm_path_commands.proofs.PackedBits.{add-part, add-whole, length-view}
 use Rattle.tm_path_commands.proofs.bits_command.Packer.add.Goals as goal
 
+-- the low bits of an octet after what is left of the last one, as the code joins them
+abbrev joined : (count last octet : ℕ) → ℕ
+joined count last octet = bit_or (last * 2 ^ count % 2 ^ 32) (octet % (1 * 2 ^ count % 2 ^ 32))
+
 pub returns-then-pending-lt8 : goal.returns-then-pending-lt8
 returns-then-pending-lt8 c =
     let p = c.self.inside in
     let count = c.args.bits in
     let low = low_bits count c.args.octet in
-    let value = bit_or (c.from-2.result * 2 ^ count % 2 ^ 32) (c.from.result % (1 * 2 ^ count % 2 ^ 32)) in
-    let is : value ≡ bit_or (p.last * 2 ^ count % 2 ^ 32) (c.args.octet % (1 * 2 ^ count % 2 ^ 32)) =
-    (λ i. bit_or (c.from-2.ensures i * 2 ^ count % 2 ^ 32) (c.from.ensures i % (1 * 2 ^ count % 2 ^ 32))) in
+    let value = joined count c.from-2.result c.from.result in
+    let is : value ≡ joined count p.last c.args.octet = λ i. joined count (c.from-2.ensures i) (c.from.ensures i) in
     record {
       room = ap (λ (q : Packing). q.room) c.self.view_is;
       phase = ap (λ (q : Packing). q.phase) c.self.view_is;
@@ -30,9 +33,8 @@ returns-then-self-len c =
     let p = c.self.inside in
     let count = c.args.bits in
     let low = low_bits count c.args.octet in
-    let value = bit_or (c.from-2.result * 2 ^ count % 2 ^ 32) (c.from.result % (1 * 2 ^ count % 2 ^ 32)) in
-    let is : value ≡ bit_or (p.last * 2 ^ count % 2 ^ 32) (c.args.octet % (1 * 2 ^ count % 2 ^ 32)) =
-    (λ i. bit_or (c.from-2.ensures i * 2 ^ count % 2 ^ 32) (c.from.ensures i % (1 * 2 ^ count % 2 ^ 32))) in
+    let value = joined count c.from-2.result c.from.result in
+    let is : value ≡ joined count p.last c.args.octet = λ i. joined count (c.from-2.ensures i) (c.from.ensures i) in
     let next = bit_and (value / 2 ^ (p.pending + count - 8)) 255 in
     record {
       room = length-set p.room.items p.count next ∙ ap (λ (q : Packing). q.room) c.self.view_is;
