@@ -85,7 +85,8 @@ returns-in_err-put_all-2-clause-err g c =
     on_err-all c.from_residual-in_err-put_all-2.result (λ steps size.
     cut-push c.columns_law.ensures.exists c.args.rate c.args.invert c.args.start c.args.first here.sums.steps steps
     broke.0 c.args.octets.now c.column-in-loop-at.result.now _ _ _
-    (steps_below c.args.rate c.args.first here.sums.steps steps (omega (arith, here.invariant.at, size, c.loop-at-test.true)))
+    (steps_below c.args.rate c.args.first here.sums.steps steps
+    (omega (arith, here.invariant.at, size, c.loop-at-test.true)))
     (omega (arith, size)) here.invariant.took is
     (omega (arith, broke.1, ap length c.column_octets-in-loop-at.ensures))
     (broke.2 ∙ ap (λ v. append_known (g.O.Sink.taken here.out) (take broke.0 v))

@@ -322,7 +322,8 @@ verdict_on-verdict-requires c =
     let its_count = ap length its.bits ∙ its.count in
     record {
       few = omega (arith, its_count, few k shape, steps k);
-      bits = subst AreBits (sym its.bits) (AreBits-from_are_bits (bits_in s.octets) ((held k).bits (omega (arith, its.end))));
+      bits = subst AreBits (sym its.bits)
+          (AreBits-from_are_bits (bits_in s.octets) ((held k).bits (omega (arith, its.end))));
       first = omega (arith, c.self.invariant.2);
       starts = c.self.invariant.3;
       soft = ap length its.soft
