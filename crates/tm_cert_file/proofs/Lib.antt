@@ -16,6 +16,6 @@ mod AllPass
 mod WrittenPrefixes
 mod ColumnLists
 mod WindowTexts
-mod ManyWindows
+pub mod ManyWindows
 pub mod WrittenBlocks
 pub mod Continuing

@@ -142,11 +142,16 @@ certified-one one rate invert starts t octets (block ∷ blocks) text other are 
     (drop (steps_size rate t block.kept) octets) blocks are.1 be.1 are.3 be.3 in
     are.4 ∙ ap (λ (v : List ℕ). v ++ are.1) first ∙ ap (λ (v : List ℕ). be.0 ++ v) rest ∙ sym be.4
 
-pub certified-append : (rate : Rate) (invert : Bool) (keep ahead : ℕ) (from to : Place)
-    (first rest : List WindowBlock) (text more : List ℕ)
+-- the certificate of windows after closed ones follows theirs
+abbrev pub Append : Type 0
+Append =
+    (rate : Rate) (invert : Bool) (keep ahead : ℕ) (from to : Place) (first rest : List WindowBlock)
+    (text more : List ℕ)
     → Closed rate invert keep ahead from first to → AreCertified rate invert from.starts from.t from.octets first text
     → AreCertified rate invert to.starts to.t to.octets rest more
     → AreCertified rate invert from.starts from.t from.octets (first ++ rest) (text ++ more)
+
+pub certified-append : Append
 certified-append rate invert keep ahead from to [] rest text more closed are be =
     let there = subst (λ (p : Place). AreCertified rate invert p.starts p.t p.octets rest more) (sym closed) be in
     let none : more ≡ text ++ more = ap (λ (v : List ℕ). v ++ more) (sym are) in
@@ -159,12 +164,15 @@ certified-append rate invert keep ahead from to (block ∷ first) rest text more
   ap (λ (v : List ℕ). v ++ more) are.4 ∙ append_assoc are.0 are.1 more,
 )
 
-pub certified-split : (rate : Rate) (invert : Bool) (keep ahead : ℕ) (from to : Place) (first rest : List WindowBlock)
-    (whole : List ℕ)
+abbrev pub Split : Type 0
+Split =
+    (rate : Rate) (invert : Bool) (keep ahead : ℕ) (from to : Place) (first rest : List WindowBlock) (whole : List ℕ)
     → Closed rate invert keep ahead from first to → AreCertified rate invert from.starts from.t from.octets
     (first ++ rest) whole
     → (text : List ℕ) × (more : List ℕ) × AreCertified rate invert from.starts from.t from.octets first text
     × AreCertified rate invert to.starts to.t to.octets rest more × (whole ≡ text ++ more)
+
+pub certified-split : Split
 certified-split rate invert keep ahead from to [] rest whole closed are =
     ([], whole, refl, subst (λ (p : Place). AreCertified rate invert p.starts p.t p.octets rest whole) closed are, refl)
 certified-split rate invert keep ahead from to (block ∷ first) rest whole closed are =

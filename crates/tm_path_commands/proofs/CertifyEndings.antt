@@ -17,6 +17,7 @@ use Rattle.tm_inner.proofs.InnerBits.{HasBlocks, has_blocks}
 use Rattle.tm_inner.proofs.Unfollowed.{blocks-unfollowed}
 use Rattle.tm_inner.proofs.PhasePieces.{PhaseStays}
 use Rattle.tm_cert_file.specs.Certifying.{Certifying}
+use Rattle.tm_cert_file.proofs.ManyWindows.{Split}
 use Rattle.tm_driver.specs.Meaning.{WroteEarly, taken_by}
 use Rattle.tm_driver.specs.declared.ending.Outcome.TheVariants as outcome
 use Rattle.tm_driver.proofs.Driven.{EndsDone, Shows, WroteInOrder, done-driven}
@@ -25,7 +26,7 @@ use Rattle.tm_path_commands.specs.Certify.{IsCertifiedAll, IsCertifiedSoFar, Tex
 use Rattle.tm_path_commands.specs.Certifying.{Certifies, CertifiesMore, CertifyFails, CutsCertificate, EndsCertificate, FailsCertifying, WritesAt, WroteCertificate, WroteCertificatePrefix}
 use Rattle.tm_path_commands.proofs.CertifyingPlace.{Longer}
 use Rattle.tm_path_commands.proofs.CertifyingPieces.{fails-longer}
-use Rattle.tm_path_commands.proofs.CertifyingEnd.{HasCertificate, OneCertificate, Split, fails-all}
+use Rattle.tm_path_commands.proofs.CertifyingEnd.{HasCertificate, OneCertificate, fails-all}
 
 shows-all : (c : Configuration) (octets : List ℕ) (taken taken_now noted : Option (List ℕ))
     → WroteCertificate c taken taken_now octets

@@ -8,7 +8,7 @@ use Rattle.tm_conv.specs.declared.rates.Rate.{Rate}
 use Rattle.tm_viterbi.specs.Settings.{Settings}
 use Rattle.tm_viterbi.specs.WindowBlock.{WindowBlock}
 use Rattle.tm_viterbi.specs.Blocks.{AreBlocksOf}
-use Rattle.tm_viterbi.specs.Due.{Place, Closed, first_place}
+use Rattle.tm_viterbi.specs.Due.{first_place}
 use Rattle.tm_windows.specs.declared.choosing.Chosen.{Chosen}
 use Rattle.tm_inner.specs.Inner.{settings_of, windows_of, soft_octets, BlocksAt}
 use Rattle.tm_inner.specs.Phase.{IsChosen, phase_octets, skip_of, with_phase}
@@ -20,11 +20,12 @@ use Rattle.tm_inner.proofs.Unfollowed.{blocks-unfollowed, first-unfollowed}
 use Rattle.tm_inner.proofs.PhasePieces.{items_of-with_phase}
 use Rattle.tm_cert_file.specs.Certificate.{AreCertified, IsCertificate}
 use Rattle.tm_cert_file.specs.Certifying.{Certifying}
+use Rattle.tm_cert_file.proofs.ManyWindows.{Append, Split}
 use Rattle.tm_driver.proofs.SinkTexts.{prefix-of, wrote-nothing, wrote-then, wrote-then_prefix}
 use Rattle.tm_path_commands.specs.Certify.{TextAt}
 use Rattle.tm_path_commands.specs.Certifying.{Certifies, CertifyFails, WritesAt, WroteCertificate, WroteCertificatePrefix}
 use Rattle.tm_path_commands.proofs.CertifierTook.{WroteHanded, WroteHandedPrefix, wrote-none, prefix-none}
-use Rattle.tm_path_commands.proofs.CertifyingPlace.{Append, WritesClosedPrefix, WritesLast, WritesLastPrefix, from-stood, prefix-all, prefix-to, wrote-all}
+use Rattle.tm_path_commands.proofs.CertifyingPlace.{WritesClosedPrefix, WritesLast, WritesLastPrefix, from-stood, prefix-all, prefix-to, wrote-all}
 use Rattle.tm_path_commands.proofs.CertifyingPieces.{no-items, stood-now}
 
 -- ---- all of it was written
@@ -83,14 +84,6 @@ OneCertificate =
     (text other : List ℕ)
     → AreCertified rate invert starts t octets blocks text → AreCertified rate invert starts t octets blocks other
     → text ≡ other
-
-abbrev pub Split : Type 0
-Split =
-    (rate : Rate) (invert : Bool) (keep ahead : ℕ) (from to : Place) (first rest : List WindowBlock) (whole : List ℕ)
-    → Closed rate invert keep ahead from first to → AreCertified rate invert from.starts from.t from.octets
-    (first ++ rest) whole
-    → (text : List ℕ) × (more : List ℕ) × AreCertified rate invert from.starts from.t from.octets first text
-    × AreCertified rate invert to.starts to.t to.octets rest more × (whole ≡ text ++ more)
 
 joined : (whole text other more : List ℕ) → whole ≡ other ++ more → other ≡ text → whole ≡ text ++ more
 joined whole text other more is same = is ∙ ap (λ (l : List ℕ). l ++ more) same

@@ -27,11 +27,12 @@ use Rattle.tm_inner.proofs.WithPhase.{choice-stays, settled-stays}
 use Rattle.tm_inner.proofs.PhasePieces.{PhaseStays, PhaseWithin, items_of-with_phase}
 use Rattle.tm_cert_file.specs.Certificate.{IsCertificate}
 use Rattle.tm_cert_file.specs.Certifying.{Certifying, soft_room, with_octets}
+use Rattle.tm_cert_file.proofs.ManyWindows.{Append}
 use Rattle.tm_driver.proofs.SinkTexts.{wrote-nothing, wrote-then, wrote-then_prefix}
 use Rattle.tm_path_commands.specs.Certify.{TextAt}
 use Rattle.tm_path_commands.specs.Certifying.{Certifies, CertifyFails, GavePiece, Goes, Waits, WritesAt}
 use Rattle.tm_path_commands.proofs.CertifierTook.{WroteHanded, WroteHandedPrefix, wrote-none, prefix-none}
-use Rattle.tm_path_commands.proofs.CertifyingPlace.{Append, Longer, Stood, StoodWaiting, StoodGoing, WritesClosed, WritesClosedPrefix, closed-longer, closed-one, from-stood, prefix-to, soft-skipped, with_more, wrote-to}
+use Rattle.tm_path_commands.proofs.CertifyingPlace.{Longer, Stood, StoodWaiting, StoodGoing, WritesClosed, WritesClosedPrefix, closed-longer, closed-one, from-stood, prefix-to, soft-skipped, with_more, wrote-to}
 use Rattle.tm_conv.proofs.Sizes.{steps_size-most}
 use Rattle.tm_path_commands.proofs.TraceEndings.{stands-new}
 

@@ -8,7 +8,7 @@ use Rattle.tm_config.specs.Configuration.{Configuration}
 use Rattle.tm_config.proofs.Choices.{never_both}
 use Rattle.tm_conv.specs.declared.rates.Rate.{Rate}
 use Rattle.tm_conv.specs.Path.{steps_size}
-use Rattle.tm_conv.proofs.Sizes.{steps_size-add, steps_size_ge}
+use Rattle.tm_conv.proofs.Sizes.{steps_size_ge}
 use Rattle.tm_viterbi.specs.WindowBlock.{WindowBlock}
 use Rattle.tm_viterbi.specs.Blocks.{IsBlock, AreBlocks, AreBlocksOf}
 use Rattle.tm_viterbi.specs.Due.{Place, Closed, after_block, first_place}
@@ -21,6 +21,7 @@ use Rattle.tm_inner.proofs.GivenPieces.{soft-after}
 use Rattle.tm_inner.proofs.ReceivedBits.{kept-le, length-soft}
 use Rattle.tm_cert_file.specs.Certificate.{AreCertified, IsCertificate}
 use Rattle.tm_cert_file.specs.Certifying.{Certifying, AreNext, WroteBlocks, WroteBlocksPrefix, soft_room, with_octets, with_place}
+use Rattle.tm_cert_file.proofs.ManyWindows.{Append, whole-after}
 use Rattle.tm_path_commands.proofs.CertifierTook.{WroteHanded, WroteHandedPrefix, wrote-turn, wrote-items, prefix-turn, prefix-after}
 
 -- ---- closed windows, and those after them
@@ -95,21 +96,6 @@ pub record LastBlocks (rate : Rate) (invert : Bool) (keep ahead : ℕ) (at : Pla
   pub count : ℕ
   pub whole : steps_size rate at.t count ≤ length at.octets
   pub are : AreBlocks rate invert keep ahead at.starts at.t count at.octets blocks
-
-whole-after : (rate : Rate) (invert : Bool) (keep ahead n : ℕ) (at : Place) (block : WindowBlock)
-    → steps_size rate at.t n ≤ length at.octets
-    → IsBlock rate invert keep ahead at.starts at.t n at.octets block
-    → steps_size rate (at.t + block.kept) (n - block.kept) ≤ length (drop (steps_size rate at.t block.kept) at.octets)
-whole-after rate invert keep ahead n at block whole is =
-    let few = kept-few rate invert keep ahead n at block is in
-    let sum : block.kept + (n - block.kept) ≡ n = omega (arith, few) in
-    omega (
-      arith,
-      whole,
-      steps_size-add rate at.t block.kept (n - block.kept),
-      ap (steps_size rate at.t) sum,
-      length-drop (steps_size rate at.t block.kept) at.octets,
-    )
 
 pub blocks-rest : (rate : Rate) (invert : Bool) (keep ahead n : ℕ) (from to : Place) (first rest : List WindowBlock)
     → Closed rate invert keep ahead from first to
@@ -279,14 +265,6 @@ from-stood c rate given octets soft other all handed more text is choice are s =
     ]
 
 -- ---- what is known of certificates
-
-abbrev pub Append : Type 0
-Append =
-    (rate : Rate) (invert : Bool) (keep ahead : ℕ) (from to : Place) (first rest : List WindowBlock)
-    (text more : List ℕ)
-    → Closed rate invert keep ahead from first to → AreCertified rate invert from.starts from.t from.octets first text
-    → AreCertified rate invert to.starts to.t to.octets rest more
-    → AreCertified rate invert from.starts from.t from.octets (first ++ rest) (text ++ more)
 
 abbrev pub Longer : Type 0
 Longer =
