@@ -3,7 +3,7 @@ use Rattle.std.proofs.Common.{◌≡◌, inl, inr, ℕ, ◌+◌, ◌-◌, ◌<�
 use Rattle.std.proofs.lemmas.List.{append-nil}
 use Rattle.tm_base.specs.Handed.{Handed, Item, items_of}
 use Rattle.tm_base.specs.Written.{WrotePrefix}
-use Rattle.tm_base.specs.Takers.{HandedOver, HandedPart}
+use Rattle.tm_base.specs.Takers.{HandedPart}
 use Rattle.tm_base.proofs.HandedItems.{items_of-append}
 use Rattle.tm_config.specs.Configuration.{Configuration}
 use Rattle.tm_config.specs.Accepted.{IsAccepted}
@@ -44,7 +44,7 @@ use Rattle.tm_path_commands.specs.Taken.{TracedAll}
 use Rattle.tm_path_commands.specs.Trace.{IsTrace, IsTraceDue, blocks_text, trace_meaning, trace_text}
 use Rattle.tm_path_commands.specs.Tracing.{CutsTrace, EndsTrace, StandsAt, Traces, TraceFails, TracedWhole, WroteTrace, WroteTracePrefix}
 use Rattle.tm_path_commands.proofs.CertifyingPlace.{closed-few as closed-less}
-use Rattle.tm_path_commands.proofs.TraceLines.{TookOne, BrokeOne, few-tally, traced-none, traced-more, traced-part, trace-prefix, trace_text-split}
+use Rattle.tm_path_commands.proofs.TraceLines.{TookOne, BrokeOne, TookList, took-each, few-tally, traced-none, traced-more, traced-part, trace-prefix, trace_text-split}
 
 -- ---- windows are at most as many as octets
 
@@ -323,7 +323,7 @@ pub traced-whole : {T K : Type 0} (name : T → K) (lines : T → SinkState) (co
     (r : InnerReceiving) (taker now : T) (start : SinkState) (octets : List ℕ)
     (last : List (Handed WindowBlock)) (bits left : ℕ) → IsAccepted c
     → Traces c r (count taker) start (lines taker) octets
-    → HandedOver (TookOne name lines count) taker last now
+    → TookList name lines count taker last now
     → ((given : List ℕ) (done : List (Handed WindowBlock)) → InnerReceiverStandsFor r given done
     → AreHanded r.config given (done ++ last) left × (bits ≡ length
     (inner_bits r.config given (items_of (done ++ last)))))
@@ -339,7 +339,9 @@ traced-whole name lines count c r taker now start octets last bits left accepted
       handed = done ++ last;
       are_handed = whole.0;
       are_bits = whole.1;
-      lines = traced-more name lines count start done last taker now t.lines handed bound;
+      lines =
+          traced-more name lines count start done last taker now t.lines
+          (took-each name lines count last taker now handed) bound;
     }
 
 -- the sink took the last line

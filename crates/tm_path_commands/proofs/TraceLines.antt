@@ -45,6 +45,18 @@ abbrev pub BrokeBlock : {T K : Type 0} → (T → K) → (T → SinkState) → (
 BrokeBlock name lines last count x block y =
     (name y ≡ name x) × BrokeText (lines x) (lines y) (last y) [] (block_text (count x) block)
 
+-- of a list of them
+abbrev pub TookList : {T K : Type 0} → (T → K) → (T → SinkState) → (T → Tally) → T → List (Handed WindowBlock) → T
+    → Type 0
+TookList name lines count a handed b =
+    HandedOver (on_handed (TookPhase name lines count) (TookBlock name lines count)) a handed b
+
+abbrev pub TookPart : {T K : Type 0} → (T → K) → (T → SinkState) → (T → Type 0) → (T → Tally) → T
+    → List (Handed WindowBlock) → T → Type 0
+TookPart name lines last count a handed b =
+    HandedPart (on_handed (TookPhase name lines count) (TookBlock name lines count))
+    (on_handed (BrokePhase name lines last) (BrokeBlock name lines last count)) a handed b
+
 took-one : {T K : Type 0} (name : T → K) (lines : T → SinkState) (count : T → Tally) (x : T)
     (next : Handed WindowBlock) (y : T)
     → on_handed (TookPhase name lines count) (TookBlock name lines count) x next y → TookOne name lines count x next y
@@ -60,7 +72,7 @@ broke-one name lines last count x (Item block) y broke = broke
 
 pub took-each : {T K : Type 0} (name : T → K) (lines : T → SinkState) (count : T → Tally)
     (handed : List (Handed WindowBlock)) (a b : T)
-    → HandedOver (on_handed (TookPhase name lines count) (TookBlock name lines count)) a handed b
+    → TookList name lines count a handed b
     → HandedOver (TookOne name lines count) a handed b
 took-each name lines count handed a b =
     handed-along (on_handed (TookPhase name lines count) (TookBlock name lines count)) (TookOne name lines count)
@@ -68,8 +80,7 @@ took-each name lines count handed a b =
 
 pub took-part : {T K : Type 0} (name : T → K) (lines : T → SinkState) (last : T → Type 0) (count : T → Tally)
     (handed : List (Handed WindowBlock)) (a b : T)
-    → HandedPart (on_handed (TookPhase name lines count) (TookBlock name lines count))
-    (on_handed (BrokePhase name lines last) (BrokeBlock name lines last count)) a handed b
+    → TookPart name lines last count a handed b
     → HandedPart (TookOne name lines count) (BrokeOne name lines last count) a handed b
 took-part name lines last count handed a b =
     part-along (on_handed (TookPhase name lines count) (TookBlock name lines count)) (TookOne name lines count)
@@ -79,15 +90,14 @@ took-part name lines last count handed a b =
 -- the sink stays the same one
 pub same-along : {T K : Type 0} (name : T → K) (lines : T → SinkState) (count : T → Tally)
     (handed : List (Handed WindowBlock)) (a b : T)
-    → HandedOver (on_handed (TookPhase name lines count) (TookBlock name lines count)) a handed b → name b ≡ name a
+    → TookList name lines count a handed b → name b ≡ name a
 same-along name lines count handed a b over =
     handed-keeps (TookOne name lines count) name (λ _ _ _ p. p.0) handed a b
     (took-each name lines count handed a b over)
 
 pub same-part : {T K : Type 0} (name : T → K) (lines : T → SinkState) (last : T → Type 0) (count : T → Tally)
     (handed : List (Handed WindowBlock)) (a b : T)
-    → HandedPart (on_handed (TookPhase name lines count) (TookBlock name lines count))
-    (on_handed (BrokePhase name lines last) (BrokeBlock name lines last count)) a handed b
+    → TookPart name lines last count a handed b
     → name b ≡ name a
 same-part name lines last count handed a b part =
     part-keeps (TookOne name lines count) (BrokeOne name lines last count) name (λ _ _ _ p. p.0)

@@ -4,7 +4,7 @@ use Rattle.tm_inner.proofs.GivenPieces.{taker_alone}
 use Rattle.tm_driver.specs.Courses.{SinkState, sink_state}
 use Rattle.tm_path_commands.specs.declared.tally.Tally.{Tally}
 use Rattle.tm_path_commands.specs.declared.trace_lines.Trace.{Trace}
-use Rattle.tm_path_commands.proofs.TraceLines.{took-each, took-part, same-along, same-part}
+use Rattle.tm_path_commands.proofs.TraceLines.{took-part, same-along, same-part}
 use Rattle.tm_path_commands.proofs.TraceEndings.{traced-whole, cut-last, wrote-end, cut-end}
 use Rattle.tm_path_commands.proofs.trace_command.trace_end.Goals as goal
 
@@ -17,12 +17,11 @@ returns-in-Ok-clause-whole g c =
     let lines : Trace g.row.O.Denot → SinkState = λ t. sink_state (g.O.Sink.taken t.lines.now)
     (g.O.Sink.faults t.lines.now) in
     let count : Trace g.row.O.Denot → Tally = λ t. t.tally in
-    let end = sink_state (g.O.Sink.taken c.end_trace.new.lines) (g.O.Sink.faults c.end_trace.new.lines) in
-    let took = took-each name lines count h.0 was now h.1 in
     on_ok_weaker c.end_trace.result (λ whole. λ config start octets accepted t.
-    wrote-end config now.tally c.in-Ok.end.bits c.in-Ok.end.leftover start (lines now) end octets
+    wrote-end config now.tally c.in-Ok.end.bits c.in-Ok.end.leftover start (lines now)
+    (sink_state (g.O.Sink.taken c.end_trace.new.lines) (g.O.Sink.faults c.end_trace.new.lines)) octets
     (traced-whole name lines count config c.args.receiver.now was now start octets h.0 c.in-Ok.end.bits
-    c.in-Ok.end.leftover accepted t took
+    c.in-Ok.end.leftover accepted t h.1
     (λ given done stands. let said = h.2 given done stands in (said.0, said.1))) whole) c.end_trace.ensures.whole
 
 pub returns-in-Ok-clause-prefix : goal.returns-in-Ok-clause-prefix
@@ -34,13 +33,12 @@ returns-in-Ok-clause-prefix g c =
     let lines : Trace g.row.O.Denot → SinkState = λ t. sink_state (g.O.Sink.taken t.lines.now)
     (g.O.Sink.faults t.lines.now) in
     let count : Trace g.row.O.Denot → Tally = λ t. t.tally in
-    let end = sink_state (g.O.Sink.taken c.end_trace.new.lines) (g.O.Sink.faults c.end_trace.new.lines) in
-    let took = took-each name lines count h.0 was now h.1 in
     on_err_weaker c.end_trace.result (λ broke. λ config start octets accepted t.
-    cut-end config now.tally c.in-Ok.end.bits c.in-Ok.end.leftover start (lines now) end
+    cut-end config now.tally c.in-Ok.end.bits c.in-Ok.end.leftover start (lines now)
+    (sink_state (g.O.Sink.taken c.end_trace.new.lines) (g.O.Sink.faults c.end_trace.new.lines))
     (g.O.Sink.is_last c.end_trace.new.lines) octets
     (traced-whole name lines count config c.args.receiver.now was now start octets h.0 c.in-Ok.end.bits
-    c.in-Ok.end.leftover accepted t took
+    c.in-Ok.end.leftover accepted t h.1
     (λ given done stands. let said = h.2 given done stands in (said.0, said.1))) broke) c.end_trace.ensures.broke
 
 pub returns-in-Ok-clause-same : goal.returns-in-Ok-clause-same
