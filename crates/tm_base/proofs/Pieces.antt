@@ -1,7 +1,7 @@
 -- Fed nothing, and fed one piece after another.
-use Rattle.std.proofs.Common.{◌≡◌, ℕ, ◌+◌, List, [], ◌++◌, length, take, drop, Option, sym, ◌∙◌, ap, subst, append_assoc, min, arith}
+use Rattle.std.proofs.Common.{◌≡◌, ℕ, ◌+◌, ◌-◌, List, [], ◌++◌, length, take, drop, Option, sym, ◌∙◌, ap, subst, append_assoc, min, arith}
 use Rattle.std.proofs.lemmas.List.{append-nil, take_min, take-append-le}
-use Rattle.std.proofs.Math.Seq.{take-append-add, drop-append_seam, drop-length}
+use Rattle.std.proofs.Math.Seq.{take-add, take-append-add, drop-append_seam, drop-length}
 use Rattle.std.specs.Io.KnownBytes.{append_known}
 use Rattle.tm_base.proofs.Known.{append_known-more, append_known-nil}
 use Rattle.tm_base.specs.Pieces.{beyond, further, GoesOn, Fed, FedPrefix}
@@ -84,3 +84,10 @@ fed-prefix_of_longer stands_for due on a taken taken_now first second p = record
   where
     shorter : (count : ℕ) (xs ys : List ℕ) → take count xs ≡ take (min count (length xs)) (xs ++ ys)
     shorter count xs ys = sym (take_min count xs) ∙ sym (take-append-le (min count (length xs)) xs ys (omega arith))
+
+-- one piece of a list, and then the next
+pub piece-joined : (done count : ℕ) (octets : List ℕ)
+    → take done octets ++ take ((done + count) - done) (drop done octets) ≡ take (done + count) octets
+piece-joined done count octets =
+    let same : (done + count) - done ≡ count = omega arith in
+    ap (λ (n : ℕ). take done octets ++ take n (drop done octets)) same ∙ sym (take-add done count octets)

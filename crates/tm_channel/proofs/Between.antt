@@ -1,17 +1,11 @@
 -- Bits of octets between two places.
 use Rattle.std.proofs.Common.{◌≡◌, ℕ, zero, suc, ◌+◌, ◌-◌, ◌*◌, ◌/◌, ◌%◌, ◌<◌, ◌≤◌, ◌==◌, List, [], ◌∷◌, ◌++◌, length, take, drop, map, min, get_or, refl, sym, ap, ◌∙◌, arith, length-drop, take-append-drop, inl, inr}
-use Rattle.std.proofs.lemmas.List.{take_all, drop_all, drop-map, drop-append-le, take-append-le, length-map}
+use Rattle.std.proofs.lemmas.List.{take_all, drop_all, drop-drop, drop-map, drop-append-le, take-append-le, length-map}
 use Rattle.std.proofs.lemmas.Bool.{cases_lt}
 use Rattle.std.proofs.Math.Seq.{take-add}
 use Rattle.tm_base.specs.Bits.{bits_of, bits_of_octet}
 use Rattle.tm_base.proofs.Packing.{length-low_bits, length-bits_of, bits_of-take, bits_of-drop}
 use Rattle.tm_channel.specs.Receiving.{bits_between}
-
-drop-twice : {A : Type 0} (a b : ℕ) (xs : List A) → drop b (drop a xs) ≡ drop (a + b) xs
-drop-twice zero b xs = (let same : b ≡ 0 + b = omega arith in ap (λ n. drop n xs) same)
-drop-twice (suc a) b [] = drop_all b [] (omega arith) ∙ sym (drop_all (suc a + b) [] (omega arith))
-drop-twice (suc a) b (x ∷ xs) = (let same : suc (a + b) ≡ suc a + b = omega arith in drop-twice a b xs
-    ∙ ap (λ n. drop n (x ∷ xs)) same)
 
 pub between-none : (at : ℕ) (octets : List ℕ) → [] ≡ bits_between at at octets
 between-none at octets = let none : 0 ≡ at - at = omega arith in ap (λ n. take n (drop at (bits_of octets))) none
@@ -23,7 +17,7 @@ between-joined from at to octets first second =
     let place : at ≡ from + (at - from) = omega arith in
     let sum : (at - from) + (to - at) ≡ to - from = omega arith in
     ap (λ n. bits_between from at octets ++ take (to - at) (drop n bits)) place
-    ∙ ap (λ l. bits_between from at octets ++ take (to - at) l) (sym (drop-twice from (at - from) bits))
+    ∙ ap (λ l. bits_between from at octets ++ take (to - at) l) (sym (drop-drop (at - from) from bits))
     ∙ sym (take-add (at - from) (to - at) (drop from bits)) ∙ ap (λ n. take n (drop from bits)) sum
 
 -- those up to the end
@@ -38,7 +32,7 @@ pub between-rest : (from at : ℕ) (octets : List ℕ) → from ≤ at
 between-rest from at octets first =
     let place : at ≡ from + (at - from) = omega arith in
     ap (λ n. bits_between from at octets ++ drop n (bits_of octets)) place
-    ∙ ap (λ l. bits_between from at octets ++ l) (sym (drop-twice from (at - from) (bits_of octets)))
+    ∙ ap (λ l. bits_between from at octets ++ l) (sym (drop-drop (at - from) from (bits_of octets)))
     ∙ take-append-drop (at - from) (drop from (bits_of octets))
 
 -- those of whole octets
@@ -70,7 +64,7 @@ octet-left zero odd (x ∷ octets) within few = (
 octet-left (suc first) odd (x ∷ octets) within few = (
     let same : 8 * suc first + odd ≡ 8 + (8 * first + odd) = omega arith in
     let next : suc (first + 1) ≡ suc first + 1 = omega arith in
-    ap (λ n. drop n (bits_of (x ∷ octets))) same ∙ sym (drop-twice 8 (8 * first + odd) (bits_of (x ∷ octets)))
+    ap (λ n. drop n (bits_of (x ∷ octets))) same ∙ sym (drop-drop (8 * first + odd) 8 (bits_of (x ∷ octets)))
     ∙ ap (drop (8 * first + odd))
     (drop-append-le 8 (bits_of_octet x) (bits_of octets) (omega (arith, length-low_bits 8 x))
     ∙ ap (λ l. l ++ bits_of octets) (drop_all 8 (bits_of_octet x) (omega (arith, length-low_bits 8 x))))

@@ -16,7 +16,7 @@ use Rattle.tm_sync.specs.Searching.{Searching, SearchStandsFor, inside_next, ins
 use Rattle.tm_sync.proofs.Given.{reported-recent}
 use Rattle.tm_codeblock.specs.ReceivedCodeblock.{rules_of}
 use Rattle.tm_codeblock.specs.RoomBits.{room_bits}
-use Rattle.tm_codeblock.proofs.Gathered.{low_bits-split}
+use Rattle.tm_base.proofs.LowBits.{low_bits-split}
 use Rattle.tm_codeblock.proofs.RoomBits.{length-room_bits}
 use Rattle.tm_channel.specs.Receiving.{Agree, Batching, Holding, Holds, HoldsMore, HoldsReported, IsGathered, IsReady, StoredCodeblock, stored_at, stored_of}
 use Rattle.tm_channel.proofs.Recalled.{room_bits-given}

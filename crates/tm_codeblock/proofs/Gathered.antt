@@ -1,39 +1,14 @@
 -- Bits that are gathered into octets.
-use Rattle.std.proofs.Common.{◌≡◌, ℕ, zero, suc, ◌+◌, ◌-◌, ◌*◌, ◌/◌, ◌%◌, ◌^◌, ◌<◌, ◌≤◌, ◌==◌, Bool, true, false, List, [], ◌∷◌, ◌++◌, length, take, sym, ap, ◌∙◌, arith, append_assoc, length-append, lit<, bit_or, bit_and}
+use Rattle.std.proofs.Common.{◌≡◌, ℕ, suc, ◌+◌, ◌-◌, ◌*◌, ◌/◌, ◌%◌, ◌^◌, ◌<◌, ◌≤◌, ◌==◌, Bool, true, false, List, [], ◌∷◌, ◌++◌, length, take, sym, ap, ◌∙◌, arith, append_assoc, length-append, lit<, bit_or, bit_and}
 use mir.Val.{bool_byte}
 use Rattle.std.proofs.lemmas.List.{append-nil, length-take-le}
-use Rattle.std.proofs.lemmas.Nat.{or_block, and_mask, pow-add}
+use Rattle.std.proofs.lemmas.Nat.{or_block, and_mask}
 use Rattle.std.proofs.Math.Pow.{mod-mod-pow}
-use Rattle.std.proofs.Math.Nat.{div-div-eq-div-mul, div-one}
+use Rattle.std.proofs.Math.Nat.{div-one}
 use Rattle.std.specs.Int.Bits.{or_zero_l, or_zero_r}
-use Rattle.tm_base.specs.Bits.{low_bits, bits_of, bits_of_octet, bit_number, number_of}
-use Rattle.tm_base.proofs.Packing.{bool_byte-bit_number, low_bits-zero, low_bits-first, low_bits-push, low_bits-number_of, length-low_bits, length-bits_of, number_of-low_bits, bits_of-append}
-
--- the lowest bits are those of the number's rest
-pub low_bits-rest : (count number : ℕ) → low_bits count (number % 2 ^ count) ≡ low_bits count number
-low_bits-rest count number =
-    ap (low_bits count) (sym (number_of-low_bits count number))
-    ∙ ap (λ n. low_bits n (number_of (low_bits count number))) (sym (length-low_bits count number))
-    ∙ low_bits-number_of (low_bits count number)
-
--- numbers that leave the same rest have the same lowest bits
-pub low_bits-same : (count a c : ℕ) → a % 2 ^ count ≡ c % 2 ^ count → low_bits count a ≡ low_bits count c
-low_bits-same count a c e = sym (low_bits-rest count a) ∙ ap (low_bits count) e ∙ low_bits-rest count c
-
--- the higher bits, and then the lower ones
-pub low_bits-split : (high low number : ℕ) → low_bits (high + low) number ≡ low_bits high (number / 2 ^ low)
-    ++ low_bits low number
-low_bits-split zero low number =
-    ap (λ n. low_bits n number) (omega arith)
-    ∙ ap (λ l. l ++ low_bits low number) (sym (low_bits-zero (number / 2 ^ low)))
-low_bits-split (suc high) low number =
-    let next : suc high + low ≡ suc (high + low) = omega arith in
-    let powers : 2 ^ low * 2 ^ high ≡ 2 ^ (high + low) = sym (pow-add 2 low high) ∙ ap (λ n. 2 ^ n) (omega arith) in
-    ap (λ n. low_bits n number) next ∙ low_bits-first (high + low) number
-    ∙ (λ i. (number / sym powers i % 2 == 1) ∷ low_bits-split high low number i)
-    ∙ ap (λ n. (n % 2 == 1) ∷ (low_bits high (number / 2 ^ low) ++ low_bits low number))
-    (sym (div-div-eq-div-mul number (2 ^ low) (2 ^ high)))
-    ∙ ap (λ l. l ++ low_bits low number) (sym (low_bits-first high (number / 2 ^ low)))
+use Rattle.tm_base.specs.Bits.{low_bits, bits_of, bits_of_octet, bit_number}
+use Rattle.tm_base.proofs.Packing.{bool_byte-bit_number, low_bits-zero, low_bits-push, length-low_bits, length-bits_of, bits_of-append}
+use Rattle.tm_base.proofs.LowBits.{low_bits-rest, low_bits-same, low_bits-split}
 
 -- ---- one bit more
 pushed : (p : ℕ) (b : Bool) → bit_or (p * 2 % 256) (bit_number b) ≡ (p * 2 + bit_number b) % 256

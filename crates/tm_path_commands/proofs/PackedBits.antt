@@ -1,42 +1,18 @@
 -- Bits that are packed to octets as they come.
-use Rattle.std.proofs.Common.{◌≡◌, ℕ, zero, suc, ◌+◌, ◌-◌, ◌*◌, ◌/◌, ◌%◌, ◌^◌, ◌<◌, ◌≤◌, ◌==◌, Bool, List, [], ◌∷◌, ◌++◌, length, take, drop, min, get_or, refl, sym, ap, ◌∙◌, arith, append_assoc, length-append, length-drop, take-append-drop, bit_or, bit_and}
+use Rattle.std.proofs.Common.{◌≡◌, ℕ, ◌+◌, ◌-◌, ◌*◌, ◌/◌, ◌%◌, ◌^◌, ◌<◌, ◌≤◌, Bool, List, [], ◌∷◌, ◌++◌, length, take, drop, min, get_or, refl, sym, ap, ◌∙◌, arith, append_assoc, length-append, length-drop, take-append-drop, bit_or, bit_and}
 use mir.Val.{bool_byte}
-use Rattle.std.proofs.lemmas.List.{append-nil, drop_all, drop-append-le, drop_more, length-take-le}
+use Rattle.std.proofs.lemmas.List.{append-nil, drop_all, drop-append-le, drop-drop, drop_more, length-take-le}
 use Rattle.std.proofs.lemmas.List.Elements.{All-take}
-use Rattle.std.proofs.lemmas.Nat.{and_mask, div-mul-add, mod-mul-add, mul-le, one_shl, or_shifted, pow-add, pow_pos}
-use Rattle.std.proofs.Math.Nat.{div-div-eq-div-mul, pow-le-pow_right}
+use Rattle.std.proofs.lemmas.Nat.{and_mask, div-mul-add, mod-mul-add, mul-le, one_shl, or_shifted, pow_pos}
+use Rattle.std.proofs.Math.Nat.{pow-le-pow_right}
 use Rattle.std.proofs.Math.Pow.{mod-mod-pow}
 use Rattle.std.proofs.Math.Seq.{drop-append_seam}
 use Rattle.tm_base.specs.Bits.{low_bits, bits_of, bits_of_octet, bit_number, number_of, octets_of, AreOctets}
-use Rattle.tm_base.proofs.Packing.{bool_byte-bit_number, low_bits-zero, low_bits-first, low_bits-number_of, length-low_bits, length-bits_of, number_of-low_bits, bits_of-append, bits_of-drop, bits_of-octets_of, length-octets_of, octets_of-append, octets_of-bits_of-append, AreOctets-octets_of}
+use Rattle.tm_base.proofs.Packing.{bool_byte-bit_number, low_bits-number_of, length-low_bits, length-bits_of, bits_of-append, bits_of-drop, bits_of-octets_of, length-octets_of, octets_of-append, octets_of-bits_of-append, AreOctets-octets_of}
+use Rattle.tm_base.proofs.LowBits.{low_bits-same, low_bits-split}
 use Rattle.tm_path_commands.specs.Bits.{Adds, Packing, open_bits}
 
--- ---- the lowest bits of a number
-
--- they are those of the number's rest
-low_bits-rest : (count number : ℕ) → low_bits count (number % 2 ^ count) ≡ low_bits count number
-low_bits-rest count number =
-    sym (λ i. low_bits (length-low_bits count number i) (number_of-low_bits count number i))
-    ∙ low_bits-number_of (low_bits count number)
-
-low_bits-same : (count a b : ℕ) → a % 2 ^ count ≡ b % 2 ^ count → low_bits count a ≡ low_bits count b
-low_bits-same count a b same = sym (low_bits-rest count a) ∙ ap (low_bits count) same ∙ low_bits-rest count b
-
--- the higher ones, and then the lower ones
-low_bits-split : (high low number : ℕ) → low_bits (high + low) number ≡ low_bits high (number / 2 ^ low) ++ low_bits
-    low number
-low_bits-split zero low number = ap (λ n. low_bits n number) (omega arith)
-    ∙ ap (λ l. l ++ low_bits low number) (sym (low_bits-zero (number / 2 ^ low)))
-low_bits-split (suc high) low number =
-    let next : suc high + low ≡ suc (high + low) = omega arith in
-    let powers : 2 ^ low * 2 ^ high ≡ 2 ^ (high + low) = sym (pow-add 2 low high) ∙ ap (λ n. 2 ^ n) (omega arith) in
-    ap (λ n. low_bits n number) next ∙ low_bits-first (high + low) number
-    ∙ (λ i. (number / sym powers i % 2 == 1) ∷ low_bits-split high low number i)
-    ∙ ap (λ n. (n % 2 == 1) ∷ (low_bits high (number / 2 ^ low) ++ low_bits low number))
-    (sym (div-div-eq-div-mul number (2 ^ low) (2 ^ high)))
-    ∙ ap (λ l. l ++ low_bits low number) (sym (low_bits-first high (number / 2 ^ low)))
-
--- those of the lowest octet, and of the one that is made of it
+-- the lowest bits of a number's lowest octet, and of the one that is made of it
 low_bits-octet : (count number value : ℕ) → count ≤ 8 → value ≡ bit_and number 255
     → low_bits count value ≡ low_bits count number
 low_bits-octet count number value few is =
@@ -179,12 +155,6 @@ one-bit byte bit is =
 
 -- ---- octets after the first bits
 
-drop-twice : {A : Type 0} (a b : ℕ) (xs : List A) → drop b (drop a xs) ≡ drop (a + b) xs
-drop-twice zero b xs = (let same : b ≡ 0 + b = omega arith in ap (λ n. drop n xs) same)
-drop-twice (suc a) b [] = drop_all b [] (omega arith) ∙ sym (drop_all (suc a + b) [] (omega arith))
-drop-twice (suc a) b (x ∷ xs) = (let same : suc (a + b) ≡ suc a + b = omega arith in drop-twice a b xs
-    ∙ ap (λ n. drop n (x ∷ xs)) same)
-
 -- an octet's lowest bits are those after the others
 lowest-after : (odd octet : ℕ) → odd ≤ 8 → low_bits (8 - odd) octet ≡ drop odd (bits_of_octet octet)
 lowest-after odd octet few =
@@ -209,7 +179,7 @@ after-some skip skipped octets is some =
     ap (λ l. l ++ bits_of rest) (lowest-after odd x (omega arith))
     ∙ sym (drop-append-le odd (bits_of_octet x) (bits_of rest) (omega (arith, length-low_bits 8 x)))
     ∙ ap (λ l. drop odd (bits_of l)) (sym (drop_more octets skipped 0 some))
-    ∙ ap (drop odd) (bits_of-drop skipped octets) ∙ drop-twice (8 * skipped) odd (bits_of octets)
+    ∙ ap (drop odd) (bits_of-drop skipped octets) ∙ drop-drop odd (8 * skipped) (bits_of octets)
     ∙ ap (λ n. drop n (bits_of octets)) same
 
 pub after-none : (skip skipped : ℕ) (octets : List ℕ) → skipped ≡ min (skip / 8) (length octets)
