@@ -1,5 +1,6 @@
 -- Windows of a stretch, from a number on.
-use Rattle.std.proofs.Common.{◌≡◌, ℕ, ◌+◌, ◌*◌, ◌^◌, ◌<◌, ◌≤◌, ◌∙◌, ◌++◌, ◌∷◌, [], sym, ap, subst, arith, refl, List, Option, Some, length, drop, drop-drop, get_or, mul-le-mul_right}
+use Rattle.std.proofs.Common.{◌≡◌, ℕ, ◌+◌, ◌*◌, ◌^◌, ◌<◌, ◌≤◌, ◌∙◌, ◌++◌, ◌∷◌, [], sym, ap, subst, arith, refl, List, Option, Some, length, vec_len, drop, drop-drop, get_or, set, mul-le-mul_right}
+use Rattle.std.proofs.lemmas.List.Elements.{All-set}
 use Rattle.tm_conv.specs.Path.{steps_size}
 use Rattle.tm_conv.proofs.Paths.{steps_size-zero}
 use Rattle.tm_conv.proofs.Sizes.{steps_size-le}
@@ -7,10 +8,10 @@ use Rattle.tm_viterbi.specs.WindowBlock.{WindowBlock}
 use Rattle.tm_viterbi.specs.Due.{Place, after_block}
 use Rattle.tm_viterbi.specs.declared.window_decoder.WindowShape.{WindowShape}
 use Rattle.tm_viterbi.proofs.Closing.{Closed-push}
-use Rattle.tm_windows.specs.Candidates.{IsCandidate, AreCandidates, ClosesWith, ClosedWith, after_windows, stretch_place}
+use Rattle.tm_windows.specs.Candidates.{IsCandidate, AreCandidates, HaveRoom, ClosesWith, ClosedWith, after_windows, stretch_place}
 use Rattle.tm_windows.specs.declared.candidate.Candidate.{Candidate}
 use Rattle.tm_windows.specs.declared.stretch.Stretch.{Stretch}
-use Rattle.tm_windows.proofs.Runs.{more_times, room_of, further, candidate_at}
+use Rattle.tm_windows.proofs.Runs.{more_times, room_of, further, candidate_at, one_more}
 
 -- the stretch from the window of number j on
 pub record IsFrom (from : Stretch) (j : ℕ) (here : Stretch) : Type 0 where
@@ -76,7 +77,7 @@ has_next from here j n is lt room few =
     }
 
 -- the candidate of the next window
-pub is_there : (from here : Stretch) (j : ℕ) (c : Candidate) → IsFrom from j here
+is_there : (from here : Stretch) (j : ℕ) (c : Candidate) → IsFrom from j here
     → IsCandidate here.shape here.t here.octets.now c
     → IsCandidate from.shape here.t (drop (steps_size from.shape.rate from.t (j * from.shape.keep)) from.octets.now) c
 is_there from here j c is h =
@@ -94,6 +95,34 @@ candidate_there from here j n candidates d is lt are =
     candidates d is.t refl lt are in
     subst (λ (w : WindowShape). IsCandidate w here.t here.octets.now c) (sym is.shape)
     (subst (λ (o : List ℕ). IsCandidate s here.t o c) (sym is.octets) there)
+
+-- each window of a run before number j has been decoded for its candidate
+abbrev pub DecodedTo : Stretch → ℕ → Stretch → WindowShape → List Candidate → Type 0
+DecodedTo from j here decoder candidates = record {
+  shape : decoder ≡ from.shape;
+  here : IsFrom from j here;
+  bits : HaveRoom (from.shape.keep + from.shape.ahead) candidates;
+  candidates : AreCandidates from.shape from.t from.octets.now 0 j candidates;
+}
+
+pub decoded_next : (from here now : Stretch) (j : ℕ) (before after : WindowShape) (candidates : List Candidate)
+    (c d : Candidate) → DecodedTo from j here before candidates → j < length candidates
+    → after ≡ here.shape → vec_len c.bits ≡ vec_len (get_or candidates j d).bits
+    → IsCandidate here.shape here.t here.octets.now c
+    → now.shape ≡ here.shape → now.t ≡ here.t + here.shape.keep
+    → now.octets.now ≡ drop (steps_size here.shape.rate here.t here.shape.keep) here.octets.now
+    → DecodedTo from (j + 1) now after (set candidates j c)
+decoded_next from here now j before after candidates c d is long ea eb one es et eo =
+    let s = from.shape in
+    record {
+      shape = ea ∙ is.here.shape;
+      here = from_next from here now j is.here es et eo;
+      bits = All-set (λ (x : Candidate). vec_len x.bits ≡ s.keep + s.ahead) candidates j c
+          (eb ∙ is.bits j d long) is.bits;
+      candidates = one_more s from.t from.octets.now candidates c j
+          here.t (steps_size s.rate from.t (j * s.keep))
+          is.here.t refl long (is_there from here j c is.here one) is.candidates;
+    }
 
 -- where the window after all n begins
 pub place_there : (from here : Stretch) (j n : ℕ) → IsFrom from j here → j ≡ n

@@ -1,10 +1,7 @@
-use Rattle.std.proofs.Common.{◌≡◌, ◌+◌, ◌*◌, ◌<◌, ◌∙◌, sym, ap, arith, refl, length, vec_len, slice_index_or, slice_set}
-use Rattle.std.proofs.lemmas.List.Elements.{All-set}
-use Rattle.tm_conv.specs.Path.{steps_size}
+use Rattle.std.proofs.Common.{◌+◌, ◌<◌, ◌∙◌, sym, ap, arith, length, slice_index_or, slice_set}
 use Rattle.tm_viterbi.specs.declared.window_decoder.WindowShape.{WindowShape}
-use Rattle.tm_windows.specs.declared.candidate.Candidate.{Candidate}
-use Rattle.tm_windows.proofs.Runs.{one_more}
-use Rattle.tm_windows.proofs.Stretches.{from_first, from_next, has_next, is_there}
+use Rattle.tm_windows.proofs.Stretches.{HasNext, decoded_next, from_first, has_next}
+use Rattle.tm_windows.proofs.decoding.decode_run.Given.{Over}
 use Rattle.tm_windows.proofs.decoding.decode_run.Goals as goal
 
 pub loop-j-init : goal.loop-j-init
@@ -46,35 +43,24 @@ next-here-requires-clause-register g c =
     (slice_index_or (slice_set c.loop-j.candidates at c.decode_window.new.candidate) at
     c.index-candidates-j-in-loop-j.result).path.small
 
-pub next-here-requires-clause-within : goal.next-here-requires-clause-within
-next-here-requires-clause-within g c =
+-- there is the next window
+there : (g : Over) (c : goal.After-index-candidates-j-in-loop-j g) → HasNext c.loop-j.here
+there g c =
     let l = c.loop-j in
-    let next = has_next c.args.from.now l.here l.j (length c.args.candidates.now) l.invariant.here
-    (omega (arith, c.loop-j-test.true, l.auto.j-end)) c.requires.room c.requires.few in
-    next.kept
+    has_next c.args.from.now l.here l.j (length c.args.candidates.now) l.invariant.here
+    (omega (arith, c.loop-j-test.true, l.auto.j-end)) c.requires.room c.requires.few
+
+pub next-here-requires-clause-within : goal.next-here-requires-clause-within
+next-here-requires-clause-within g c = (there g c).kept
 
 pub next-here-requires-clause-few : goal.next-here-requires-clause-few
-next-here-requires-clause-few g c =
-    let l = c.loop-j in
-    let next = has_next c.args.from.now l.here l.j (length c.args.candidates.now) l.invariant.here
-    (omega (arith, c.loop-j-test.true, l.auto.j-end)) c.requires.room c.requires.few in
-    next.few
+next-here-requires-clause-few g c = (there g c).few
 
 pub loop-j-preserved : goal.loop-j-preserved
 loop-j-preserved g c =
-    let from = c.args.from.now in
-    let s = from.shape in
     let l = c.loop-j in
-    let i = l.invariant in
-    let one = c.decode_window.new.candidate in
+    let one = c.decode_window.ensures in
     let next = c.next-here.ensures in
-    let long : l.j < length l.candidates = omega (arith, c.loop-j-test.true, l.auto.j-end, l.auto.candidates) in
-    record {
-      shape = c.decode_window.ensures.same ∙ i.here.shape;
-      here = from_next from l.here c.next-here.result l.j i.here next.shape next.t next.octets;
-      bits = All-set (λ (x : Candidate). vec_len x.bits ≡ s.keep + s.ahead) l.candidates l.j one
-          (c.decode_window.ensures.bits ∙ i.bits l.j c.index-candidates-j.result long) i.bits;
-      candidates = one_more s from.t from.octets.now l.candidates one l.j
-          l.here.t (steps_size s.rate from.t (l.j * s.keep))
-          i.here.t refl long (is_there from l.here l.j one i.here c.decode_window.ensures.candidate) i.candidates;
-    }
+    decoded_next c.args.from.now l.here c.next-here.result l.j l.decoder _ l.candidates c.decode_window.new.candidate
+    c.index-candidates-j.result l.invariant (omega (arith, c.loop-j-test.true, l.auto.j-end, l.auto.candidates))
+    one.same one.bits one.candidate next.shape next.t next.octets

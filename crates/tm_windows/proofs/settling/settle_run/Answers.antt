@@ -7,7 +7,8 @@ use Rattle.tm_viterbi.proofs.Closing.{Closed-push}
 use Rattle.tm_windows.specs.Candidates.{ClosesWith, ClosedWith, stretch_place}
 use Rattle.tm_windows.specs.declared.candidate.Candidate.{Candidate}
 use Rattle.tm_windows.proofs.Runs.{those_left}
-use Rattle.tm_windows.proofs.Stretches.{candidate_there, from_first, from_next, has_next, place_there, push_next}
+use Rattle.tm_windows.proofs.Stretches.{HasNext, candidate_there, from_first, from_next, has_next, place_there, push_next}
+use Rattle.tm_windows.proofs.settling.settle_run.Given.{Over}
 use Rattle.tm_windows.proofs.settling.settle_run.Goals as goal
 
 pub loop-j-init : goal.loop-j-init
@@ -50,19 +51,18 @@ settle-requires-clause-few g c =
     (omega (arith, c.loop-j-test.true, l.auto.j-end)) c.requires.room c.requires.few in
     omega (arith, next.few)
 
-pub next-here-requires-clause-within : goal.next-here-requires-clause-within
-next-here-requires-clause-within g c =
+-- there is the next window
+there : (g : Over) (c : goal.After-here-in-Ok-1 g) → HasNext c.loop-j.here
+there g c =
     let l = c.loop-j in
-    let next = has_next c.args.from.now l.here l.j (length c.args.candidates.now) l.invariant.here
-    (omega (arith, c.loop-j-test.true, l.auto.j-end)) c.requires.room c.requires.few in
-    next.kept
+    has_next c.args.from.now l.here l.j (length c.args.candidates.now) l.invariant.here
+    (omega (arith, c.loop-j-test.true, l.auto.j-end)) c.requires.room c.requires.few
+
+pub next-here-requires-clause-within : goal.next-here-requires-clause-within
+next-here-requires-clause-within g c = (there g c).kept
 
 pub next-here-requires-clause-few : goal.next-here-requires-clause-few
-next-here-requires-clause-few g c =
-    let l = c.loop-j in
-    let next = has_next c.args.from.now l.here l.j (length c.args.candidates.now) l.invariant.here
-    (omega (arith, c.loop-j-test.true, l.auto.j-end)) c.requires.room c.requires.few in
-    next.few
+next-here-requires-clause-few g c = (there g c).few
 
 pub returns-in-Err-clause-err : goal.returns-in-Err-clause-err
 returns-in-Err-clause-err g c =
