@@ -1,7 +1,9 @@
 -- What is kept, and its parts, own what a box at the same types owns.
 use mir.Syntax.{impl, tnil, dnil}
-use mathlib.Core.List.{[]}
+use mathlib.Core.List.{[], ◌∷◌}
 use denote.Signature.{Slot, plain}
+use denote.Exit.{yes}
+use denote.Triple.Walked.{Stays, stay_dropped}
 use Rattle.std_alloc.proofs.BoxSteps.Form.{Bx}
 use Rattle.std_heap.specs.contracts.Global as Heap
 use Rattle.std_heap.specs.contracts.GlobalAllocator.TheImpl.{ghosts, dict}
@@ -27,3 +29,7 @@ FromKept = plain (λ _. Kept.the_row)
 
 abbrev pub FromHeap : Slot 0
 FromHeap = plain (λ _. Heap.the_row)
+
+-- nothing is kept of the one parameter
+abbrev pub gone : (From : Slot 0) → Stays (From ∷ []) (yes, tt)
+gone From = (stay_dropped From yes, tt)

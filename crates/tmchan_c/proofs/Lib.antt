@@ -1,3 +1,4 @@
 pub mod AsBox
+pub mod BoxWalks
 pub mod Streams
 pub mod Searches
