@@ -112,10 +112,10 @@ module _ (E : Bx) (dx : Dict) where
         (box_typed E hw b' o' fw) $ returns ! (look_at ! 0 refl) $ free_all ! refl $
         -- [the handle; true; the tokens; the value with its token]
         move ! (3 ∷ []) $ fsplit ! $ box_in E ! d b' o' v.value refl refl $ use1 𝓛
-        (‵ (To.own_val made (word E hw b' o' ∷ []))) (id⊢ 𝓤 _) $ move ! (1 ∷ []) $ drop ! $
+        {Γ = ‵ ftrue ∷ ts ∷ []} (‵ (To.own_val made (word E hw b' o' ∷ []))) (id⊢ 𝓤 _) $ move ! (1 ∷ []) $ drop ! $
         suffices ! _ (ends_at 𝓛 ended stayed held z (word E hw b' o') made ((tt, (tt, tt)), tt) (tt, tt)) $ says !
         refl $
-        nothing ! $ nothing ! $ fjoin ! $ join ! $ move ! (1 ∷ 0 ∷ []) $ join ! $ done !)))))))))))
+        nothing ! $ nothing ! $ fjoin ! $ join {Γ = ts ∷ []} ! $ move ! (1 ∷ 0 ∷ []) $ join ! $ done !)))))))))))
 
 pub of_spec : {M : Type 1} → stated.statement M
 unfolding tables_of
