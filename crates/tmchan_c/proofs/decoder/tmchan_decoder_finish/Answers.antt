@@ -1,7 +1,9 @@
 use Rattle.std.proofs.Common.{rules, ◌≡◌, ◌++◌, ◌∙◌, length, Option, Some, None, true, sym, subst, w64, to_z}
+use Rattle.tm_base.specs.Handed.{items_of}
 use Rattle.tm_config.specs.Configuration.{Configuration}
 use Rattle.tm_inner.specs.Handing.{AreHanded}
 use Rattle.tm_inner.specs.Phase.{IsChosen}
+use Rattle.tm_viterbi.specs.Clean.{kept_bits}
 use Rattle.tm_windows.specs.declared.choosing.Chosen.{Chosen}
 use Rattle.tm_buffers.specs.Buffer.{has_room}
 use Rattle.tm_buffers.specs.Decoding.{bits_room}
@@ -26,7 +28,8 @@ returns-in-Some-finish-clause-finished c = λ config given done is room.
         last = there.last;
         left = there.left;
         all = subst (λ (k : Configuration). AreHanded k given (done ++ there.last) there.left) decoder.0 there.all;
-        wrote = wrote (Some c.in-Some-finish.count) _ _ _ answers there.fills;
+        wrote =
+            wrote (Some c.in-Some-finish.count) _ _ (kept_bits (items_of there.last)) answers there.fills;
         chosen = subst (λ (k : Configuration). IsChosen k given (chosen_of c.phase_state.result)) decoder.0 chosen;
       },
       c.take.ensures.left,
