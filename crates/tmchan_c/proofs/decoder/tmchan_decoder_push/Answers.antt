@@ -27,15 +27,15 @@ returns-clause-pushed c = λ config given done is few room.
           let there = w.feed.ensures.decoded given done few decoder.1
           (subst (λ (k : Configuration). has_room (bits_room k (length octets)) (length c.args.bits.now) ≡ true)
           (sym decoder.0) room) in
+          let due = kept_bits (items_of there.more) in
           record {
             more = there.more;
             decoder =
                 subst (λ (o : Option Stream). IsDecoder o config (given ++ octets) (done ++ there.more)) (sym now)
                 (w.feed.ensures.config ∙ decoder.0, there.decoding);
             wrote =
-                wrote w.feed.result _ _ _ answers
-                (subst (λ bits. Fills w.feed.result bits (kept_bits (items_of there.more)))
-                (sym w.bits-is) there.fills);
+                wrote w.feed.result _ _ due answers
+                (subst (λ bits. Fills w.feed.result bits due) (sym w.bits-is) there.fills);
           }
       | in_default-deref_mut w ↦ absurd (search rules)
     ]
