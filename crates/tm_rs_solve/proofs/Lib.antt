@@ -3,3 +3,4 @@ pub mod Remainders
 pub mod Words
 pub mod ErrorsAt
 pub mod Named
+pub mod Flags
