@@ -164,6 +164,7 @@ certified-append rate invert keep ahead from to (block ∷ first) rest text more
   ap (λ (v : List ℕ). v ++ more) are.4 ∙ append_assoc are.0 are.1 more,
 )
 
+-- and that of both is theirs and then that of those after them
 abbrev pub Split : Type 0
 Split =
     (rate : Rate) (invert : Bool) (keep ahead : ℕ) (from to : Place) (first rest : List WindowBlock) (whole : List ℕ)

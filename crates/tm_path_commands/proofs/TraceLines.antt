@@ -45,7 +45,7 @@ abbrev pub BrokeBlock : {T K : Type 0} → (T → K) → (T → SinkState) → (
 BrokeBlock name lines last count x block y =
     (name y ≡ name x) × BrokeText (lines x) (lines y) (last y) [] (block_text (count x) block)
 
--- of a list of them
+-- what a list of them does, and one in which the sink failed
 abbrev pub TookList : {T K : Type 0} → (T → K) → (T → SinkState) → (T → Tally) → T → List (Handed WindowBlock) → T
     → Type 0
 TookList name lines count a handed b =
