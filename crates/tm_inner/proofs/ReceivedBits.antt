@@ -1,19 +1,19 @@
 -- How many bits octets come to.
-use Rattle.std.proofs.Common.{◌≡◌, ℕ, ◌+◌, ◌-◌, ◌*◌, ◌/◌, ◌%◌, ◌<◌, ◌≤◌, ◌==◌, min, Bool, false, List, [], ◌∷◌, ◌++◌, length, take, drop, map, sym, ap, ◌∙◌, subst, arith, Option, Some, None, length-append, length-drop, length-take, inl, inr}
+use Rattle.std.proofs.Common.{◌≡◌, ℕ, ◌+◌, ◌-◌, ◌*◌, ◌/◌, ◌%◌, ◌<◌, ◌≤◌, ◌==◌, Bool, false, List, [], ◌∷◌, ◌++◌, length, take, drop, map, sym, ap, ◌∙◌, subst, arith, Option, Some, None, length-append, length-drop, length-take, inl, inr}
 use Rattle.std.proofs.lemmas.List.{length-map}
 use Rattle.std.proofs.lemmas.Bool.{cases_lt}
 use Rattle.std.proofs.lemmas.Bool.Decides.{nat_tests}
 use Rattle.tm_config.specs.Configuration.{Configuration}
 use Rattle.tm_conv.specs.declared.rates.Rate.{Rate}
-use Rattle.tm_conv.specs.declared.rates.Rate.TheVariants.{R12, R23, R34, R56, R78}
 use Rattle.tm_conv.specs.Path.{period, steps_size}
 use Rattle.tm_conv.proofs.Paths.{length-path}
-use Rattle.tm_conv.proofs.Sizes.{steps_size-is, same_from_steps_size, steps_size-add}
+use Rattle.tm_conv.proofs.Sizes.{same_from_steps_size, steps_size-add}
 use Rattle.tm_viterbi.specs.WindowBlock.{WindowBlock}
 use Rattle.tm_viterbi.specs.Blocks.{IsBlock, AreBlocks, AreBlocksOf, kept_steps, window_steps}
 use Rattle.tm_viterbi.specs.Clean.{kept_bits}
 use Rattle.tm_viterbi.specs.Starts.{first_start}
 use Rattle.tm_viterbi.proofs.CleanBlocks.{steps-mono}
+use Rattle.tm_windows.proofs.Steps.{all_but, steps_of}
 use Rattle.tm_inner.proofs.DueBits.{drop-split}
 use Rattle.tm_inner.proofs.PlainBits.{plain-append, length-plain}
 use Rattle.tm_inner.proofs.Unfollowed.{blocks-unfollowed}
@@ -21,61 +21,15 @@ use Rattle.tm_inner.specs.Inner.{settings_of, soft_value, soft_octets, BlocksAt,
 
 -- ---- the whole steps of symbols
 
--- of a period and one more symbol each period has its steps, and after the whole periods each
--- symbol but the first ends a step
-abbrev steps_of : ℕ → ℕ → ℕ
-steps_of period n = n / (period + 1) * period + (n % (period + 1) - 1)
-
 abbrev AreWhole : Rate → ℕ → ℕ → Type 0
 AreWhole rate n count = (steps_size rate 0 count ≤ n) × (n < steps_size rate 0 (count + 1))
-
-whole-steps : (rate : Rate) (n : ℕ) → AreWhole rate n (steps_of (period rate) n)
-whole-steps R12 n =
-    let m : ℕ = n / 2 * 1 + (n % 2 - 1) in
-    let a : steps_size R12 0 m ≡ m + (m / 1 + min 1 (m % 1)) = steps_size-is R12 m in
-    let b : steps_size R12 0 (m + 1) ≡ m + 1 + ((m + 1) / 1 + min 1 ((m + 1) % 1)) = steps_size-is R12 (m + 1) in (
-      let goal : steps_size R12 0 m ≤ n = omega (arith, a) in
-          goal,
-      let goal : n < steps_size R12 0 (m + 1) = omega (arith, b) in goal,
-    )
-whole-steps R23 n =
-    let m : ℕ = n / 3 * 2 + (n % 3 - 1) in
-    let a : steps_size R23 0 m ≡ m + (m / 2 + min 1 (m % 2)) = steps_size-is R23 m in
-    let b : steps_size R23 0 (m + 1) ≡ m + 1 + ((m + 1) / 2 + min 1 ((m + 1) % 2)) = steps_size-is R23 (m + 1) in (
-      let goal : steps_size R23 0 m ≤ n = omega (arith, a) in
-          goal,
-      let goal : n < steps_size R23 0 (m + 1) = omega (arith, b) in goal,
-    )
-whole-steps R34 n =
-    let m : ℕ = n / 4 * 3 + (n % 4 - 1) in
-    let a : steps_size R34 0 m ≡ m + (m / 3 + min 1 (m % 3)) = steps_size-is R34 m in
-    let b : steps_size R34 0 (m + 1) ≡ m + 1 + ((m + 1) / 3 + min 1 ((m + 1) % 3)) = steps_size-is R34 (m + 1) in (
-      let goal : steps_size R34 0 m ≤ n = omega (arith, a) in
-          goal,
-      let goal : n < steps_size R34 0 (m + 1) = omega (arith, b) in goal,
-    )
-whole-steps R56 n =
-    let m : ℕ = n / 6 * 5 + (n % 6 - 1) in
-    let a : steps_size R56 0 m ≡ m + (m / 5 + min 1 (m % 5)) = steps_size-is R56 m in
-    let b : steps_size R56 0 (m + 1) ≡ m + 1 + ((m + 1) / 5 + min 1 ((m + 1) % 5)) = steps_size-is R56 (m + 1) in (
-      let goal : steps_size R56 0 m ≤ n = omega (arith, a) in
-          goal,
-      let goal : n < steps_size R56 0 (m + 1) = omega (arith, b) in goal,
-    )
-whole-steps R78 n =
-    let m : ℕ = n / 8 * 7 + (n % 8 - 1) in
-    let a : steps_size R78 0 m ≡ m + (m / 7 + min 1 (m % 7)) = steps_size-is R78 m in
-    let b : steps_size R78 0 (m + 1) ≡ m + 1 + ((m + 1) / 7 + min 1 ((m + 1) % 7)) = steps_size-is R78 (m + 1) in (
-      let goal : steps_size R78 0 m ≤ n = omega (arith, a) in
-          goal,
-      let goal : n < steps_size R78 0 (m + 1) = omega (arith, b) in goal,
-    )
 
 pub whole_steps : (rate : Rate) (n p rest : ℕ) → p ≡ period rate → rest ≡ n % (p + 1) - 1
     → AreWhole rate n (n / (p + 1) * p + rest)
 whole_steps rate n p rest same is =
     subst (λ (r : ℕ). AreWhole rate n (n / (p + 1) * p + r)) (sym is)
-    (subst (λ (q : ℕ). AreWhole rate n (steps_of q n)) (sym same) (whole-steps rate n))
+    (subst (λ (q : ℕ). AreWhole rate n (steps_of q n)) (sym same)
+    (let l = all_but rate n in (omega (arith, l.is), l.most)))
 
 -- octets have one number of whole steps
 one-count : (rate : Rate) (n count other : ℕ) → AreWhole rate n count → AreWhole rate n other → count ≡ other

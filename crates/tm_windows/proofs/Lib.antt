@@ -1,4 +1,4 @@
-mod Steps
+pub mod Steps
 mod Least
 pub mod Phases
 pub mod Slips
