@@ -15,6 +15,7 @@ pub mod GivenPieces
 pub mod PhasePieces
 pub mod Counted
 pub mod WithPhase
+mod EitherDecoder
 pub mod HandedPieces
 pub mod HandedBits
 pub mod WorkedBits
