@@ -8,7 +8,9 @@ use Rattle.tm_inner.specs.Sending.{EncodesFor, encoded}
 use Rattle.tm_inner.proofs.Symbols.{encoded-goes_on}
 use Rattle.tm_inner.proofs.Coding.{GoesOnBy, fed-piece, fed-piece_prefix, joined}
 use Rattle.tm_viterbi.proofs.Handing.{on_err_of}
+use Rattle.tm_inner.proofs.inner_sender.send_symbols.Given.{Over}
 use Rattle.tm_inner.proofs.inner_sender.send_symbols.Goals as goal
+use Rattle.tm_inner.proofs.inner_sender.send_symbols.Goals.{After-put_all}
 
 -- the same, where rate and inversion are those of an encoder before
 same-code : (before here now : Encoding) (low : ℕ) (taken taken_now : Option (List ℕ)) (piece : List ℕ)
@@ -27,6 +29,18 @@ same-code_prefix before here low taken taken_now piece rate invert fed =
     subst (λ (i : Bool). FedPrefix EncodesFor (encoded before.rate i low) here taken taken_now piece) invert
     (subst (λ (r : Rate). FedPrefix EncodesFor (encoded r here.invert low) here taken taken_now piece) rate fed)
 
+-- ---- a piece is encoded
+
+module _ (g : Over) (c : After-put_all g) where
+  abbrev piece : List ℕ
+  piece = take ((c.loop-done.done + c.min.result) - c.loop-done.done) (drop c.loop-done.done c.args.octets.now)
+
+  abbrev symbols : List ℕ
+  symbols = take c.encode-count.result c.encode-count.new.out
+
+  by : GoesOnBy c.loop-done.encoder c.encode-count.new.self c.args.low piece symbols
+  by = record { stands = c.encode-count.ensures.stands; sent = c.encode-count.ensures.sent }
+
 pub returns-in_err-put_all-clause-prefix : goal.returns-in_err-put_all-clause-prefix
 returns-in_err-put_all-clause-prefix g c =
     let before = c.args.encoder.now in
@@ -34,19 +48,18 @@ returns-in_err-put_all-clause-prefix g c =
     let low = c.args.low in
     let octets = c.args.octets.now in
     let end = c.loop-done.done + c.min.result in
-    let piece = take (end - c.loop-done.done) (drop c.loop-done.done octets) in
-    let symbols = take c.encode-count.result c.encode-count.new.out in
     let due = encoded before.rate before.invert low in
     let on = encoded-goes_on before.rate before.invert low in
     let taken = g.O.Sink.taken c.args.out.now in
     let taken_now = g.O.Sink.taken c.put_all.new.out in
-    let by : GoesOnBy here c.encode-count.new.self low piece symbols =
-    record { stands = c.encode-count.ensures.stands; sent = c.encode-count.ensures.sent } in
+    let k = (goal.at.returns-in_err-put_all-clause-prefix g c).After-put_all in
+    let piece = piece g k in
     let part = c.in_err-put_all.ensures.err in
     let one =
     same-code_prefix before here low (g.O.Sink.taken c.loop-done.out) taken_now piece c.loop-done.invariant.rate
     c.loop-done.invariant.invert
-    (fed-piece_prefix here c.encode-count.new.self low piece symbols (g.O.Sink.taken c.loop-done.out) taken_now by
+    (fed-piece_prefix here c.encode-count.new.self low piece (symbols g k) (g.O.Sink.taken c.loop-done.out) taken_now
+    (by g k)
     (part.0, part.2)) in
     on_err_of c.from_residual.result _ c.from_residual.ensures.0 (
     subst (FedPrefix EncodesFor due before taken taken_now) (take-append-drop end octets)
@@ -63,21 +76,17 @@ loop-done-preserved g c =
     let now = c.encode-count.new.self in
     let low = c.args.low in
     let octets = c.args.octets.now in
-    let end = c.loop-done.done + c.min.result in
-    let piece = take (end - c.loop-done.done) (drop c.loop-done.done octets) in
-    let symbols = take c.encode-count.result c.encode-count.new.out in
     let due = encoded before.rate before.invert low in
     let on = encoded-goes_on before.rate before.invert low in
     let taken = g.O.Sink.taken c.args.out.now in
     let taken_now = g.O.Sink.taken c.put_all.new.out in
-    let by : GoesOnBy here now low piece symbols = record {
-      stands = c.encode-count.ensures.stands;
-      sent = c.encode-count.ensures.sent;
-    } in
+    let k = (goal.at.loop-done-preserved g c).After-put_all in
+    let piece = piece g k in
     let one =
     same-code before here now low (g.O.Sink.taken c.loop-done.out) taken_now piece c.loop-done.invariant.rate
     c.loop-done.invariant.invert
-    (fed-piece here now low piece symbols (g.O.Sink.taken c.loop-done.out) taken_now by c.in_ok-put_all.ensures.ok) in
+    (fed-piece here now low piece (symbols g k) (g.O.Sink.taken c.loop-done.out) taken_now (by g k)
+    c.in_ok-put_all.ensures.ok) in
     record {
       within = grind (arith, common_steps);
       room = c.encode-count.ensures.length ∙ c.loop-done.invariant.room;
