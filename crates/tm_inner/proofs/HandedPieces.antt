@@ -230,6 +230,28 @@ handed-last_prefix p given done tried of are g = record {
 
 -- ---- an inner receiver that is given more
 
+-- the octets that are not skipped follow those before
+octets-further : (before : InnerReceiving) (given octets : List ℕ) (done : List (Handed WindowBlock)) (skipped : ℕ)
+    → skipped ≡ min (skipped_at before.config.inner before.config - before.count) (length octets)
+    → InnerReceiverStandsFor before given done
+    → phase_octets before.config (given ++ octets) ≡ phase_octets before.config given
+    ++ soft_form before.config (drop skipped octets)
+octets-further before given octets done skipped skip stood =
+    let c = before.config in
+    phase_octets-more c given octets skipped (skip
+    ∙ ap (λ (n : ℕ). min (skipped_at c.inner c - n) (length octets)) (sym stood.count))
+
+few-further : (c : Configuration) (given octets : List ℕ) (skipped : ℕ) → length given + length octets < 2 ^ 60
+    → length (phase_octets c given) + length (soft_form c (drop skipped octets)) < 2 ^ 60
+few-further c given octets skipped few =
+    omega (
+      arith,
+      few,
+      few-soft c given,
+      length-map (drop skipped octets) (soft_value c),
+      length-drop skipped octets,
+    )
+
 pub stands-further : {T : Type 0} (took : T → Handed WindowBlock → T → Type 0) (before now : InnerReceiving)
     (taker taker_now : T) (octets : List ℕ) (skipped : ℕ)
     → before.phased.config ≡ before.config → now.config ≡ before.config → now.phased.config ≡ before.phased.config
@@ -246,13 +268,10 @@ pub stands-further : {T : Type 0} (took : T → Handed WindowBlock → T → Typ
 stands-further took before now taker taker_now octets skipped inside config phased of closed skip counted h given done
     few stood =
     let c = before.config in
-    let all = phase_octets-more c given octets skipped (skip
-    ∙ ap (λ (n : ℕ). min (skipped_at c.inner c - n) (length octets)) (sym stood.count)) in
-    let size : length (soft_form c (drop skipped octets)) ≤ length octets =
-    omega (arith, length-map (drop skipped octets) (soft_value c), length-drop skipped octets) in
+    let all = octets-further before given octets done skipped skip stood in
     let phases : PhasesFor now.phased (phase_octets c (given ++ octets)) (done ++ h.more) =
     subst (λ (l : List ℕ). PhasesFor now.phased l (done ++ h.more)) (sym all)
-    (h.stands (phase_octets c given) done (omega (arith, few, few-soft c given, size)) stood.phases) in
+    (h.stands (phase_octets c given) done (few-further c given octets skipped few) stood.phases) in
     let same : now.phased.config ≡ c = phased ∙ inside in (
       record {
         count = omega (arith, stood.count, few, counted, length-append given octets);
@@ -278,13 +297,10 @@ pub prefix-further : {T : Type 0} (took broke : T → Handed WindowBlock → T �
     → AreHandedFirst before.config (given ++ octets) (done ++ h.tried)
 prefix-further took broke before taker taker_now octets skipped skip h given done few stood =
     let c = before.config in
-    let all = phase_octets-more c given octets skipped (skip
-    ∙ ap (λ (n : ℕ). min (skipped_at c.inner c - n) (length octets)) (sym stood.count)) in
-    let size : length (soft_form c (drop skipped octets)) ≤ length octets =
-    omega (arith, length-map (drop skipped octets) (soft_value c), length-drop skipped octets) in
+    let all = octets-further before given octets done skipped skip stood in
     handed-first c (given ++ octets) (done ++ h.tried) (subst (λ (l : List ℕ). IsFirstBy c l (done ++ h.tried))
     (sym all)
-    (h.first (phase_octets c given) done (omega (arith, few, few-soft c given, size)) stood.phases))
+    (h.first (phase_octets c given) done (few-further c given octets skipped few) stood.phases))
 
 pub chosen-further : (before : InnerReceiving) (chosen : Option Chosen) (octets piece : List ℕ) (skipped : ℕ)
     → before.phased.config ≡ before.config → piece ≡ drop skipped octets
@@ -295,8 +311,7 @@ pub chosen-further : (before : InnerReceiving) (chosen : Option Chosen) (octets 
     → IsChosenSoFar before.config (given ++ octets) chosen
 chosen-further before chosen octets piece skipped inside is skip so_far given done stood =
     let c = before.config in
-    let all = phase_octets-more c given octets skipped (skip
-    ∙ ap (λ (n : ℕ). min (skipped_at c.inner c - n) (length octets)) (sym stood.count)) in
+    let all = octets-further before given octets done skipped skip stood in
     let there = subst (λ (k : Configuration). IsSoFarBy k (phase_octets c given ++ soft_form k piece) chosen) inside
     (so_far (phase_octets c given) done stood.phases) in
     subst (λ (l : List ℕ). IsSoFarBy c l chosen) (ap (λ (l : List ℕ). phase_octets c given ++ soft_form c l) is
