@@ -12,6 +12,7 @@ pub mod FewBits
 mod Metrics
 pub mod DueBlocks
 pub mod GivenPieces
+mod Opened
 pub mod PhasePieces
 pub mod Counted
 pub mod WithPhase

@@ -10,6 +10,7 @@ use Rattle.tm_inner.specs.Inner.{inner_bits, reported_slips}
 use Rattle.tm_inner.specs.Phase.{IsChosen, phase_octets}
 use Rattle.tm_inner.specs.Receiving.{InnerReceiving, InnerReceiverStandsFor, PhasesFor}
 use Rattle.tm_inner.specs.Handing.{AreHanded, AreHandedPrefix}
+use Rattle.tm_inner.proofs.Opened.{receiving}
 use Rattle.tm_inner.proofs.HandedPieces.{AllCounted, chosen-last, all-handed}
 use Rattle.tm_inner.proofs.inner_receiver.InnerReceiver.finish_by.Goals as goal
 use Rattle.tm_inner.proofs.inner_receiver.InnerReceiver.finish_by.Goals.{in-Ok, in-Err}
@@ -17,12 +18,7 @@ use Rattle.tm_inner.proofs.inner_receiver.InnerReceiver.finish_by.Goals.{in-Ok, 
 pub returns-clause-chosen : goal.returns-clause-chosen
 returns-clause-chosen g c = λ given done stood _.
     let s = c.self.inside in
-    let before : InnerReceiving = record {
-      config = s.config;
-      phased = s.phased;
-      count = s.count;
-      has_stopped = s.has_stopped;
-    } in
+    let before = receiving s.config s.phased s.count s.has_stopped in
     subst (λ (r : InnerReceiving). InnerReceiverStandsFor r given done
     → IsChosen r.config given c.end.new.self.chosen) c.self.view_is
     (chosen-last before c.end.new.self.chosen c.self.invariant.0 c.end.ensures.chosen given done) stood
@@ -30,12 +26,7 @@ returns-clause-chosen g c = λ given done stood _.
 pub returns-clause-handed : goal.returns-clause-handed
 returns-clause-handed g c =
     let s = c.self.inside in
-    let before : InnerReceiving = record {
-      config = s.config;
-      phased = s.phased;
-      count = s.count;
-      has_stopped = s.has_stopped;
-    } in
+    let before = receiving s.config s.phased s.count s.has_stopped in
     let over = HandedOver (on_handed g.B.BlockTaker.took_phase g.B.BlockTaker.took) in
     let Said : InnerReceiving → Result InnerEnd FeedError → Type 0 =
     λ r result. IfOk result (λ end. (last : List (Handed WindowBlock))
@@ -68,12 +59,7 @@ pub returns-clause-prefix : goal.returns-clause-prefix
 returns-clause-prefix g c =
     let s = c.self.inside in
     let t = g.B.BlockTaker in
-    let before : InnerReceiving = record {
-      config = s.config;
-      phased = s.phased;
-      count = s.count;
-      has_stopped = s.has_stopped;
-    } in
+    let before = receiving s.config s.phased s.count s.has_stopped in
     let part = HandedPart (on_handed t.took_phase t.took) (on_handed t.broke_phase t.broke) in
     let Said : InnerReceiving → Result InnerEnd FeedError → Type 0 = λ r result. IsErrOf result Taker
     → (tried : List (Handed WindowBlock)) × part c.args.blocks.now tried c.end.new.blocks

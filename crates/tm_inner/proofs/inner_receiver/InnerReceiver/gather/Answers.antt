@@ -2,6 +2,7 @@ use Rattle.std.proofs.Common.{◌≤◌, ◌++◌, ◌-◌, ◌∙◌, ℕ, List
 use Rattle.tm_config.specs.Configuration.{Configuration}
 use Rattle.tm_inner.specs.Phase.{phase_octets, skipped_at}
 use Rattle.tm_inner.specs.Receiving.{InnerReceiving, PhasesFor, InnerReceiverStandsFor, soft_form}
+use Rattle.tm_inner.proofs.Opened.{receiving}
 use Rattle.tm_inner.proofs.GivenPieces.{phase_octets-more}
 use Rattle.tm_inner.proofs.inner_receiver.InnerReceiver.gather.Goals as goal
 
@@ -11,12 +12,7 @@ returns-clause-gathered c = λ given done few stood.
     let k = s.config in
     let r = c.gather-taken.result in
     let octets = take r c.args.octets.now in
-    let before : InnerReceiving = record {
-      config = s.config;
-      phased = s.phased;
-      count = s.count;
-      has_stopped = s.has_stopped;
-    } in
+    let before = receiving s.config s.phased s.count s.has_stopped in
     let st = subst (λ (v : InnerReceiving). InnerReceiverStandsFor v given done) (sym c.self.view_is) stood in
     let none : min (skipped_at k.inner k - s.count) (length c.args.octets.now) ≤ 0 =
     subst (λ (v : InnerReceiving). min (skipped_at v.config.inner v.config - v.count) (length c.args.octets.now) ≤ 0)

@@ -4,6 +4,7 @@ use Rattle.std.proofs.lemmas.Result.{on_ok_weaker, on_err_weaker}
 use Rattle.tm_config.specs.declared.values.Sought.TheVariants.{Find}
 use Rattle.tm_inner.specs.Phase.{PhaseAt}
 use Rattle.tm_inner.specs.Receiving.{DecodesFor, FindsFirst, Hands, HandsPrefix, Phasing}
+use Rattle.tm_inner.proofs.Opened.{phasing}
 use Rattle.tm_inner.proofs.GivenPieces.{plain-form}
 use Rattle.tm_inner.proofs.PhasePieces.{Chooses, ChoosesPrefix, chooses, chooses-none, chooses-prefix}
 use Rattle.tm_inner.proofs.phased.Phased.choose.Goals as goal
@@ -13,13 +14,7 @@ returns-in-Err-clause-prefix g c =
     let s = c.self.inside in
     let t = g.B.BlockTaker in
     let chosen = c.phase_of-chosen.result in
-    let before : Phasing = record {
-      config = s.config;
-      decoder = s.decoder;
-      held = s.held.octets;
-      room = s.held.room;
-      chosen = s.chosen;
-    } in
+    let before = phasing s.config s.decoder s.held s.chosen in
     subst (λ (p : Phasing). ChoosesPrefix t.took_phase t.broke_phase t.took t.broke p c.args.blocks.now
     c.phase.new.self) c.self.view_is
     (chooses-none t.took_phase t.broke_phase t.took t.broke before chosen c.args.blocks.now c.phase.new.self
@@ -44,13 +39,7 @@ returns-clause-handed g c =
     let t = g.B.BlockTaker in
     let chosen = c.phase_of-chosen.result in
     let slice = c.as_slice-2.result.now in
-    let before : Phasing = record {
-      config = s.config;
-      decoder = s.decoder;
-      held = s.held.octets;
-      room = s.held.room;
-      chosen = s.chosen;
-    } in
+    let before = phasing s.config s.decoder s.held s.chosen in
     let rest = plain-form (take (length slice - c.from.result) (drop c.from.result slice))
     ∙ after chosen.skip c.from.result slice s.held.octets c.from.ensures c.as_slice-2.ensures.octets in
     on_ok_weaker c.decode.result
@@ -71,13 +60,7 @@ returns-clause-prefix g c =
     let t = g.B.BlockTaker in
     let chosen = c.phase_of-chosen.result in
     let slice = c.as_slice-2.result.now in
-    let before : Phasing = record {
-      config = s.config;
-      decoder = s.decoder;
-      held = s.held.octets;
-      room = s.held.room;
-      chosen = s.chosen;
-    } in
+    let before = phasing s.config s.decoder s.held s.chosen in
     let rest = plain-form (take (length slice - c.from.result) (drop c.from.result slice))
     ∙ after chosen.skip c.from.result slice s.held.octets c.from.ensures c.as_slice-2.ensures.octets in
     on_err_weaker c.decode.result

@@ -5,6 +5,7 @@ use Rattle.tm_viterbi.specs.WindowBlock.{WindowBlock}
 use Rattle.tm_inner.specs.Handing.{AreHandedDue}
 use Rattle.tm_inner.specs.Phase.{phase_octets}
 use Rattle.tm_inner.specs.Receiving.{IsCount, Phasing, PhasesFor}
+use Rattle.tm_inner.proofs.Opened.{phasing}
 use Rattle.tm_inner.proofs.HandedPieces.{due-further, most-further, none-waiting}
 use Rattle.tm_inner.proofs.PhasePieces.{NoneWaits}
 use Rattle.tm_inner.proofs.phased.Phased.count_due.Goals as goal
@@ -13,13 +14,7 @@ pub returns-clause-due : goal.returns-clause-due
 returns-clause-due c = λ given done stood.
     let s = c.self.inside in
     let n = c.count_due.result in
-    let before : Phasing = record {
-      config = s.config;
-      decoder = s.decoder;
-      held = s.held.octets;
-      room = s.held.room;
-      chosen = s.chosen;
-    } in
+    let before = phasing s.config s.decoder s.held s.chosen in
     let none : NoneWaits c.args.self.now = λ w. let both : IsTrue false = c.if-waits.ensures.1 w in absurd cc in
     let there = subst (λ (p : Phasing). PhasesFor p (phase_octets p.config given) done) (sym c.self.view_is) stood in
     subst (λ (p : Phasing). (more : List WindowBlock) × IsCount p.config (length more) n
@@ -31,13 +26,7 @@ pub returns-clause-most : goal.returns-clause-most
 returns-clause-most c = λ given done all stood due.
     let s = c.self.inside in
     let n = c.count_due.result in
-    let before : Phasing = record {
-      config = s.config;
-      decoder = s.decoder;
-      held = s.held.octets;
-      room = s.held.room;
-      chosen = s.chosen;
-    } in
+    let before = phasing s.config s.decoder s.held s.chosen in
     let none : NoneWaits c.args.self.now = λ w. let both : IsTrue false = c.if-waits.ensures.1 w in absurd cc in
     let there = subst (λ (p : Phasing). PhasesFor p (phase_octets p.config given) done) (sym c.self.view_is) stood in
     let plain = subst (λ (p : Phasing). AreHandedDue (unfollowed p.config) given all)

@@ -1,6 +1,7 @@
 use Rattle.std.proofs.Common.{◌++◌, Bool, take, false, ap, sym, subst, IsTrue}
 use Rattle.tm_config.specs.Configuration.{Configuration}
 use Rattle.tm_inner.specs.Receiving.{HasStopped, Phasing, PhasesFor, from_form, soft_form}
+use Rattle.tm_inner.proofs.Opened.{phasing}
 use Rattle.tm_inner.proofs.PhasePieces.{NoneWaits, phases-gathered}
 use Rattle.tm_inner.proofs.phased.Phased.gather.Goals as goal
 
@@ -16,13 +17,7 @@ pub returns-clause-gathered : goal.returns-clause-gathered
 returns-clause-gathered c = λ soft done stood.
     let s = c.self.inside in
     let octets = take c.gather_octets.result c.args.octets.now in
-    let before : Phasing = record {
-      config = s.config;
-      decoder = s.decoder;
-      held = s.held.octets;
-      room = s.held.room;
-      chosen = s.chosen;
-    } in
+    let before = phasing s.config s.decoder s.held s.chosen in
     let now : Phasing = record before { decoder = c.gather_octets.new.decoder } in
     let none : NoneWaits c.args.self.now = λ w. let both : IsTrue false = c.if-waits.ensures.1 w in absurd cc in
     let there = subst (λ (p : Phasing). PhasesFor p soft done) (sym c.self.view_is) stood in
