@@ -454,17 +454,17 @@ module _ (stays : PhaseStays) (within : PhaseWithin) where
                   subst (λ (c : Configuration). IsSettledBy c (soft ++ form)) (sym config)
                   (inr (omega (arith, many, ap (λ (l : List ℕ). length (l ++ form)) w.0.held))) in
                   let there = h.2 (soft ++ form) done (omega
-                      (arith, few, length-append soft form, length-append form rest))
+                  (arith, few, length-append soft form, length-append form rest))
                   (waits-more p form soft done w.0) in
                   let more = goes-prefix stays within took broke now middle taker_now rest of k (soft ++ form)
-                      (done ++ h.0)
+                  (done ++ h.0)
                   (omega (arith, few, length-append soft form, length-append form rest)) settled there in
                   subst (λ (c : Configuration). IsFirstBy c (soft ++ (form ++ rest))
-                      (done ++ (h.0 ++ map Item k.tried))) config
+                  (done ++ (h.0 ++ map Item k.tried))) config
                   (subst (λ (l : List ℕ). IsFirstBy now.config l (done ++ (h.0 ++ map Item k.tried)))
                   (append_assoc soft form rest)
                   (subst (IsFirstBy now.config ((soft ++ form) ++ rest))
-                      (append_assoc done h.0 (map Item k.tried)) more))
+                  (append_assoc done h.0 (map Item k.tried)) more))
                   )
               | inr g ↦ absurd (none-goes p soft done find none g.0)
             ];
