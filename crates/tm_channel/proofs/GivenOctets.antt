@@ -3,7 +3,7 @@
 use Rattle.std.proofs.Common.{◌≡◌, ◌==◌, ◌<◌, ◌≤◌, ◌+◌, ◌-◌, ◌*◌, ◌^◌, ℕ, inl, inr, Bool, true, false, List, [], ◌∷◌, ◌++◌, length, take, drop, map, refl, sym, ap, ◌∙◌, subst, arith, append_assoc, length-append, length-drop, length-take, take-append-drop, Option, Some, None}
 use Rattle.std.specs.Option.{is_some}
 use Rattle.std.proofs.lemmas.List.{append-nil, drop_all, length-map, take_all}
-use Rattle.std.proofs.Math.Seq.{drop-length, take-add}
+use Rattle.std.proofs.Math.Seq.{drop-length}
 use Rattle.tm_base.specs.Handed.{Handed, Phase, Item, on_handed, items_of}
 use Rattle.tm_base.specs.Takers.{HandedOver, HandedPart}
 use Rattle.tm_base.proofs.Handing.{HandedOver-append, HandedPart-after}
@@ -246,13 +246,6 @@ ends-kept inner room kept totals last left handed none fresh stands given done w
     }
 
 -- ---- pieces of octets
-
--- one piece of a list, and then the next
-pub piece-joined : (done count : ℕ) (octets : List ℕ) → take done octets
-    ++ take ((done + count) - done) (drop done octets) ≡ take (done + count) octets
-piece-joined done count octets =
-    let same : (done + count) - done ≡ count = omega arith in
-    ap (λ (n : ℕ). take done octets ++ take n (drop done octets)) same ∙ sym (take-add done count octets)
 
 -- those that were due, and those that further bits make due
 due-further : (c : Configuration) (bits piece : List Bool) (done items : List ItemValue)

@@ -1,6 +1,5 @@
 -- An encoder that is fed one piece.
-use Rattle.std.proofs.Common.{◌≡◌, ℕ, ◌+◌, ◌-◌, Bool, List, ◌++◌, Option, take, drop, sym, ◌∙◌, ap, subst, arith}
-use Rattle.std.proofs.Math.Seq.{take-add}
+use Rattle.std.proofs.Common.{◌≡◌, ℕ, Bool, List, ◌++◌, Option, sym, ◌∙◌, ap, subst}
 use Rattle.tm_base.specs.Bits.{bits_of}
 use Rattle.tm_base.specs.Written.{Wrote, WrotePrefix}
 use Rattle.tm_base.specs.Pieces.{Fed, FedPrefix, further}
@@ -44,10 +43,3 @@ fed-piece_prefix before now low piece symbols taken taken_now on wrote = record 
       λ given stood. subst (WrotePrefix taken taken_now)
       (sym (symbols-due before now low piece symbols given on stood)) wrote;
 }
-
--- a piece after the octets before it
-pub joined : (done count : ℕ) (octets : List ℕ) → take done octets ++ take ((done + count) - done) (drop done octets)
-    ≡ take (done + count) octets
-joined done count octets =
-    let same : (done + count) - done ≡ count = omega arith in
-    ap (λ (n : ℕ). take done octets ++ take n (drop done octets)) same ∙ sym (take-add done count octets)

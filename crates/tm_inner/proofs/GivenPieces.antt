@@ -2,7 +2,7 @@
 use Rattle.std.proofs.Common.{◌⊎◌, ◌≡◌, ℕ, zero, suc, ◌+◌, ◌-◌, ◌<◌, ◌≤◌, slice_set, slice_index_or, min, ◌%◌, if◌then◌else◌, inl, inr, length-drop, Bool, List, [], ◌∷◌, ◌++◌, length, take, drop, map, refl, sym, ap, ◌∙◌, subst, arith, append_assoc, length-append, false, take-append-drop, length-take, Option, Some, None, Err, IsErrOf}
 use Rattle.std.proofs.lemmas.Bool.{cases_lt}
 use Rattle.std.proofs.lemmas.List.{append-nil, drop_all, take_all, drop-map, length-map, map-append}
-use Rattle.std.proofs.Math.Seq.{take-add}
+use Rattle.tm_base.proofs.Pieces.{piece-joined}
 use Rattle.tm_base.proofs.Handing.{HandedOver-append, HandedPart-after}
 use Rattle.tm_config.specs.Configuration.{Configuration, is_signed}
 use Rattle.tm_conv.specs.declared.rates.Rate.{Rate}
@@ -144,12 +144,6 @@ converted-more f k xs ys less is =
     ∙ ap (λ n. map f (take n xs) ++ drop n xs) next
 
 -- ---- pieces of one list
-
-piece-joined : (done count : ℕ) (octets : List ℕ) → take done octets
-    ++ take ((done + count) - done) (drop done octets) ≡ take (done + count) octets
-piece-joined done count octets =
-    let same : (done + count) - done ≡ count = omega arith in
-    ap (λ (n : ℕ). take done octets ++ take n (drop done octets)) same ∙ sym (take-add done count octets)
 
 pub form-joined : (is_signed : Bool) (done count : ℕ) (octets : List ℕ)
     → from_form is_signed (take done octets) ++ from_form is_signed (take ((done + count) - done) (drop done octets))

@@ -3,9 +3,10 @@ use Rattle.std.proofs.lemmas.List.{take_all}
 use Rattle.tm_base.specs.Handed.{on_handed}
 use Rattle.tm_config.specs.Configuration.{Configuration}
 use Rattle.tm_inner.specs.Receiving.{HandsPrefix}
+use Rattle.tm_base.proofs.Pieces.{piece-joined}
 use Rattle.tm_inner.proofs.GivenPieces.{hands-prefix, hands-longer}
 use Rattle.tm_channel.specs.OctetReceiving.{FirstWith, Stages, StagesFor, StagesHand}
-use Rattle.tm_channel.proofs.GivenOctets.{first_with-stays, piece-joined, stages-hand, stages-more, stages-none}
+use Rattle.tm_channel.proofs.GivenOctets.{first_with-stays, stages-hand, stages-more, stages-none}
 use Rattle.tm_channel.proofs.taking.take.Goals as goal
 
 pub loop-done-init : goal.loop-done-init

@@ -1,7 +1,7 @@
 use Rattle.std.proofs.Common.{◌+◌, ◌-◌, ◌≤◌, ◌++◌, ◌∙◌, append_assoc, length, take, drop, sym, ap, arith, subst, take-append-drop}
 use Rattle.std.proofs.lemmas.Grind.{common_steps}
 use Rattle.tm_base.specs.Written.{Wrote}
-use Rattle.tm_inner.proofs.Coding.{joined}
+use Rattle.tm_base.proofs.Pieces.{piece-joined}
 use Rattle.tm_inner.proofs.Sending.{spread-prefix, spread-more}
 use Rattle.tm_viterbi.proofs.Handing.{on_err_of}
 use Rattle.tm_inner.proofs.inner_sender.send_bits.Goals as goal
@@ -20,7 +20,7 @@ returns-in_err-put_all-clause-prefix g c =
     (g.O.Sink.taken c.put_all.new.out)
     (take done octets) piece (drop end octets) octets part.0
     (sym (append_assoc (take done octets) piece (drop end octets))
-    ∙ ap (λ l. l ++ drop end octets) (joined done c.min.result octets) ∙ take-append-drop end octets)
+    ∙ ap (λ l. l ++ drop end octets) (piece-joined done c.min.result octets) ∙ take-append-drop end octets)
     c.loop-done.invariant.wrote
     (subst (λ l. part.0 ≤ length l) are part.1)
     (subst (λ l. Wrote (g.O.Sink.taken c.loop-done.out) (g.O.Sink.taken c.put_all.new.out) (take part.0 l)) are part.2)
@@ -40,7 +40,7 @@ loop-done-preserved g c =
       wrote =
           spread-more low (g.O.Sink.taken c.args.out.now) (g.O.Sink.taken c.loop-done.out)
           (g.O.Sink.taken c.put_all.new.out)
-          (take done octets) piece (take end octets) (joined done c.min.result octets) c.loop-done.invariant.wrote
+          (take done octets) piece (take end octets) (piece-joined done c.min.result octets) c.loop-done.invariant.wrote
           (subst (Wrote (g.O.Sink.taken c.loop-done.out) (g.O.Sink.taken c.put_all.new.out)) c.spread.ensures.bits
           c.in_ok-put_all.ensures.ok);
     }

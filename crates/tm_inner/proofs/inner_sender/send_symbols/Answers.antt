@@ -1,12 +1,12 @@
 use Rattle.std.proofs.Common.{◌≡◌, ◌+◌, ◌-◌, ◌∙◌, Bool, List, ℕ, Option, take, drop, arith, subst, take-append-drop}
 use Rattle.std.proofs.lemmas.Grind.{common_steps}
 use Rattle.tm_base.specs.Pieces.{Fed, FedPrefix}
-use Rattle.tm_base.proofs.Pieces.{fed-more, fed-prefix, fed-prefix_of_longer}
+use Rattle.tm_base.proofs.Pieces.{fed-more, fed-prefix, fed-prefix_of_longer, piece-joined}
 use Rattle.tm_conv.specs.declared.rates.Rate.{Rate}
 use Rattle.tm_conv.specs.Encoding.{Encoding}
 use Rattle.tm_inner.specs.Sending.{EncodesFor, encoded}
 use Rattle.tm_inner.proofs.Symbols.{encoded-goes_on}
-use Rattle.tm_inner.proofs.Coding.{GoesOnBy, fed-piece, fed-piece_prefix, joined}
+use Rattle.tm_inner.proofs.Coding.{GoesOnBy, fed-piece, fed-piece_prefix}
 use Rattle.tm_viterbi.proofs.Handing.{on_err_of}
 use Rattle.tm_inner.proofs.inner_sender.send_symbols.Given.{Over}
 use Rattle.tm_inner.proofs.inner_sender.send_symbols.Goals as goal
@@ -64,7 +64,7 @@ returns-in_err-put_all-clause-prefix g c =
     on_err_of c.from_residual.result _ c.from_residual.ensures.0 (
     subst (FedPrefix EncodesFor due before taken taken_now) (take-append-drop end octets)
     (fed-prefix_of_longer EncodesFor due on before taken taken_now (take end octets) (drop end octets)
-    (subst (FedPrefix EncodesFor due before taken taken_now) (joined c.loop-done.done c.min.result octets)
+    (subst (FedPrefix EncodesFor due before taken taken_now) (piece-joined c.loop-done.done c.min.result octets)
     (fed-prefix EncodesFor due on before here taken (g.O.Sink.taken c.loop-done.out) taken_now
     (take c.loop-done.done octets) piece c.loop-done.invariant.fed one)))
     )
@@ -93,7 +93,7 @@ loop-done-preserved g c =
       rate = c.encode-count.ensures.rate ∙ c.loop-done.invariant.rate;
       invert = c.encode-count.ensures.invert ∙ c.loop-done.invariant.invert;
       faults = grind (arith, common_steps);
-      fed = subst (Fed EncodesFor due before now taken taken_now) (joined c.loop-done.done c.min.result octets)
+      fed = subst (Fed EncodesFor due before now taken taken_now) (piece-joined c.loop-done.done c.min.result octets)
           (fed-more EncodesFor due on before here now taken (g.O.Sink.taken c.loop-done.out) taken_now
           (take c.loop-done.done octets) piece c.loop-done.invariant.fed one);
     }

@@ -1,6 +1,6 @@
-use Rattle.std.proofs.Common.{◌≡◌, ◌+◌, ◌-◌, ◌<◌, ◌∙◌, ◌++◌, length, ℕ, List, take, drop, arith, subst, refl, ap, sym, take-append-drop, Bool, true, false, IsTrue}
+use Rattle.std.proofs.Common.{◌≡◌, ◌+◌, ◌<◌, ◌∙◌, length, take, drop, arith, subst, refl, take-append-drop, Bool, true, false, IsTrue}
 use Rattle.std.proofs.lemmas.Grind.{common_steps}
-use Rattle.std.proofs.Math.Seq.{take-add}
+use Rattle.tm_base.proofs.Pieces.{piece-joined}
 use Rattle.tm_channel.specs.Sending.{Sending}
 use Rattle.tm_channel.specs.Steps.{SendsFrames, SendsFramesPrefix}
 use Rattle.tm_channel.proofs.Steps.{frames-none, frames-more, frames-prefix, frames-prefix_of_longer}
@@ -19,13 +19,6 @@ loop-done-init g c =
           (subst P c.self.view_is (grind (arith, common_steps)));
     }
 
--- a piece after the octets before it
-joined : (done count : ℕ) (octets : List ℕ) → take done octets ++ take ((done + count) - done) (drop done octets)
-    ≡ take (done + count) octets
-joined done count octets =
-    let same : (done + count) - done ≡ count = omega arith in
-    ap (λ (n : ℕ). take done octets ++ take n (drop done octets)) same ∙ sym (take-add done count octets)
-
 none-failed : (b : Bool) → (IsTrue b → ⊥) → b ≡ false
 none-failed true h = absurd (h refl)
 none-failed false h = refl
@@ -39,7 +32,8 @@ returns-in-Err-clause-prefix g c =
     subst (SendsFramesPrefix c.args.self.now taken taken_now) (take-append-drop end c.args.octets.now)
     (frames-prefix_of_longer c.args.self.now taken taken_now (take end c.args.octets.now) (drop end c.args.octets.now)
     (subst P c.self.view_is (omega arith))
-    (subst (SendsFramesPrefix c.args.self.now taken taken_now) (joined c.loop-done.done c.min.result c.args.octets.now)
+    (subst (SendsFramesPrefix c.args.self.now taken taken_now)
+    (piece-joined c.loop-done.done c.min.result c.args.octets.now)
     (frames-prefix _ _ _ _ _ _ _ c.loop-done.invariant.sent c.in-Err.ensures.prefix)))
 
 pub loop-done-preserved : goal.loop-done-preserved
@@ -50,6 +44,6 @@ loop-done-preserved g c = record {
   faults = grind (arith, common_steps);
   sent =
       subst (SendsFrames c.args.self.now c.send_piece.new.self (g.O.Sink.taken c.args.out.now)
-      (g.O.Sink.taken c.send_piece.new.out)) (joined c.loop-done.done c.min.result c.args.octets.now)
+      (g.O.Sink.taken c.send_piece.new.out)) (piece-joined c.loop-done.done c.min.result c.args.octets.now)
       (frames-more _ _ _ _ _ _ _ _ c.loop-done.invariant.sent c.in-Ok.ensures.sent);
 }
