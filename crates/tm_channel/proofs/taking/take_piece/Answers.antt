@@ -6,7 +6,9 @@ use Rattle.tm_inner.specs.Inner.{plain_bits, plain_count}
 use Rattle.tm_inner.specs.Receiving.{InnerReceiving}
 use Rattle.tm_channel.specs.OctetReceiving.{Grows, Stages, received_bits}
 use Rattle.tm_channel.proofs.GivenOctets.{first-chosen, found-none, found-some, prefix-due, prefix-phase, hands-due, hands-wait}
+use Rattle.tm_channel.proofs.taking.take_piece.Given.{Over}
 use Rattle.tm_channel.proofs.taking.take_piece.Goals as goal
+use Rattle.tm_channel.proofs.taking.take_piece.Goals.{After-bits, After-take_after}
 
 -- with no inner code the bits are those of the octets after the skipped ones
 found-after : (inner now : InnerReceiving) (skip : ℕ) (kept octets : List ℕ) → now.config ≡ inner.config
@@ -18,6 +20,40 @@ found-after inner now skip kept octets same none is =
     none
     ∙ ap (λ n. drop n (plain_bits inner.config octets)) (sym is)
     ∙ ap (λ (k : Configuration). drop skip (plain_bits k octets)) (sym same)
+
+-- the bits are those of the blocks that are due
+grows-by_bits : (g : Over) (c : After-bits g)
+    → Grows c.args.inner.now c.hold_or_decode-waits.new.inner c.args.kept.now.size
+    c.args.octets.now c.hold_or_decode-waits.new.kept.phase (map (λ bit. bit == 1) c.bits.result.now)
+grows-by_bits g c =
+    let inner = c.args.inner.now in
+    let d = c.hold_or_decode-waits in
+    let kept = d.new.kept in
+    let octets = c.args.octets.now in
+    let is : is_some inner.config.inner ≡ true =
+    ap (λ (k : Configuration). is_some k.inner) (sym d.ensures.inner) ∙ sym c.has_inner_code.ensures
+    ∙ c.if-has_inner_code.true in
+    let same = found-some inner.config inner.config.inner (inner.config.skip - plain_count inner.config inner.count)
+    kept.bits octets is
+    ∙ ap (map (λ bit. bit == 1)) (sym c.bits.ensures) in
+    subst (Grows inner d.new.inner c.args.kept.now.size octets kept.phase) same (d.ensures.grows c.if-waits.false)
+
+-- or those of the octets themselves
+grows-by_octets : (g : Over) (c : After-take_after g)
+    → Grows c.args.inner.now c.hold_or_decode-waits.new.inner c.args.kept.now.size
+    c.args.octets.now c.hold_or_decode-waits.new.kept.phase
+    (drop c.bits_to_skip-skip.result (plain_bits c.hold_or_decode-waits.new.inner.config c.args.octets.now))
+grows-by_octets g c =
+    let inner = c.args.inner.now in
+    let d = c.hold_or_decode-waits in
+    let kept = d.new.kept in
+    let octets = c.args.octets.now in
+    let is : is_some inner.config.inner ≡ false =
+    ap (λ (k : Configuration). is_some k.inner) (sym d.ensures.inner) ∙ sym c.has_inner_code.ensures
+    ∙ c.if-has_inner_code.false in
+    let same = found-after inner d.new.inner c.bits_to_skip-skip.result kept.bits octets d.ensures.inner is
+    c.bits_to_skip-skip.ensures.value in
+    subst (Grows inner d.new.inner c.args.kept.now.size octets kept.phase) same (d.ensures.grows c.if-waits.false)
 
 -- the octets wait
 pub returns-then-waits-clause-handed : goal.returns-then-waits-clause-handed
@@ -54,13 +90,7 @@ returns-in-Err-take_bits-clause-prefix g c =
     let kept = d.new.kept in
     let octets = c.args.octets.now in
     let room = c.args.kept.now.size in
-    let is : is_some inner.config.inner ≡ true =
-    ap (λ (k : Configuration). is_some k.inner) (sym d.ensures.inner) ∙ sym c.has_inner_code.ensures
-    ∙ c.if-has_inner_code.true in
-    let same = found-some inner.config inner.config.inner (inner.config.skip - plain_count inner.config inner.count)
-    kept.bits octets is
-    ∙ ap (map (λ bit. bit == 1)) (sym c.bits.ensures) in
-    let grows = subst (Grows inner d.new.inner room octets kept.phase) same (d.ensures.grows c.if-waits.false) in
+    let grows = grows-by_bits g (goal.at.returns-in-Err-take_bits-clause-prefix g c).After-bits in
     first-chosen (on_handed g.T.ItemTaker.took_phase g.T.ItemTaker.took)
     (on_handed g.T.ItemTaker.broke_phase g.T.ItemTaker.broke) before d.new.inner
     c.args.taker.now c.take_bits.new.taker room octets kept.phase
@@ -79,12 +109,7 @@ returns-in-Err-take_after-clause-prefix g c =
     let kept = d.new.kept in
     let octets = c.args.octets.now in
     let room = c.args.kept.now.size in
-    let is : is_some inner.config.inner ≡ false =
-    ap (λ (k : Configuration). is_some k.inner) (sym d.ensures.inner) ∙ sym c.has_inner_code.ensures
-    ∙ c.if-has_inner_code.false in
-    let same = found-after inner d.new.inner c.bits_to_skip-skip.result kept.bits octets d.ensures.inner is
-    c.bits_to_skip-skip.ensures.value in
-    let grows = subst (Grows inner d.new.inner room octets kept.phase) same (d.ensures.grows c.if-waits.false) in
+    let grows = grows-by_octets g (goal.at.returns-in-Err-take_after-clause-prefix g c).After-take_after in
     let piece = drop c.bits_to_skip-skip.result (plain_bits d.new.inner.config octets) in
     first-chosen (on_handed g.T.ItemTaker.took_phase g.T.ItemTaker.took)
     (on_handed g.T.ItemTaker.broke_phase g.T.ItemTaker.broke) before d.new.inner
@@ -104,16 +129,10 @@ returns-in-Ok-take_bits-clause-handed g c =
     let kept = d.new.kept in
     let octets = c.args.octets.now in
     let room = c.args.kept.now.size in
-    let is : is_some inner.config.inner ≡ true =
-    ap (λ (k : Configuration). is_some k.inner) (sym d.ensures.inner) ∙ sym c.has_inner_code.ensures
-    ∙ c.if-has_inner_code.true in
-    let same = found-some inner.config inner.config.inner (inner.config.skip - plain_count inner.config inner.count)
-    kept.bits octets is
-    ∙ ap (map (λ bit. bit == 1)) (sym c.bits.ensures) in
+    let grows = grows-by_bits g (goal.at.returns-in-Ok-take_bits-clause-handed g c).After-bits in
     hands-due g.T.ItemTaker.took_phase g.T.ItemTaker.took before now c.args.taker.now c.hand_phase.new.taker
     c.take_bits.new.taker room octets kept.phase (map (λ bit. bit == 1) c.bits.result.now)
-    c.requires.of c.requires.room d.ensures.inner (subst (Grows inner d.new.inner room octets kept.phase) same
-    (d.ensures.grows c.if-waits.false)) c.in-Ok.ensures.handed c.in-Ok-take_bits.ensures.handed
+    c.requires.of c.requires.room d.ensures.inner grows c.in-Ok.ensures.handed c.in-Ok-take_bits.ensures.handed
 
 pub returns-in-Ok-take_after-clause-handed : goal.returns-in-Ok-take_after-clause-handed
 returns-in-Ok-take_after-clause-handed g c =
@@ -124,14 +143,8 @@ returns-in-Ok-take_after-clause-handed g c =
     let kept = d.new.kept in
     let octets = c.args.octets.now in
     let room = c.args.kept.now.size in
-    let is : is_some inner.config.inner ≡ false =
-    ap (λ (k : Configuration). is_some k.inner) (sym d.ensures.inner) ∙ sym c.has_inner_code.ensures
-    ∙ c.if-has_inner_code.false in
-    let same = found-after inner d.new.inner c.bits_to_skip-skip.result kept.bits octets d.ensures.inner is
-    c.bits_to_skip-skip.ensures.value in
+    let grows = grows-by_octets g (goal.at.returns-in-Ok-take_after-clause-handed g c).After-take_after in
     hands-due g.T.ItemTaker.took_phase g.T.ItemTaker.took before now c.args.taker.now c.hand_phase.new.taker
     c.take_after.new.taker room octets kept.phase
     (drop c.bits_to_skip-skip.result (plain_bits d.new.inner.config octets)) c.requires.of c.requires.room
-    d.ensures.inner
-    (subst (Grows inner d.new.inner room octets kept.phase) same (d.ensures.grows c.if-waits.false))
-    c.in-Ok.ensures.handed c.in-Ok-take_after.ensures.handed
+    d.ensures.inner grows c.in-Ok.ensures.handed c.in-Ok-take_after.ensures.handed
