@@ -2,17 +2,18 @@ use Rattle.std.proofs.Common.{◌+◌, ◌∙◌, length, arith, ap, refl, subst
 use Rattle.tm_config.specs.Configuration.{Configuration}
 use Rattle.tm_channel.specs.OctetReceiving.{BitReceiving, Received, ReceivedPart}
 use Rattle.tm_channel.specs.Receiving.{bits_between}
+use Rattle.tm_channel.specs.declared.bit_receiver.BitReceiver.{BitReceiver}
 use Rattle.tm_channel.proofs.Between.{between-all, between-joined, between-none, between-rest}
 use Rattle.tm_channel.proofs.ReceivedPieces.{part-all, part-then, part-turn, received-none, received-then, received-turn}
 use Rattle.tm_channel.proofs.bit_receiver.BitReceiver.receive.Goals as goal
 
+-- what contracts see of it
+abbrev receiving : BitReceiver → BitReceiving
+receiving r = record { search = r.search; room = r.room.items; batch = r.batch }
+
 pub loop-at-init : goal.loop-at-init
 loop-at-init g c =
-    let start : BitReceiving = record {
-      search = c.args.self.now.search;
-      room = c.args.self.now.room.items;
-      batch = c.args.self.now.batch;
-    } in record {
+    let start = receiving c.args.self.now in record {
       first = omega arith;
       within = c.requires.from;
       ready = c.requires.ready;
@@ -39,26 +40,10 @@ loop-at-preserved g c =
     let at = c.loop-at.at in
     let to = at + c.push-at.result in
     let took = g.T.ItemTaker.took in
-    let start : BitReceiving = record {
-      search = c.args.self.now.search;
-      room = c.args.self.now.room.items;
-      batch = c.args.self.now.batch;
-    } in
-    let before : BitReceiving = record {
-      search = c.loop-at.self.search;
-      room = c.loop-at.self.room.items;
-      batch = c.loop-at.self.batch;
-    } in
-    let middle : BitReceiving = record {
-      search = c.push-at.new.self.search;
-      room = c.push-at.new.self.room.items;
-      batch = c.push-at.new.self.batch;
-    } in
-    let now : BitReceiving = record {
-      search = c.keep_all.new.self.search;
-      room = c.keep_all.new.self.room.items;
-      batch = c.keep_all.new.self.batch;
-    } in
+    let start = receiving c.args.self.now in
+    let before = receiving c.loop-at.self in
+    let middle = receiving c.push-at.new.self in
+    let now = receiving c.keep_all.new.self in
     let some = c.in-Ok.ensures.all in
     let first = i.first in
     let turn = received-turn took before middle now c.loop-at.taker c.keep_all.new.taker
@@ -83,26 +68,10 @@ returns-in-Err-clause-part g c =
     let to = at + c.push-at.result in
     let took = g.T.ItemTaker.took in
     let broke = g.T.ItemTaker.broke in
-    let start : BitReceiving = record {
-      search = c.args.self.now.search;
-      room = c.args.self.now.room.items;
-      batch = c.args.self.now.batch;
-    } in
-    let before : BitReceiving = record {
-      search = c.loop-at.self.search;
-      room = c.loop-at.self.room.items;
-      batch = c.loop-at.self.batch;
-    } in
-    let middle : BitReceiving = record {
-      search = c.push-at.new.self.search;
-      room = c.push-at.new.self.room.items;
-      batch = c.push-at.new.self.batch;
-    } in
-    let now : BitReceiving = record {
-      search = c.keep_all.new.self.search;
-      room = c.keep_all.new.self.room.items;
-      batch = c.keep_all.new.self.batch;
-    } in
+    let start = receiving c.args.self.now in
+    let before = receiving c.loop-at.self in
+    let middle = receiving c.push-at.new.self in
+    let now = receiving c.keep_all.new.self in
     let some = c.in-Err.ensures.broke in
     let first = i.first in
     let turn = part-turn took broke before middle now c.loop-at.taker c.keep_all.new.taker
@@ -119,16 +88,8 @@ returns-in-Err-clause-part g c =
 
 pub returns-clause-handed : goal.returns-clause-handed
 returns-clause-handed g c =
-    let start : BitReceiving = record {
-      search = c.args.self.now.search;
-      room = c.args.self.now.room.items;
-      batch = c.args.self.now.batch;
-    } in
-    let now : BitReceiving = record {
-      search = c.loop-at.self.search;
-      room = c.loop-at.self.room.items;
-      batch = c.loop-at.self.batch;
-    } in
+    let start = receiving c.args.self.now in
+    let now = receiving c.loop-at.self in
     subst (Received g.T.ItemTaker.took start now c.args.taker.now c.loop-at.taker)
     (between-all c.args.from c.loop-at.at c.args.octets.now (omega (arith, c.loop-at-test.false)))
     c.loop-at.invariant.received
