@@ -1,5 +1,5 @@
 -- What octets come to that were sent and not disturbed, or complemented.
-use Rattle.std.proofs.Common.{◌≡◌, ℕ, ◌*◌, Bool, List, length, map, Option, Some, None, if◌then◌else◌, refl, ap, ◌∙◌, subst, arith}
+use Rattle.std.proofs.Common.{◌≡◌, ℕ, ◌*◌, Bool, List, length, Option, Some, None, if◌then◌else◌, refl, ap, ◌∙◌, subst, arith}
 use Rattle.std.proofs.lemmas.List.{length-map}
 use Rattle.tm_base.specs.Bits.{bits_of}
 use Rattle.tm_base.specs.Handed.{Handed}
@@ -8,7 +8,7 @@ use Rattle.tm_config.specs.Accepted.{IsAccepted}
 use Rattle.tm_config.specs.Configuration.{Configuration}
 use Rattle.tm_conv.specs.declared.rates.Rate.{Rate}
 use Rattle.tm_conv.specs.declared.rates.Rate.TheVariants.{R12}
-use Rattle.tm_conv.specs.Encoding.{bit_numbers, sent_for, levels}
+use Rattle.tm_conv.specs.Encoding.{bit_numbers}
 use Rattle.tm_viterbi.specs.declared.block.Start.TheVariants.{Any}
 use Rattle.tm_viterbi.specs.WindowBlock.{WindowBlock}
 use Rattle.tm_viterbi.specs.Clean.{sure_symbols, complemented_octets}
@@ -16,17 +16,17 @@ use Rattle.tm_viterbi.proofs.HasBlocks.{HasBest}
 use Rattle.tm_windows.specs.Followed.{slips_of}
 use Rattle.tm_windows.specs.Windows.{AreBlocksIn}
 use Rattle.tm_windows.proofs.WindowLaws.{blocks-sent, blocks-complemented}
-use Rattle.tm_inner.specs.Inner.{AreInnerBlocks, BlocksAt, Inner, IsStartKnown, settings_of, soft_value, soft_octets, windows_of}
+use Rattle.tm_inner.specs.Inner.{AreInnerBlocks, BlocksAt, Inner, IsStartKnown, windows_of}
 use Rattle.tm_inner.specs.Phase.{skip_of}
-use Rattle.tm_inner.specs.Symbols.{is_inverted, low_level, symbols_by, symbols_of_octets}
+use Rattle.tm_inner.specs.Symbols.{symbols_by, symbols_of_octets}
 use Rattle.tm_inner.proofs.Counted.{whole-slips}
-use Rattle.tm_inner.proofs.InnerBits.{AreBits-bit_numbers, drop-none, soft-sent}
+use Rattle.tm_inner.proofs.InnerBits.{AreBits-bit_numbers, soft-sent}
 use Rattle.tm_sync.specs.Bits.{flip}
 use Rattle.tm_channel.specs.Sent.{cadus, sent}
 use Rattle.tm_channel.specs.Items.{ItemValue}
 use Rattle.tm_channel.specs.declared.totals.Totals.{Totals}
 use Rattle.tm_channel.specs.Handing.{AreReceived, clean_totals, totals_of}
-use Rattle.tm_channel.proofs.ComplementedOctets.{ComplementedBlocks, half-complemented, values-complemented}
+use Rattle.tm_channel.proofs.ComplementedOctets.{ComplementedBlocks, half-complemented, soft-complemented}
 use Rattle.tm_channel.proofs.SentPhase.{Complements, phase-complemented, phase-sent, sent-skip}
 
 -- ---- no octet is dropped
@@ -49,14 +49,9 @@ slips-complemented None c octets blocks left none are = ap slips_of are.0
 slips-complemented (Some rate) c octets blocks left none are =
     let w = windows_of c rate in
     let bits = bit_numbers (bits_of octets) in
-    let symbols = sent_for rate (is_inverted rate c.invert) (bits_of octets) in
-    let same : soft_octets c 0 (complemented_octets (symbols_by (Some rate) c (bits_of octets)))
-    ≡ complemented_octets (sure_symbols (settings_of c rate) 0 bits) =
-    ap (map (soft_value c)) (drop-none c.skip (complemented_octets (levels (low_level c.soft) symbols)) none)
-    ∙ values-complemented c symbols in
     whole-slips w.settings (complemented_octets (sure_symbols w.settings 0 bits)) blocks left
     (blocks-complemented w.seen w 0 bits blocks left (AreBits-bit_numbers (bits_of octets)) (omega arith)
-    (subst (λ (l : List ℕ). AreBlocksIn w l blocks left) same are))
+    (subst (λ (l : List ℕ). AreBlocksIn w l blocks left) (soft-complemented c rate (bits_of octets) none) are))
 
 -- ---- and all bits come
 

@@ -144,11 +144,19 @@ value-complemented c symbol = go c.soft (symbol == 0)
     go Signed true = refl
     go Signed false = refl
 
-pub values-complemented : (c : Configuration) (symbols : List ℕ)
+values-complemented : (c : Configuration) (symbols : List ℕ)
     → map (soft_value c) (complemented_octets (levels (low_level c.soft) symbols))
     ≡ complemented_octets (sure symbols)
 values-complemented c [] = refl
 values-complemented c (symbol ∷ symbols) = (λ i. value-complemented c symbol i ∷ values-complemented c symbols i)
+
+pub soft-complemented : (c : Configuration) (rate : Rate) (bits : List Bool) → c.skip ≡ 0
+    → soft_octets c 0 (complemented_octets (symbols_by (Some rate) c bits))
+    ≡ complemented_octets (sure_symbols (settings_of c rate) 0 (bit_numbers bits))
+soft-complemented c rate bits none =
+    let symbols = sent_for rate (is_inverted rate c.invert) bits in
+    ap (map (soft_value c)) (drop-none c.skip (complemented_octets (levels (low_level c.soft) symbols)) none)
+    ∙ values-complemented c symbols
 
 numbers-complemented : (bits : List Bool) → map (λ bit. bit == 1) (complement_numbers (bit_numbers bits))
     ≡ complement bits
@@ -166,16 +174,11 @@ half-complemented complemented c None octets blocks left is ok half any none are
 half-complemented complemented c (Some rate) octets blocks left is ok half any none are =
     let w = windows_of c rate in
     let bits = bit_numbers (bits_of octets) in
-    let symbols = sent_for rate (is_inverted rate c.invert) (bits_of octets) in
-    let same : soft_octets c 0 (complemented_octets (symbols_by (Some rate) c (bits_of octets)))
-    ≡ complemented_octets (sure_symbols (settings_of c rate) 0 bits) =
-    ap (map (soft_value c)) (drop-none c.skip (complemented_octets (levels (low_level c.soft) symbols)) none)
-    ∙ values-complemented c symbols in
     let it = complemented (settings_of c rate) 0 bits blocks left ok.some_keep
     (AreBits-bit_numbers (bits_of octets)) any
     (half-rate c rate is half) (omega arith) (some-steps octets)
     (blocks-complemented w.seen w 0 bits blocks left (AreBits-bit_numbers (bits_of octets)) (omega arith)
-    (subst (λ (l : List ℕ). AreBlocksIn w l blocks left) same are)) in
+    (subst (λ (l : List ℕ). AreBlocksIn w l blocks left) (soft-complemented c rate (bits_of octets) none) are)) in
     ap (map (λ bit. bit == 1)) it.kept ∙ numbers-complemented (bits_of octets)
 
 twice-complemented : (item : ItemValue) → complemented_item (complemented_item item) ≡ item
