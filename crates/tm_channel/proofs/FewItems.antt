@@ -31,9 +31,9 @@ use Rattle.tm_channel.specs.Due.{due}
 use Rattle.tm_channel.specs.Handing.{phase_of}
 use Rattle.tm_channel.specs.Most.{AreFew, most_bits, most_bits_at, most_items}
 use Rattle.tm_channel.specs.Receiving.{waiting_bits}
-use Rattle.tm_channel.specs.OctetReceiving.{BitReceiving, Ends, Received, ReceivedLast, Stages, StagesFor, StagesOn, bits_found}
+use Rattle.tm_channel.specs.OctetReceiving.{BitReceiving, Received, ReceivedLast, Stages, StagesFor, StagesOn, bits_found}
 use Rattle.tm_channel.proofs.Batches.{batches-le, length-due}
-use Rattle.tm_channel.proofs.GivenOctets.{IsOf, IsRoomy, ended, further-at, items-ended, turn-items}
+use Rattle.tm_channel.proofs.GivenOctets.{EndsIn, ended, further-at, items-ended, turn-items}
 use Rattle.tm_channel.proofs.SentCodeblocks.{octets-received}
 
 -- ---- the octets of frames
@@ -234,16 +234,17 @@ stages-few s now given octets done more ok same stood on =
 -- at the end
 pub ends-few : {T : Type 0} (took : T → ItemValue → T → Type 0) (s : Stages) (bits_now : BitReceiving)
     (taker middle now : T) (room : ℕ) (phase : Option Chosen) (piece : List Bool) (totals : Totals)
-    → IsAccepted s.inner.config → IsOf s → IsRoomy s 0 room → Ends s.inner room phase piece totals
+    → IsAccepted s.inner.config → EndsIn s room phase piece totals
     → (p : Received took s.bits bits_now taker middle piece) (q : ReceivedLast took bits_now middle now)
     → (given : List ℕ) (done : List (Handed ItemValue)) → StagesFor s given done
     → AreFew s.inner.config 0 (items_of (with_phase phase [] ++ map Item (p.items ++ q.items)))
-ends-few took s bits_now taker middle now room phase piece totals ok of roomy ends p q given done stood =
+ends-few took s bits_now taker middle now room phase piece totals ok at_end p q given done stood =
     let c = s.inner.config in
     let bits = inner_bits c given (items_of stood.handed) in
-    let e = ends given stood.handed stood.waiting (omega (arith, stood.few, roomy)) stood.inner stood.are_due in
-    let items = items-ended took s bits_now taker middle now piece of p q given done stood
-    (ended s given done stood room phase piece totals roomy ends).few in
+    let roomy = at_end.roomy in
+    let e = at_end.ends given stood.handed stood.waiting (omega (arith, stood.few, roomy)) stood.inner stood.are_due in
+    let items = items-ended took s bits_now taker middle now piece at_end.of p q given done stood
+    (ended s given done stood room phase piece totals at_end).few in
     let few = last-few c.inner c given (items_of stood.handed) (items_of e.last) piece
     (ap (inner_bits c given) (sym (items_of-append stood.handed e.last)) ∙ e.bits)
     (omega (

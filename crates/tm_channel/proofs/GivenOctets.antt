@@ -847,6 +847,12 @@ chosen-at_end r now chosen view same is =
     (λ given done stood _. subst (λ (k : Configuration). IsChosen k given chosen) same
     (is given stood.handed stood.inner))
 
+-- stages of one configuration end, and what the first one gives then finds room
+pub record EndsIn (s : Stages) (room : ℕ) (phase : Option Chosen) (piece : List Bool) (totals : Totals) : Type 0 where
+  pub of : IsOf s
+  pub roomy : IsRoomy s 0 room
+  pub ends : Ends s.inner room phase piece totals
+
 -- the phase and the bits of the end of the octets
 pub record Ended (s : Stages) (given : List ℕ) (done : List (Handed ItemValue)) (stood : StagesFor s given done)
     (phase : Option Chosen) (piece : List Bool) (totals : Totals) : Type 0 where
@@ -861,12 +867,12 @@ pub record Ended (s : Stages) (given : List ℕ) (done : List (Handed ItemValue)
       ≡ with_phase chosen (stood.items ++ others)
 
 pub ended : (s : Stages) (given : List ℕ) (done : List (Handed ItemValue)) (stood : StagesFor s given done) (room : ℕ)
-    (phase : Option Chosen) (piece : List Bool) (totals : Totals) → IsRoomy s 0 room
-    → Ends s.inner room phase piece totals
+    (phase : Option Chosen) (piece : List Bool) (totals : Totals) → EndsIn s room phase piece totals
     → Ended s given done stood phase piece totals
-ended s given done stood room phase piece totals roomy ends =
+ended s given done stood room phase piece totals at_end =
     let c = s.inner.config in
-    let e = ends given stood.handed stood.waiting (omega (arith, stood.few, roomy)) stood.inner stood.are_due in
+    let roomy = at_end.roomy in
+    let e = at_end.ends given stood.handed stood.waiting (omega (arith, stood.few, roomy)) stood.inner stood.are_due in
     let h = e.are_handed in
     let handed = stood.handed ++ e.last in
     let blocks = turn-items h.chosen h.items handed h.are in
@@ -917,13 +923,13 @@ items-ended took s bits_now taker middle now piece of p q given done stood few =
 
 pub ends : {T : Type 0} (took : T → ItemValue → T → Type 0) (s : Stages) (bits_now : BitReceiving)
     (taker middle now : T) (room : ℕ) (phase : Option Chosen) (piece : List Bool) (totals : Totals)
-    → IsOf s → IsRoomy s 0 room → Ends s.inner room phase piece totals
+    → EndsIn s room phase piece totals
     → (p : Received took s.bits bits_now taker middle piece) (q : ReceivedLast took bits_now middle now)
     → (given : List ℕ) (done : List (Handed ItemValue)) → StagesFor s given done
     → AreReceived s.inner.config given (done ++ (with_phase phase [] ++ map Item (p.items ++ q.items))) totals
-ends took s bits_now taker middle now room phase piece totals of roomy ended_with p q given done stood =
+ends took s bits_now taker middle now room phase piece totals at_end p q given done stood =
     let c = s.inner.config in
-    let e = ended s given done stood room phase piece totals roomy ended_with in
+    let e = ended s given done stood room phase piece totals at_end in
     record {
       chosen = e.chosen;
       choice = e.choice;
@@ -933,7 +939,7 @@ ends took s bits_now taker middle now room phase piece totals of roomy ended_wit
         e.inner,
         e.counted,
         subst (λ (l : List Bool). AreItems c l (stood.items ++ (p.items ++ q.items))) (sym e.is)
-            (items-ended took s bits_now taker middle now piece of p q given done stood e.few),
+            (items-ended took s bits_now taker middle now piece at_end.of p q given done stood e.few),
       );
       are = e.turn (p.items ++ q.items);
     }
@@ -963,13 +969,13 @@ ends-first s phase piece totals given done stood e tried first =
     }
 
 -- the taker failed at the phase
-pub ends-phase : (s : Stages) (room : ℕ) (phase : Option Chosen) (piece : List Bool) (totals : Totals) → IsOf s
-    → IsRoomy s 0 room → Ends s.inner room phase piece totals
+pub ends-phase : (s : Stages) (room : ℕ) (phase : Option Chosen) (piece : List Bool) (totals : Totals)
+    → EndsIn s room phase piece totals
     → (given : List ℕ) (done : List (Handed ItemValue)) → StagesFor s given done
     → AreReceivedPrefix s.inner.config given (done ++ with_phase phase [])
-ends-phase s room phase piece totals of roomy ended_with given done stood =
+ends-phase s room phase piece totals at_end given done stood =
     let c = s.inner.config in
-    let e = ended s given done stood room phase piece totals roomy ended_with in
+    let e = ended s given done stood room phase piece totals at_end in
     let bits = inner_bits c given (items_of stood.handed) in
     subst (λ (l : List (Handed ItemValue)). AreReceivedPrefix c given (done ++ l)) (append-nil (with_phase phase []))
     (ends-first s phase piece totals given done stood e [] (first-of-more c bits piece stood.items [] stood.are_items
@@ -978,34 +984,35 @@ ends-phase s room phase piece totals of roomy ended_with given done stood =
 -- it failed at one of the items that are due with the last bits
 pub ends-part : {T : Type 0} (took broke : T → ItemValue → T → Type 0) (s : Stages) (bits_now : BitReceiving)
     (taker now : T) (room : ℕ) (phase : Option Chosen) (piece : List Bool) (totals : Totals)
-    → IsOf s → IsRoomy s 0 room → Ends s.inner room phase piece totals
+    → EndsIn s room phase piece totals
     → (p : ReceivedPart took broke s.bits bits_now taker now piece)
     → (given : List ℕ) (done : List (Handed ItemValue)) → StagesFor s given done
     → AreReceivedPrefix s.inner.config given (done ++ (with_phase phase [] ++ map Item p.tried))
-ends-part took broke s bits_now taker now room phase piece totals of roomy ended_with p given done stood =
+ends-part took broke s bits_now taker now room phase piece totals at_end p given done stood =
     let c = s.inner.config in
-    let e = ended s given done stood room phase piece totals roomy ended_with in
+    let e = ended s given done stood room phase piece totals at_end in
     let bits = inner_bits c given (items_of stood.handed) in
-    let more = subst (λ (k : Configuration). AreFirstFurther k bits piece p.tried) of (p.first bits e.few stood.bits) in
+    let more = subst (λ (k : Configuration). AreFirstFurther k bits piece p.tried) at_end.of
+    (p.first bits e.few stood.bits) in
     ends-first s phase piece totals given done stood e p.tried
     (first-of-more c bits piece stood.items p.tried stood.are_items more)
 
 -- it failed at one of the last items
 pub ends-prefix : {T : Type 0} (took broke : T → ItemValue → T → Type 0) (s : Stages) (bits_now : BitReceiving)
     (taker middle now : T) (room : ℕ) (phase : Option Chosen) (piece : List Bool) (totals : Totals)
-    → IsOf s → IsRoomy s 0 room → Ends s.inner room phase piece totals
+    → EndsIn s room phase piece totals
     → (p : Received took s.bits bits_now taker middle piece) (q : ReceivedLastPart took broke bits_now middle now)
     → (given : List ℕ) (done : List (Handed ItemValue)) → StagesFor s given done
     → AreReceivedPrefix s.inner.config given (done ++ (with_phase phase [] ++ map Item (p.items ++ q.tried)))
-ends-prefix took broke s bits_now taker middle now room phase piece totals of roomy ended_with p q given done stood =
+ends-prefix took broke s bits_now taker middle now room phase piece totals at_end p q given done stood =
     let c = s.inner.config in
-    let e = ended s given done stood room phase piece totals roomy ended_with in
+    let e = ended s given done stood room phase piece totals at_end in
     let bits = inner_bits c given (items_of stood.handed) in
-    let more = subst (λ (k : Configuration). AreFurther k bits piece p.items) of (p.due bits e.few stood.bits) in
+    let more = subst (λ (k : Configuration). AreFurther k bits piece p.items) at_end.of (p.due bits e.few stood.bits) in
     let due_items = due-further c bits piece stood.items p.items stood.are_items more in
     let last = subst (λ (k : Configuration). AreFirstItemsOf k (bits ++ piece)
     (beyond (due k (bits ++ piece)) (places (rules_of k) (bits ++ piece))) q.tried)
-    (p.config ∙ of) (q.first (bits ++ piece) (p.stands bits e.few stood.bits)) in
+    (p.config ∙ at_end.of) (q.first (bits ++ piece) (p.stands bits e.few stood.bits)) in
     let items = some-items c (bits ++ piece) (stood.items ++ p.items) q.tried
     (subst (λ (fs : List Found). AreItemsOf c (bits ++ piece) fs (stood.items ++ p.items))
     (sym (beyond-nil c (due c (bits ++ piece)))) due_items) last in

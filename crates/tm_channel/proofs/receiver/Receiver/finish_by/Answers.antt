@@ -1,4 +1,4 @@
-use Rattle.std.proofs.Common.{◌==◌, ◌++◌, ◌+◌, ◌*◌, ◌≤◌, ◌∙◌, arith, ℕ, List, [], map, sym, subst, Result, Ok, Err, IfOk, IsErrOf}
+use Rattle.std.proofs.Common.{◌≡◌, ◌==◌, ◌++◌, ◌+◌, ◌*◌, ◌≤◌, ◌∙◌, arith, ℕ, List, [], map, refl, sym, subst, Result, Ok, Err, IfOk, IsErrOf}
 use Rattle.tm_base.specs.Handed.{Handed, Item, items_of, on_handed}
 use Rattle.tm_base.specs.Takers.{HandedPart}
 use Rattle.tm_base.proofs.Handing.{HandedOver-append, HandedPart-after}
@@ -15,13 +15,28 @@ use Rattle.tm_channel.specs.declared.totals.Totals.{Totals}
 use Rattle.tm_channel.specs.declared.receiver.RecvError.{RecvError}
 use Rattle.tm_channel.specs.declared.receiver.RecvError.TheVariants.{Taker}
 use Rattle.tm_channel.proofs.FewItems.{ends-few}
-use Rattle.tm_channel.proofs.GivenOctets.{chosen-at_end, ends, ends-prefix, ends-part, ends-phase}
+use Rattle.tm_channel.proofs.GivenOctets.{EndsIn, chosen-at_end, ends, ends-prefix, ends-part, ends-phase}
+use Rattle.tm_channel.proofs.receiver.Receiver.finish_by.Given.{Over}
 use Rattle.tm_channel.proofs.receiver.Receiver.finish_by.Goals as goal
-use Rattle.tm_channel.proofs.receiver.Receiver.finish_by.Goals.{in-Ok-hand_last, in-Err-hand_last}
+use Rattle.tm_channel.proofs.receiver.Receiver.finish_by.Goals.{After-end-totals, in-Ok-hand_last, in-Err-hand_last}
 
 -- there is room for the end, which has no further octets
 roomy : (room spare window : ℕ) → spare + (3 * window + 7) + 4096 ≤ room → spare + (3 * window + 7) + 0 ≤ room
 roomy room spare window most = omega arith
+
+-- the stages end
+at_end : (g : Over) (c : After-end-totals g) (bits : List ℕ) → c.end-totals.new.kept.bits ≡ bits
+    → EndsIn (record { inner = c.self.inside.inner; bits = c.self.inside.stream }) c.self.inside.kept.size
+    c.end-totals.new.kept.phase (map (λ bit. bit == 1) bits) c.end-totals.result
+at_end g c bits is =
+    let s = c.self.inside in
+    record {
+      of = c.self.invariant.1 ∙ sym c.self.invariant.0;
+      roomy = roomy s.kept.size (waiting_bits s.inner.config s.inner.config.batch)
+          (s.inner.config.keep + s.inner.config.ahead) c.self.invariant.3;
+      ends = subst (λ (l : List ℕ). Ends s.inner s.kept.size c.end-totals.new.kept.phase (map (λ bit. bit == 1) l)
+          c.end-totals.result) is c.end-totals.ensures.ends;
+    }
 
 -- the taker failed at the phase
 pub returns-in-Err-clause-prefix : goal.returns-in-Err-clause-prefix
@@ -40,9 +55,7 @@ returns-in-Err-clause-prefix g c = λ _.
       λ given done stood. subst (λ (k : Configuration). AreReceivedPrefix k given (done ++ with_phase kept.phase []))
           c.self.invariant.0
           (ends-phase stages s.kept.size kept.phase (map (λ bit. bit == 1) kept.bits) c.end-totals.result
-          (c.self.invariant.1 ∙ sym c.self.invariant.0)
-          (roomy s.kept.size (waiting_bits s.inner.config s.inner.config.batch)
-          (s.inner.config.keep + s.inner.config.ahead) c.self.invariant.3) c.end-totals.ensures.ends given done
+          (at_end g (goal.at.returns-in-Err-clause-prefix g c).After-end-totals kept.bits refl) given done
           stood),
     )
 
@@ -59,8 +72,8 @@ returns-in-Err-take_bits-clause-prefix g c = λ _.
     let phase = c.end-totals.new.kept.phase in
     let piece = map (λ bit. bit == 1) c.bits.result.now in
     let totals = c.end-totals.result in
-    let over = subst (λ (l : List ℕ). Ends s.inner s.kept.size phase (map (λ bit. bit == 1) l) totals)
-    (sym c.bits.ensures) c.end-totals.ensures.ends in
+    let over = at_end g (goal.at.returns-in-Err-take_bits-clause-prefix g c).After-end-totals
+    c.bits.result.now (sym c.bits.ensures) in
     let p = c.in-Err-take_bits.ensures.part in
     let tried = with_phase phase [] ++ map Item p.tried in
     subst (λ (r : OctetReceiving). (tried : List (Handed ItemValue)) × HandedPart took broke start tried middle
@@ -73,9 +86,7 @@ returns-in-Err-take_bits-clause-prefix g c = λ _.
       λ given done stood. subst (λ (k : Configuration). AreReceivedPrefix k given (done ++ tried)) c.self.invariant.0
           (ends-part g.T.ItemTaker.took g.T.ItemTaker.broke stages c.take_bits.new.stream first middle s.kept.size
           phase piece totals
-          (c.self.invariant.1 ∙ sym c.self.invariant.0) (roomy s.kept.size
-          (waiting_bits s.inner.config s.inner.config.batch)
-          (s.inner.config.keep + s.inner.config.ahead) c.self.invariant.3) over p given done stood),
+          over p given done stood),
     )
 
 pub returns-clause-handed : goal.returns-clause-handed
@@ -94,8 +105,8 @@ returns-clause-handed g c =
     let phase = c.end-totals.new.kept.phase in
     let piece = map (λ bit. bit == 1) c.bits.result.now in
     let totals = c.end-totals.result in
-    let over = subst (λ (l : List ℕ). Ends s.inner s.kept.size phase (map (λ bit. bit == 1) l) totals)
-    (sym c.bits.ensures) c.end-totals.ensures.ends in
+    let over = at_end g (goal.at.returns-clause-handed g c).After-end-totals
+    c.bits.result.now (sym c.bits.ensures) in
     let p = c.in-Ok-take_bits.ensures.handed in
     let ok = subst IsAccepted (sym c.self.invariant.0) c.self.invariant.4 in
     let Said : OctetReceiving → Result Totals RecvError → Type 0 =
@@ -115,15 +126,11 @@ returns-clause-handed g c =
                 c.self.invariant.0
                 (ends g.T.ItemTaker.took before.stages c.take_bits.new.stream first middle last s.kept.size phase
                 piece totals
-                (c.self.invariant.1 ∙ sym c.self.invariant.0)
-                (roomy s.kept.size (waiting_bits s.inner.config s.inner.config.batch)
-                (s.inner.config.keep + s.inner.config.ahead) c.self.invariant.3) over p q given done stood),
+                over p q given done stood),
             λ given done stood. subst (λ (k : Configuration). AreFew k 0 (items_of all)) c.self.invariant.0
                 (ends-few g.T.ItemTaker.took before.stages c.take_bits.new.stream first middle last s.kept.size phase
                 piece totals ok
-                (c.self.invariant.1 ∙ sym c.self.invariant.0)
-                (roomy s.kept.size (waiting_bits s.inner.config s.inner.config.batch)
-                (s.inner.config.keep + s.inner.config.ahead) c.self.invariant.3) over p q given done stood),
+                over p q given done stood),
           ) in
           subst (Said before) (sym w.result-is) said
           )
@@ -147,8 +154,8 @@ returns-clause-prefix g c =
     let phase = c.end-totals.new.kept.phase in
     let piece = map (λ bit. bit == 1) c.bits.result.now in
     let totals = c.end-totals.result in
-    let over = subst (λ (l : List ℕ). Ends s.inner s.kept.size phase (map (λ bit. bit == 1) l) totals)
-    (sym c.bits.ensures) c.end-totals.ensures.ends in
+    let over = at_end g (goal.at.returns-clause-prefix g c).After-end-totals
+    c.bits.result.now (sym c.bits.ensures) in
     let p = c.in-Ok-take_bits.ensures.handed in
     let Said : OctetReceiving → Result Totals RecvError → Type 0 = λ r result. IsErrOf result Taker
     → (tried : List (Handed ItemValue)) × HandedPart took broke start tried last
@@ -172,9 +179,7 @@ returns-clause-prefix g c =
             λ given done stood. subst (λ (k : Configuration). AreReceivedPrefix k given (done ++ tried))
                 c.self.invariant.0
                 (ends-prefix g.T.ItemTaker.took g.T.ItemTaker.broke before.stages c.take_bits.new.stream first middle
-                last s.kept.size phase piece totals (c.self.invariant.1 ∙ sym c.self.invariant.0)
-                (roomy s.kept.size (waiting_bits s.inner.config s.inner.config.batch)
-                (s.inner.config.keep + s.inner.config.ahead) c.self.invariant.3) over p q given done stood),
+                last s.kept.size phase piece totals over p q given done stood),
           ) in
           subst (Said before) (sym w.result-is) said
           )
