@@ -1,9 +1,10 @@
 use Rattle.std.proofs.Common.{rules, arith, ◌≡◌, ◌++◌, length, take, nat_le, ◌^◌, ap, sym, subst, false}
 use Rattle.tm_config.specs.Configuration.{Configuration}
 use Rattle.tm_inner.specs.Handing.{AreHandedDue}
-use Rattle.tm_inner.specs.Receiving.{InnerReceiving, InnerReceiverStandsFor}
+use Rattle.tm_inner.specs.Receiving.{InnerReceiving}
 use Rattle.tm_inner.proofs.HandedBits.{handed-more-few, needed-few}
 use Rattle.tm_buffers.specs.declared.buffer_bits.BufferBits.{BufferBits}
+use Rattle.tm_buffers.specs.Decoding.{IsDecoding}
 use Rattle.tm_buffers.proofs.Needed.{needed}
 use Rattle.tm_buffers.proofs.KeptBits.{kept-all, kept-fills}
 use Rattle.tm_buffers.proofs.buffer_decoder.BufferDecoder.feed.Goals as goal
@@ -13,21 +14,19 @@ pub returns-clause-decoded : goal.returns-clause-decoded
 returns-clause-decoded c = λ given done few is room.
     let inner = c.self.inside.inner in
     let now = c.feed-fed.new.self in
-    let stood = subst (λ (d : InnerReceiving). InnerReceiverStandsFor d given done) (sym c.self.view_is) is.stands in
-    let due = subst (λ (d : InnerReceiving). AreHandedDue d.config given done) (sym c.self.view_is) is.due in
+    let at = subst (λ (d : InnerReceiving). IsDecoding d given done) (sym c.self.view_is) is in
     let keep = ap (λ (d : InnerReceiving). d.config.keep) c.self.view_is in
     let ahead = ap (λ (d : InnerReceiving). d.config.ahead) c.self.view_is in
-    let going : inner.has_stopped ≡ false = subst (λ (d : InnerReceiving). d.has_stopped ≡ false)
-    (sym c.self.view_is) is.going in
+    let going : inner.has_stopped ≡ false = at.going in
     elim c.match-fed.branch [
       | in-Ok w ↦
           let h = w.in-Ok.ensures.handed in
-          let there = h.2 given done few stood in
+          let there = h.2 given done few at.stands in
           let taker = c.feed-fed.new.blocks in
           let kept = kept-all (λ (b : BufferBits). b.buffer.ghost_name) (λ b. length b.buffer.now)
           (λ b. take b.count b.buffer.now) _ taker h.0 h.1 in
           let loan : taker.buffer.ghost_name ≡ _ = kept.loan in
-          let most = handed-more-few inner.config given c.args.octets.now done h.0 due there.1 in
+          let most = handed-more-few inner.config given c.args.octets.now done h.0 at.due there.1 in
           let on : now.has_stopped ≡ false = search rules in
           let due_now = subst (λ (k : Configuration). AreHandedDue k (given ++ c.args.octets.now) (done ++ h.0))
           (sym w.in-Ok.ensures.config) there.1 in
