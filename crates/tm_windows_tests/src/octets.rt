@@ -10,7 +10,7 @@ pub enum Kind {
     Noisy,
     /// Drawn octets, which no path fits, so that a register is often guessed wrong.
     Drawn,
-    /// Octets at which every symbol ties.
+    /// Octets that say next to nothing of their symbols, so that many paths tie.
     Ties,
 }
 
@@ -33,7 +33,7 @@ fn soft(kind: Kind, symbol: bool, x: u64) -> u8 {
             }
         }
         Kind::Drawn => (x >> 56) as u8,
-        Kind::Ties => 127,
+        Kind::Ties => 127 + (x >> 40 & 1) as u8,
     }
 }
 
