@@ -82,7 +82,7 @@ static void receive(const tmchan_config *config, const uint8_t *given, size_t gi
             expect(most >= 0 && frames_length == (uint64_t)most * size, "a room has a wrong answer");
             uint8_t *frames = room(frames_length);
             tmchan_report *reports = room(most * sizeof *reports);
-            if (ending) expect(tmchan_receiver_slips(&receiver, &slips) == 0, "no slips are told");
+            if (ending) expect(tmchan_receiver_slips(&receiver, &slips) == 0, "no slips are answered");
             int64_t answer = ending ? tmchan_receiver_finish(&receiver, frames, frames_length, reports, most, &totals, &phase)
                                     : tmchan_receiver_push(&receiver, octets, length, frames, frames_length, reports, most);
             expect(answer >= 0 && answer <= most, "the receiver refuses");
