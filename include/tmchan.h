@@ -1,27 +1,32 @@
-/* libtmchan: a CCSDS 131.0-B (TM Synchronization and Channel Coding) link for programs in C. Calls that keep nothing: Reed-Solomon codes,
- * pseudo-randomizer (scrambler), columns of a codeblock (interleaving), channel access data units (CADUs). Streams: a sender, a soft decoder of
- * the convolutional code, a search for sync markers, and a whole receiver.
+/* libtmchan: a CCSDS 131.0-B (TM Synchronization and Channel Coding) link for programs in C. Calls that keep nothing:
+ * Reed-Solomon codes, pseudo-randomizer (scrambler), columns of a codeblock (interleaving), channel access data units
+ * (CADUs). Streams: a sender, a soft decoder of the convolutional code, a search for sync markers, and a whole
+ * receiver.
  *
- * The library is proved in Rattle: what each call writes and answers is a clause of it, for every value that can be passed
- * (docs/PROMISES.md, "The C library").
+ * The library is proved in Rattle: what each call writes and answers is a clause of it, for every value that can be
+ * passed (docs/PROMISES.md, "The C library").
  *
  * What holds of every call
  *
- * - It starts no thread and calls nothing outside but memcpy, memmove, memset, and where it is said malloc, realloc and free. Calls that are
- *   passed different handles, or none, may be made by different threads at the same time; a handle is passed to one call at a time.
- * - An array is passed as a pointer followed by its length, in octets, and of reports in reports. A call reads and writes nothing beyond it.
- * - Any length may be passed, 0 too, and any number. What does not fit is answered by a negative number, and nothing is written then, but by
- *   a receiver's push and finish what had room (TMCHAN_ROOM).
- * - What the caller owes, since no call can test it: a pointer is never null, not even where the length is 0; the memory that it points to
- *   is readable, or writable where it is not const, for the length passed; an array that a call writes overlaps no other array of that call.
+ * - It starts no thread and calls nothing outside but memcpy, memmove, memset, and where it is said malloc, realloc
+ *   and free. Calls that are passed different handles, or none, may be made by different threads at the same time; a
+ *   handle is passed to one call at a time.
+ * - An array is passed as a pointer followed by its length, in octets, and of reports in reports. A call reads and
+ *   writes nothing beyond it.
+ * - Any length may be passed, 0 too, and any number. What does not fit is answered by a negative number, and nothing
+ *   is written then, but by a receiver's push and finish what had room (TMCHAN_ROOM).
+ * - What the caller owes, since no call can test it: a pointer is never null, not even where the length is 0; the
+ *   memory that it points to is readable, or writable where it is not const, for the length passed; an array that a
+ *   call writes overlaps no other array of that call.
  *
  * Octets and bits: octet 0 of an array is sent first, and of each octet the most significant bit.
  *
  * Numbers that calls take
  *
- * - code: how many wrong symbols of a codeword the code corrects, E below: TMCHAN_RS16 for the (255,223) code, TMCHAN_RS8 for the
- *   (255,239) code. A symbol is an octet. A codeword ends with 2E check symbols.
- * - basis: TMCHAN_DUAL for the dual basis of CCSDS 131.0-B, TMCHAN_POLYNOMIAL for the polynomial ("conventional") basis.
+ * - code: how many wrong symbols of a codeword the code corrects, E below: TMCHAN_RS16 for the (255,223) code,
+ *   TMCHAN_RS8 for the (255,239) code. A symbol is an octet. A codeword ends with 2E check symbols.
+ * - basis: TMCHAN_DUAL for the dual basis of CCSDS 131.0-B, TMCHAN_POLYNOMIAL for the polynomial ("conventional")
+ *   basis.
  * - depth: the interleaving depth I. Octet m of a codeblock belongs to column m mod I, and each column is a codeword.
  *
  * A shortened codeword has fewer than 255 octets: the virtual fill, zeros before the data, is never passed.
@@ -36,9 +41,9 @@
 extern "C" {
 #endif
 
-/* The version that this header describes: 65,536 times the first number, 256 times the second, and the third. While the first is 0, a program
- * is compiled anew for each second number: in 0.2 tmchan_config and tmchan_search are longer, and the calls of a search and
- * tmchan_receiver_finish take other arguments than in 0.1. */
+/* The version that this header describes: 65,536 times the first number, 256 times the second, and the third. While
+ * the first is 0, a program is compiled anew for each second number: in 0.2 tmchan_config and tmchan_search are
+ * longer, and the calls of a search and tmchan_receiver_finish take other arguments than in 0.1. */
 #define TMCHAN_VERSION 0x000200
 
 /* The codes. TMCHAN_NO_CODE is for tmchan_cadu and tmchan_cadu_length alone. */
@@ -50,8 +55,8 @@ extern "C" {
 #define TMCHAN_DUAL 0
 #define TMCHAN_POLYNOMIAL 1
 
-/* Answers below 0. Each call lists its own; where several apply it gives the first of its list. After any of them all arrays are as they
- * were, but for those of a receiver's push or finish after TMCHAN_ROOM. */
+/* Answers below 0. Each call lists its own; where several apply it gives the first of its list. After any of them all
+ * arrays are as they were, but for those of a receiver's push or finish after TMCHAN_ROOM. */
 #define TMCHAN_BEYOND (-1)      /* uncorrectable: no codeword is within the repair bound. No mistake of the caller */
 #define TMCHAN_ROOM (-2)        /* the length of an array does not fit those of the others, or the code */
 #define TMCHAN_FLAGS (-3)       /* there are not as many flags as symbols */
@@ -87,95 +92,108 @@ uint32_t tmchan_version(void);
 
 /* Reed-Solomon codes */
 
-/* Writes the 2E check octets of data octets to checks: the data followed by the checks are the one codeword, in this basis, that begins
- * with the data. data_length is 1 to 255 - 2E, checks_length is 2E.
+/* Writes the 2E check octets of data octets to checks: the data followed by the checks are the one codeword, in this
+ * basis, that begins with the data. data_length is 1 to 255 - 2E, checks_length is 2E.
  *
  * Answers 0; TMCHAN_BAD_CODE, TMCHAN_BAD_LENGTH (of the data), TMCHAN_BAD_BASIS, TMCHAN_ROOM (of the checks). */
-int32_t tmchan_rs_encode(uint32_t code, uint32_t basis, const uint8_t *data, size_t data_length, uint8_t *checks, size_t checks_length);
+int32_t tmchan_rs_encode(uint32_t code, uint32_t basis, const uint8_t *data, size_t data_length, uint8_t *checks,
+                         size_t checks_length);
 
-/* Repairs a word, 2E + 1 to 255 octets, in place: where a codeword differs from it in at most `repair` octets, it becomes that codeword.
- * There is at most one. repair is 0 to E; 0 says whether the word is a codeword.
+/* Repairs a word, 2E + 1 to 255 octets, in place: where a codeword differs from it in at most `repair` octets, it
+ * becomes that codeword. There is at most one. repair is 0 to E; 0 says whether the word is a codeword.
  *
  * Answers the number of octets that were wrong, 0 to repair; TMCHAN_BEYOND where there is no such codeword;
  * TMCHAN_BAD_CODE, TMCHAN_BAD_LENGTH (of the word), TMCHAN_BAD_BASIS, TMCHAN_BAD_REPAIR. */
 int32_t tmchan_rs_decode(uint32_t code, uint32_t basis, uint32_t repair, uint8_t *word, size_t word_length);
 
-/* The same where some octets are known to be lost. erased has a flag for each octet of the word: 0 where it is good, any other number
- * where it is erased; what stands at an erased octet does not matter. The word becomes the codeword that differs from it in at most
- * `repair` octets that are not erased, where twice their number and the number of erased octets are at most 2E together. There is at most
- * one.
+/* The same where some octets are known to be lost. erased has a flag for each octet of the word: 0 where it is good,
+ * any other number where it is erased; what stands at an erased octet does not matter. The word becomes the codeword
+ * that differs from it in at most `repair` octets that are not erased, where twice their number and the number of
+ * erased octets are at most 2E together. There is at most one.
  *
- * Answers the number of octets that were wrong, erased or not (an erased octet that was right is not counted), 0 to 2E; TMCHAN_BEYOND where
- * there is no such codeword; TMCHAN_BAD_CODE, TMCHAN_BAD_LENGTH (of the word), TMCHAN_BAD_BASIS, TMCHAN_BAD_REPAIR, TMCHAN_FLAGS. */
-int32_t tmchan_rs_decode_erased(uint32_t code, uint32_t basis, uint32_t repair, uint8_t *word, size_t word_length, const uint8_t *erased,
-                                size_t erased_length);
+ * Answers the number of octets that were wrong, erased or not (an erased octet that was right is not counted), 0 to
+ * 2E; TMCHAN_BEYOND where there is no such codeword; TMCHAN_BAD_CODE, TMCHAN_BAD_LENGTH (of the word),
+ * TMCHAN_BAD_BASIS, TMCHAN_BAD_REPAIR, TMCHAN_FLAGS. */
+int32_t tmchan_rs_decode_erased(uint32_t code, uint32_t basis, uint32_t repair, uint8_t *word, size_t word_length,
+                                const uint8_t *erased, size_t erased_length);
 
 /* Codeblocks */
 
-/* Adds the pseudo-random sequence to a codeblock modulo 2, from the sequence's start, in place. A second call takes it off again. Any
- * length will do; the sequence repeats after 255 octets. */
+/* Adds the pseudo-random sequence to a codeblock modulo 2, from the sequence's start, in place. A second call takes
+ * it off again. Any length will do; the sequence repeats after 255 octets. */
 void tmchan_randomize(uint8_t *block, size_t block_length);
 
-/* Copies column `index`, from 0, of a codeblock of this depth to word. block_length is depth times word_length. Any depth will do.
+/* Copies column `index`, from 0, of a codeblock of this depth to word. block_length is depth times word_length. Any
+ * depth will do.
  *
  * Answers 0; TMCHAN_COLUMN, TMCHAN_ROOM. */
-int32_t tmchan_take_column(uint32_t depth, uint32_t index, const uint8_t *block, size_t block_length, uint8_t *word, size_t word_length);
+int32_t tmchan_take_column(uint32_t depth, uint32_t index, const uint8_t *block, size_t block_length, uint8_t *word,
+                           size_t word_length);
 
-/* Replaces column `index`, from 0, of a codeblock of this depth by word; no other column changes. block_length is depth times word_length.
- * Any depth will do.
+/* Replaces column `index`, from 0, of a codeblock of this depth by word; no other column changes. block_length is
+ * depth times word_length. Any depth will do.
  *
  * Answers 0; TMCHAN_COLUMN, TMCHAN_ROOM. */
-int32_t tmchan_put_column(uint32_t depth, uint32_t index, uint8_t *block, size_t block_length, const uint8_t *word, size_t word_length);
+int32_t tmchan_put_column(uint32_t depth, uint32_t index, uint8_t *block, size_t block_length, const uint8_t *word,
+                          size_t word_length);
 
 /* Channel access data units */
 
-/* How many octets the CADU of a frame has: four of the attached sync marker, the frame, and 2E check octets for each column.
- * frame_length is a multiple of the depth, 1 to 255 - 2E times it; with TMCHAN_NO_CODE it is 1 to 2,040.
+/* How many octets the CADU of a frame has: four of the attached sync marker, the frame, and 2E check octets for each
+ * column. frame_length is a multiple of the depth, 1 to 255 - 2E times it; with TMCHAN_NO_CODE it is 1 to 2,040.
  *
  * Answers that number, at most 2,044; TMCHAN_BAD_CODE, TMCHAN_BAD_DEPTH, TMCHAN_BAD_LENGTH. */
 int32_t tmchan_cadu_length(uint32_t code, uint32_t depth, size_t frame_length);
 
-/* Writes the CADU of a frame: the attached sync marker 1A CF FC 1D and the codeblock, whose columns are the codewords that begin with the
- * frame's columns, randomized where randomize is 1, and not where it is 0. With TMCHAN_NO_CODE the codeblock is the frame, and the basis
- * has no effect. cadu_length is what tmchan_cadu_length answers.
+/* Writes the CADU of a frame: the attached sync marker 1A CF FC 1D and the codeblock, whose columns are the codewords
+ * that begin with the frame's columns, randomized where randomize is 1, and not where it is 0. With TMCHAN_NO_CODE
+ * the codeblock is the frame, and the basis has no effect. cadu_length is what tmchan_cadu_length answers.
  *
- * Answers 0; TMCHAN_BAD_CODE, TMCHAN_BAD_DEPTH, TMCHAN_BAD_LENGTH (of the frame), TMCHAN_BAD_SWITCH, TMCHAN_BAD_BASIS, TMCHAN_ROOM (of the
- * CADU). */
-int32_t tmchan_cadu(uint32_t code, uint32_t depth, uint32_t basis, uint32_t randomize, const uint8_t *frame, size_t frame_length, uint8_t *cadu,
-                    size_t cadu_length);
+ * Answers 0; TMCHAN_BAD_CODE, TMCHAN_BAD_DEPTH, TMCHAN_BAD_LENGTH (of the frame), TMCHAN_BAD_SWITCH,
+ * TMCHAN_BAD_BASIS, TMCHAN_ROOM (of the CADU). */
+int32_t tmchan_cadu(uint32_t code, uint32_t depth, uint32_t basis, uint32_t randomize, const uint8_t *frame,
+                    size_t frame_length, uint8_t *cadu, size_t cadu_length);
 
 /* Configurations */
 
 /* The value of an option that is left to the library: of length, invert and repair alone. */
 #define TMCHAN_UNSET UINT64_MAX
 
-/* The options of a link, as those of the command line: which numbers each takes, and what the defaults are. A number outside is answered by the
- * option's TMCHAN_BAD_.., the first in the order in which they stand here (but invert and randomize are tested together). */
+/* The options of a link, as those of the command line: which numbers each takes, and what the defaults are. A number
+ * outside is answered by the option's TMCHAN_BAD_.., the first in the order in which they stand here (but invert and
+ * randomize are tested together). */
 typedef struct {
     uint64_t code;      /* TMCHAN_RS16 (default), TMCHAN_RS8 or TMCHAN_NO_CODE */
     uint64_t depth;     /* interleaving depth: 1 (default), 2, 3, 4, 5 or 8; 1 alone where there is no code */
-    uint64_t length;    /* octets of a transfer frame: a multiple of the depth, 1 to 255 - 2E times it; with no code 1 to 2,040. TMCHAN_UNSET
-                           (default): the most */
+    uint64_t length;    /* octets of a transfer frame: a multiple of the depth, 1 to 255 - 2E times it; with no code 1
+                           to 2,040. TMCHAN_UNSET (default): the most */
     uint64_t inner;     /* the convolutional code's rate by its digits: 12 (default), 23, 34, 56, 78; 0: none */
-    uint64_t invert;    /* 1: each second symbol of the convolutional code is inverted, 0: not. TMCHAN_UNSET (default): at rate 1/2 alone */
-    uint64_t randomize; /* 1 (default): codeblocks are randomized, 0: not. TMCHAN_BAD_SWITCH is the answer of invert and of randomize */
+    uint64_t invert;    /* 1: each second symbol of the convolutional code is inverted, 0: not. TMCHAN_UNSET
+                           (default): at rate 1/2 alone */
+    uint64_t randomize; /* 1 (default): codeblocks are randomized, 0: not. TMCHAN_BAD_SWITCH is the answer of invert
+                           and of randomize */
     uint64_t basis;     /* TMCHAN_DUAL (default) or TMCHAN_POLYNOMIAL */
     uint64_t tolerance; /* sync threshold: how many of a marker's 32 bits may be wrong, 0 (default) to 8 */
     uint64_t repair;    /* how many symbols of a codeword are repaired at most, 0 to E. TMCHAN_UNSET (default): E */
-    uint64_t soft;      /* soft octets: 0 (default): 0 is the surest 0 and 255 the surest 1; 1: in two's complement, -128 and 127 */
+    uint64_t soft;      /* soft octets: 0 (default): 0 is the surest 0 and 255 the surest 1; 1: in two's complement,
+                           -128 and 127 */
     uint64_t start;     /* the decoder's first path starts from register zero: 0 (default), or from any: 1 */
     uint64_t skip;      /* how many soft octets, or bits with no inner code, are dropped first: 0 (default) to 15 */
-    uint64_t workers;   /* 1 (default) to 64: no thread is started here; with more than 1 tmchan_receiver_room says more */
+    uint64_t workers;   /* 1 (default) to 64: no thread is started here; with more than 1 tmchan_receiver_room says
+                           more */
     uint64_t limit;     /* 1 to 2^40 (default 2^32): has no effect here */
     uint64_t fly;       /* flywheel: how many markers in a row may be missing, 0 (default) to 15 */
     uint64_t keep;      /* steps of a decoder's window that are kept: 64 to 65,536, default 8,192 */
     uint64_t ahead;     /* steps after these: 0 to 4,096, default 256 */
-    uint64_t phase;     /* the symbol phase is given: 0 (default), or to be found: 1, or to be found and followed: 2. Then it is looked at again
-                           before each later window of the decoder, and a few octets are dropped there where symbols were lost or doubled */
+    uint64_t phase;     /* the symbol phase is given: 0 (default), or to be found: 1, or to be found and followed: 2.
+                           Then it is looked at again before each later window of the decoder, and a few octets are
+                           dropped there where symbols were lost or doubled */
     uint64_t polarity;  /* the polarity of the bits is given: 0 (default), or to be found: 1 */
     uint64_t batch;     /* how many codeblocks a receiver repairs and hands over at once: 1 to 32 (default) */
-    uint64_t pack;      /* with no inner code, eight bits make an octet: 1 (default), or each bit is an octet of its own, as symbols are: 0 */
-    uint64_t verify;    /* how many further markers must match before a place that is searched for is taken, 0 (default) to 7 */
+    uint64_t pack;      /* with no inner code, eight bits make an octet: 1 (default), or each bit is an octet of its
+                           own, as symbols are: 0 */
+    uint64_t verify;    /* how many further markers must match before a place that is searched for is taken, 0
+                           (default) to 7 */
 } tmchan_config;
 
 /* Fills in the defaults. */
@@ -189,19 +207,22 @@ int32_t tmchan_frame_length(const tmchan_config *config);
 
 /* Streams
  *
- * A handle begins as {0}, which is closed, and only calls change it. A call that opens it takes all the memory of the stream by malloc; no other
- * call allocates. tmchan_close, and the finish of each kind of stream, close it and give the memory back, so that a handle after either is
- * answered TMCHAN_CLOSED, and may be opened again. Handles may be moved in memory, and not copied.
+ * A handle begins as {0}, which is closed, and only calls change it. A call that opens it takes all the memory of the
+ * stream by malloc; no other call allocates. tmchan_close, and the finish of each kind of stream, close it and give
+ * the memory back, so that a handle after either is answered TMCHAN_CLOSED, and may be opened again. Handles may be
+ * moved in memory, and not copied.
  *
- * What a push writes stands at the start of its arrays; what follows it is left open, and may have changed. How large the arrays have to
- * be a call says before: tmchan_sender_room, tmchan_decoder_room and tmchan_receiver_room; none says it for more than 2^40 elements, and a sender
- * or a decoder takes no more at a time (TMCHAN_ROOM). The octets of a decoder or a receiver in all are to be below 2^60. */
+ * What a push writes stands at the start of its arrays; what follows it is left open, and may have changed. How large
+ * the arrays have to be a call says before: tmchan_sender_room, tmchan_decoder_room and tmchan_receiver_room; none
+ * says it for more than 2^40 elements, and a sender or a decoder takes no more at a time (TMCHAN_ROOM). The octets of
+ * a decoder or a receiver in all are to be below 2^60. */
 typedef struct {
     uint64_t is_open;
     void *at;
 } tmchan_stream;
 
-/* The symbol phase: how many soft octets stand before the first step's symbols, and what the best path after them costs. */
+/* The symbol phase: how many soft octets stand before the first step's symbols, and what the best path after them
+ * costs. */
 typedef struct {
     uint32_t is_chosen; /* 0: not chosen yet, or the phase is given */
     uint32_t skip;
@@ -211,9 +232,9 @@ typedef struct {
 /* Closes a stream of any kind, and drops what was not written yet. Answers 0; TMCHAN_CLOSED. */
 int32_t tmchan_close(tmchan_stream *stream);
 
-/* The sender: the octets of transfer frames in pieces of any length, and the symbols of the CADU of each frame once it is whole: with an inner
- * code an octet for each symbol, 00 and FF (or 80 and 7F in the signed form), and else the octets of the CADU, or with pack = 0 such an octet
- * for each of its bits. */
+/* The sender: the octets of transfer frames in pieces of any length, and the symbols of the CADU of each frame once
+ * it is whole: with an inner code an octet for each symbol, 00 and FF (or 80 and 7F in the signed form), and else the
+ * octets of the CADU, or with pack = 0 such an octet for each of its bits. */
 
 /* For how many symbols a push of so many octets needs room: more than it writes. Answers TMCHAN_BAD_.., TMCHAN_ROOM. */
 int64_t tmchan_sender_room(const tmchan_config *config, size_t octets_length);
@@ -221,14 +242,17 @@ int64_t tmchan_sender_room(const tmchan_config *config, size_t octets_length);
 /* Opens a sender. Answers 0; TMCHAN_OPEN, TMCHAN_BAD_.., TMCHAN_MEMORY. */
 int32_t tmchan_sender_open(tmchan_stream *stream, const tmchan_config *config);
 
-/* Takes the next octets of the frames. Answers how many symbols were written; TMCHAN_CLOSED, TMCHAN_ROOM: nothing was taken then. */
-int64_t tmchan_sender_push(tmchan_stream *stream, const uint8_t *octets, size_t octets_length, uint8_t *symbols, size_t symbols_length);
+/* Takes the next octets of the frames. Answers how many symbols were written; TMCHAN_CLOSED, TMCHAN_ROOM: nothing was
+ * taken then. */
+int64_t tmchan_sender_push(tmchan_stream *stream, const uint8_t *octets, size_t octets_length, uint8_t *symbols,
+                           size_t symbols_length);
 
 /* Closes a sender. Answers how many octets follow the last whole frame, which were not sent; TMCHAN_CLOSED. */
 int64_t tmchan_sender_finish(tmchan_stream *stream);
 
-/* The soft decoder of the convolutional code: soft octets in pieces of any length, and the decoded bits, an octet for each, 0 or 1. With
- * inner = 0 no bit comes. Bits come a window at a time: keep bits once more than keep + ahead steps are there. */
+/* The soft decoder of the convolutional code: soft octets in pieces of any length, and the decoded bits, an octet for
+ * each, 0 or 1. With inner = 0 no bit comes. Bits come a window at a time: keep bits once more than keep + ahead
+ * steps are there. */
 
 /* For how many bits a push of so many octets needs room, or with 0 the finish. Answers TMCHAN_BAD_.., TMCHAN_ROOM. */
 int64_t tmchan_decoder_room(const tmchan_config *config, size_t octets_length);
@@ -236,44 +260,51 @@ int64_t tmchan_decoder_room(const tmchan_config *config, size_t octets_length);
 /* Opens a decoder. Answers 0; TMCHAN_OPEN, TMCHAN_BAD_.., TMCHAN_MEMORY. */
 int32_t tmchan_decoder_open(tmchan_stream *stream, const tmchan_config *config);
 
-/* Takes the next soft octets. Answers how many bits were written; TMCHAN_CLOSED, TMCHAN_ROOM: nothing was taken then. */
-int64_t tmchan_decoder_push(tmchan_stream *stream, const uint8_t *octets, size_t octets_length, uint8_t *bits, size_t bits_length);
+/* Takes the next soft octets. Answers how many bits were written; TMCHAN_CLOSED, TMCHAN_ROOM: nothing was taken then.
+ * */
+int64_t tmchan_decoder_push(tmchan_stream *stream, const uint8_t *octets, size_t octets_length, uint8_t *bits,
+                            size_t bits_length);
 
 /* Gives the phase so far. Answers 0; TMCHAN_CLOSED. */
 int32_t tmchan_decoder_phase(tmchan_stream *stream, tmchan_phase *phase);
 
-/* Writes the bits that are left, gives the phase, and closes the decoder. Answers how many bits were written; TMCHAN_CLOSED, TMCHAN_ROOM: the
- * decoder is still open then. */
+/* Writes the bits that are left, gives the phase, and closes the decoder. Answers how many bits were written;
+ * TMCHAN_CLOSED, TMCHAN_ROOM: the decoder is still open then. */
 int64_t tmchan_decoder_finish(tmchan_stream *stream, uint8_t *bits, size_t bits_length, tmchan_phase *phase);
 
-/* The receiver: received soft octets (or octets that hold the bits, with no inner code) in pieces of any length; the frames of the codeblocks
- * that are found in them, and a report of each. Codeblocks come in whole batches, of as many as `batch` says, and what is left at the finish. */
+/* The receiver: received soft octets (or octets that hold the bits, with no inner code) in pieces of any length; the
+ * frames of the codeblocks that are found in them, and a report of each. Codeblocks come in whole batches, of as many
+ * as `batch` says, and what is left at the finish. */
 
 typedef struct {
     uint64_t place;        /* how many received bits stand before its marker */
     uint64_t frame_length; /* the octets of its frame; 0 where a column is uncorrectable: it has none then */
     uint8_t distance;      /* how many of the marker's 32 bits are wrong, in the codeblock's polarity */
-    uint8_t bridged;       /* 1: no marker stands there, and its place was taken since it directly follows a codeblock */
+    uint8_t bridged;       /* 1: no marker stands there, and its place was taken since it directly follows a codeblock
+                              */
     uint8_t inverted;      /* 1: the codeblock was received inverted */
     uint8_t columns;       /* how many columns it has: the depth, or 0 with no code */
-    uint8_t repaired[8];   /* for each column how many symbols were wrong, or 255 where it is uncorrectable; of others nothing is said */
+    uint8_t repaired[8];   /* for each column how many symbols were wrong, or 255 where it is uncorrectable; of others
+                              nothing is said */
 } tmchan_report;
 
-/* For how many reports a push of so many octets, or of fewer, and the finish need room: enough for any receiver of this configuration, whatever
- * was pushed before, and so mostly more than are written. For how many octets of frames, as many frames, it writes to *frames_length.
+/* For how many reports a push of so many octets, or of fewer, and the finish need room: enough for any receiver of
+ * this configuration, whatever was pushed before, and so mostly more than are written. For how many octets of frames,
+ * as many frames, it writes to *frames_length.
  *
- * Answers the number of reports; TMCHAN_BAD_.., TMCHAN_ROOM (of more than 2^40 octets): *frames_length is as it was then. */
+ * Answers the number of reports; TMCHAN_BAD_.., TMCHAN_ROOM (of more than 2^40 octets): *frames_length is as it was
+ * then. */
 int64_t tmchan_receiver_room(const tmchan_config *config, size_t octets_length, uint64_t *frames_length);
 
 /* Opens a receiver. Answers 0; TMCHAN_OPEN, TMCHAN_BAD_.., TMCHAN_MEMORY. */
 int32_t tmchan_receiver_open(tmchan_stream *stream, const tmchan_config *config);
 
-/* Takes the next octets, and writes the frames of the codeblocks that are handed over, one after the other, to frames, and a report of each to
- * reports; frames_length is in octets, reports_length in reports. Answers how many codeblocks these are; TMCHAN_CLOSED: nothing was taken then;
- * TMCHAN_ROOM: the octets were taken, and all codeblocks from the first that had no room on are lost. That never comes with the room that
- * tmchan_receiver_room says. */
-int64_t tmchan_receiver_push(tmchan_stream *stream, const uint8_t *octets, size_t octets_length, uint8_t *frames, size_t frames_length,
-                             tmchan_report *reports, size_t reports_length);
+/* Takes the next octets, and writes the frames of the codeblocks that are handed over, one after the other, to
+ * frames, and a report of each to reports; frames_length is in octets, reports_length in reports. Answers how many
+ * codeblocks these are; TMCHAN_CLOSED: nothing was taken then; TMCHAN_ROOM: the octets were taken, and all codeblocks
+ * from the first that had no room on are lost. That never comes with the room that tmchan_receiver_room says. */
+int64_t tmchan_receiver_push(tmchan_stream *stream, const uint8_t *octets, size_t octets_length, uint8_t *frames,
+                             size_t frames_length, tmchan_report *reports, size_t reports_length);
 
 /* Gives the phase so far. Answers 0; TMCHAN_CLOSED. */
 int32_t tmchan_receiver_phase(tmchan_stream *stream, tmchan_phase *phase);
@@ -281,26 +312,29 @@ int32_t tmchan_receiver_phase(tmchan_stream *stream, tmchan_phase *phase);
 /* What all octets came to. */
 typedef struct {
     uint64_t bits;  /* how many bits were received */
-    uint64_t slips; /* before how many windows of the inner code octets were dropped; 0 where the phase is not followed */
+    uint64_t slips; /* before how many windows of the inner code octets were dropped; 0 where the phase is not
+                       followed */
 } tmchan_totals;
 
-/* Writes to *slips before how many windows of the inner code octets were dropped so far, of those whose bits were searched; 0 where the phase is
- * not followed. Answers 0; TMCHAN_CLOSED. */
+/* Writes to *slips before how many windows of the inner code octets were dropped so far, of those whose bits were
+ * searched; 0 where the phase is not followed. Answers 0; TMCHAN_CLOSED. */
 int32_t tmchan_receiver_slips(tmchan_stream *stream, uint64_t *slips);
 
-/* Writes the codeblocks that are left in the same way, gives what all octets came to and the phase, and closes the receiver. Answers how many
- * codeblocks these are; TMCHAN_CLOSED; TMCHAN_ROOM, as of a push: the receiver is closed all the same. */
-int64_t tmchan_receiver_finish(tmchan_stream *stream, uint8_t *frames, size_t frames_length, tmchan_report *reports, size_t reports_length,
-                               tmchan_totals *totals, tmchan_phase *phase);
+/* Writes the codeblocks that are left in the same way, gives what all octets came to and the phase, and closes the
+ * receiver. Answers how many codeblocks these are; TMCHAN_CLOSED; TMCHAN_ROOM, as of a push: the receiver is closed
+ * all the same. */
+int64_t tmchan_receiver_finish(tmchan_stream *stream, uint8_t *frames, size_t frames_length, tmchan_report *reports,
+                               size_t reports_length, tmchan_totals *totals, tmchan_phase *phase);
 
-/* The search for sync markers: in bits, or in octets, which marker has a whole codeblock after it. It takes no memory: what it keeps stands in
- * the caller's struct, which begins as {0}, and in a room of the caller's, and only calls change them. The room has verify * (32 + block_bits)
- * octets, one for each bit; none where verify is 0. What it holds at first does not matter. A search may be copied with its room. */
+/* The search for sync markers: in bits, or in octets, which marker has a whole codeblock after it. It takes no
+ * memory: what it keeps stands in the caller's struct, which begins as {0}, and in a room of the caller's, and only
+ * calls change them. The room has verify * (32 + block_bits) octets, one for each bit; none where verify is 0. What
+ * it holds at first does not matter. A search may be copied with its room. */
 typedef struct {
     uint64_t is_open, pushed, start, place, after;
-    uint32_t block_bits, received;
-    uint8_t tolerance, fly, either, verify, has_before, before_inverted, before_bridged, has_place, distance, bridged, inverted, next_inverted,
-        next_bridged;
+    uint32_t block_bits, received; /* received: the last 32 bits */
+    uint8_t tolerance, fly, either, verify, has_before, before_inverted, before_bridged, has_place, distance, bridged,
+        inverted, next_inverted, next_bridged;
 } tmchan_search;
 
 typedef struct {
@@ -310,26 +344,29 @@ typedef struct {
     uint8_t inverted; /* 1: the marker is inverted */
 } tmchan_place;
 
-/* Begins a search: of markers with at most `tolerance` wrong bits, 0 to 8; where at most `fly` in a row may be missing, 0 to 15; inverted ones
- * too where either is 1, and not where it is 0; with codeblocks of block_bits bits. A marker that does not directly follow a codeblock is taken
- * where `verify` further ones, 0 to 7, each right after the codeblock of the one before, match in the same polarity. Answers 0;
- * TMCHAN_BAD_TOLERANCE, TMCHAN_BAD_FLY, TMCHAN_BAD_POLARITY (of either), TMCHAN_BAD_VERIFY. */
-int32_t tmchan_search_open(tmchan_search *search, uint32_t tolerance, uint32_t fly, uint32_t either, uint32_t block_bits, uint32_t verify);
+/* Begins a search: of markers with at most `tolerance` wrong bits, 0 to 8; where at most `fly` in a row may be
+ * missing, 0 to 15; inverted ones too where either is 1, and not where it is 0; with codeblocks of block_bits bits. A
+ * marker that does not directly follow a codeblock is taken where `verify` further ones, 0 to 7, each right after the
+ * codeblock of the one before, match in the same polarity. Answers 0; TMCHAN_BAD_TOLERANCE, TMCHAN_BAD_FLY,
+ * TMCHAN_BAD_POLARITY (of either), TMCHAN_BAD_VERIFY. */
+int32_t tmchan_search_open(tmchan_search *search, uint32_t tolerance, uint32_t fly, uint32_t either,
+                           uint32_t block_bits, uint32_t verify);
 
-/* Takes bits of an array, each 0, or any other number for 1, from number *at on, up to the one with which the next place is found, or all; *at is
- * how many of the array are taken then. A place is found with the last bit of its codeblock, and where further markers verify it with the last
- * bit of these: several places may be found with one bit, and come one a call. Answers 1 where a place is found, and gives it; 0 where all are
- * taken; TMCHAN_CLOSED, TMCHAN_ROOM (the room has another length, *at is beyond the array, or that has more than 2^40 elements): nothing was
- * taken then. So this takes an array:
+/* Takes bits of an array, each 0, or any other number for 1, from number *at on, up to the one with which the next
+ * place is found, or all; *at is how many of the array are taken then. A place is found with the last bit of its
+ * codeblock, and where further markers verify it with the last bit of these: several places may be found with one
+ * bit, and come one a call. Answers 1 where a place is found, and gives it; 0 where all are taken; TMCHAN_CLOSED,
+ * TMCHAN_ROOM (the room has another length, *at is beyond the array, or that has more than 2^40 elements): nothing
+ * was taken then. So this takes an array:
  *
  *     uint64_t at = 0;
  *     while (tmchan_search_bits(&search, room, room_length, bits, bits_length, &at, &place) == 1) use(place); */
-int32_t tmchan_search_bits(tmchan_search *search, uint8_t *room, size_t room_length, const uint8_t *bits, size_t bits_length, uint64_t *at,
-                           tmchan_place *place);
+int32_t tmchan_search_bits(tmchan_search *search, uint8_t *room, size_t room_length, const uint8_t *bits,
+                           size_t bits_length, uint64_t *at, tmchan_place *place);
 
 /* The same of the bits of octets: *at is a number of bits. */
-int32_t tmchan_search_octets(tmchan_search *search, uint8_t *room, size_t room_length, const uint8_t *octets, size_t octets_length, uint64_t *at,
-                             tmchan_place *place);
+int32_t tmchan_search_octets(tmchan_search *search, uint8_t *room, size_t room_length, const uint8_t *octets,
+                             size_t octets_length, uint64_t *at, tmchan_place *place);
 
 #ifdef __cplusplus
 }
