@@ -36,17 +36,26 @@ pub received-only : OneBits → (c : Configuration) (phase : ℕ) (octets : List
 received-only one c phase octets items others ok p q =
     items-only c q.bits items others ok (items-at one c phase octets q.bits items q.inner p) q.are_items
 
-pub received-as_sent : OneBits → (c : Configuration) (phase : ℕ) (octets : List ℕ) (bits : List Bool)
-    (units : List SentUnit) (last : List Bool) (items : List ItemValue) → IsAccepted c
-    → Inner c phase octets bits → IsSent c bits units last → Receive c phase octets items
+-- the items of units, however disturbed, and their frames
+abbrev pub SentItems : Type 0
+SentItems =
+    (c : Configuration) (phase : ℕ) (octets : List ℕ) (bits : List Bool) (units : List SentUnit) (last : List Bool)
+    (items : List ItemValue)
+    → IsAccepted c → Inner c phase octets bits → IsSent c bits units last → Receive c phase octets items
     → AreAsSent c (unit_places c units) units items
+
+abbrev pub SentFrames : Type 0
+SentFrames =
+    (c : Configuration) (phase : ℕ) (octets : List ℕ) (bits : List Bool) (units : List SentUnit) (last : List Bool)
+    (items : List ItemValue)
+    → IsAccepted c → Inner c phase octets bits → IsSent c bits units last → Receive c phase octets items
+    → AreNear c (unit_places c units) units → frames_of items ≡ unit_frames units
+
+pub received-as_sent : OneBits → SentItems
 received-as_sent one c phase octets bits units last items ok inner sent r =
     items-as_sent c bits units last items ok sent (items-at one c phase octets bits items inner r)
 
-pub received-frames : OneBits → (c : Configuration) (phase : ℕ) (octets : List ℕ) (bits : List Bool)
-    (units : List SentUnit) (last : List Bool) (items : List ItemValue) → IsAccepted c
-    → Inner c phase octets bits → IsSent c bits units last → Receive c phase octets items
-    → AreNear c (unit_places c units) units → frames_of items ≡ unit_frames units
+pub received-frames : OneBits → SentFrames
 received-frames one c phase octets bits units last items ok inner sent r near =
     frames-sent c (unit_places c units) units items (received-as_sent one c phase octets bits units last items ok
     inner sent r) near

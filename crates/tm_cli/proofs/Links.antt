@@ -29,7 +29,8 @@ use Rattle.tm_channel.specs.Items.{ItemValue, are_fixed, frames_of, complemented
 use Rattle.tm_channel.specs.declared.totals.Totals.{Totals}
 use Rattle.tm_channel.specs.Handing.{AreReceived, clean_totals, totals_of}
 use Rattle.tm_channel.specs.Receive.{Receive}
-use Rattle.tm_channel.specs.SentStream.{SentUnit, IsSent, AreRepaired, AreWithin, AreAsSent, AreNear, sent_columns, unit_codeblock, unit_frames, unit_places, clean_answers, clean_items, found_frames}
+use Rattle.tm_channel.specs.SentStream.{SentUnit, AreRepaired, AreWithin, AreAsSent, AreNear, sent_columns, unit_codeblock, unit_places, clean_answers, clean_items, found_frames}
+use Rattle.tm_channel.proofs.ReceivedOctets.{SentItems, SentFrames}
 use Rattle.tm_channel.proofs.SentPhase.{sent-skip}
 use Rattle.tm_driver.specs.Meaning.{Ends, WroteOutput, taken_by}
 use Rattle.tm_driver.specs.Statuses.{status_of}
@@ -95,21 +96,6 @@ CleanItems =
 abbrev CleanFrames : Type 0
 CleanFrames =
     (c : Configuration) (at : ℕ) (frames : List (List ℕ)) → frames_of (clean_items c at frames) ≡ concat frames
-
--- the items of units, however disturbed, and their frames
-abbrev SentItems : Type 0
-SentItems =
-    (c : Configuration) (phase : ℕ) (octets : List ℕ) (bits : List Bool) (units : List SentUnit) (last : List Bool)
-    (items : List ItemValue)
-    → IsAccepted c → Inner c phase octets bits → IsSent c bits units last → Receive c phase octets items
-    → AreAsSent c (unit_places c units) units items
-
-abbrev SentFrames : Type 0
-SentFrames =
-    (c : Configuration) (phase : ℕ) (octets : List ℕ) (bits : List Bool) (units : List SentUnit) (last : List Bool)
-    (items : List ItemValue)
-    → IsAccepted c → Inner c phase octets bits → IsSent c bits units last → Receive c phase octets items
-    → AreNear c (unit_places c units) units → frames_of items ≡ unit_frames units
 
 -- the items of octets complemented, with no inner code and of symbols at rate 1/2
 abbrev ComplementedItems : Type 0
