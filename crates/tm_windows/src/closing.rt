@@ -4,14 +4,14 @@ ghost use Rattle.std.specs.List.{All};
 ghost use Rattle.tm_base.specs.Limits.{most_workers};
 ghost use Rattle.tm_viterbi.specs.WindowSizes.{window_bound};
 ghost use Rattle.tm_windows.specs.Candidates.{AreCandidates, HaveRoom, HoldsWindows};
-ghost use Rattle.tm_windows.specs.Sharing.{most_candidates};
+ghost use Rattle.tm_windows.specs.Sharing.{most_candidates, most_octets};
 
 use crate::candidate::Candidate;
 use crate::decoding::decode_run;
 use crate::sharing::decode_evenly;
 use crate::stretch::Stretch;
 use std::thread::Threads;
-use tm_base::OpenGate;
+use tm_base::{Gate, OpenGate};
 use tm_viterbi::WindowDecoder;
 
 // The least steps of windows that are shared out: one worker decodes fewer in the millisecond that a thread may take to
@@ -37,6 +37,42 @@ pub(crate) trait Closing {
         ensures shape { All (λ d. d ≡ from.now.shape) decoders.new };
 }
 
+/// Does what `Closing::decode` does: by all workers, which enter the gate before each window, where there is enough to
+/// share out, and else by the first one, which enters none.
+pub(crate) fn decode_shared<R: Threads + Sync, G: Gate + Sync>(
+    rt: &R,
+    gate: &G,
+    decoders: &mut [WindowDecoder],
+    run: &mut [Candidate],
+    from: &Stretch<'_>,
+)
+    requires some { (0 < length decoders.old) × (length decoders.old ≤ most_workers) }
+    requires long { (length run.old ≤ most_candidates) × (length from.now.octets.now ≤ most_octets) }
+    requires shape { All (λ d. d ≡ from.now.shape) decoders.old }
+    requires bits { HaveRoom (from.now.shape.keep + from.now.shape.ahead) run.old }
+    requires room { HoldsWindows from.now (length run.old) }
+    requires few { from.now.t + length run.old * from.now.shape.keep < window_bound }
+    ensures candidates { AreCandidates from.now.shape from.now.t from.now.octets.now 0 (length run.old) run.new }
+    ensures bits { HaveRoom (from.now.shape.keep + from.now.shape.ahead) run.new }
+    ensures shape { All (λ d. d ≡ from.now.shape) decoders.new }
+{
+    if run.len() * from.shape.keep < LEAST_SHARED {
+        OneByOne.decode(decoders, run, from);
+        return;
+    }
+    decode_evenly(
+        rt,
+        gate,
+        from.shape,
+        decoders,
+        Some(from.starts),
+        from.t,
+        from.octets,
+        0,
+        run,
+    );
+}
+
 /// By all workers, where there is enough to share out.
 #[derive(Drop)]
 pub(crate) struct SideBySide<'a, R: Threads + Sync> {
@@ -51,21 +87,7 @@ impl<'a, R: Threads + Sync> Closing for SideBySide<'a, R> {
     ghost is_ready = { λ by count. IsSync R.row × (count ≤ most_octets) };
 
     fn decode(&self, decoders: &mut [WindowDecoder], run: &mut [Candidate], from: &Stretch<'_>) {
-        if run.len() * from.shape.keep < LEAST_SHARED {
-            OneByOne.decode(decoders, run, from);
-            return;
-        }
-        decode_evenly(
-            self.rt,
-            &OpenGate,
-            from.shape,
-            decoders,
-            Some(from.starts),
-            from.t,
-            from.octets,
-            0,
-            run,
-        );
+        decode_shared(self.rt, &OpenGate, decoders, run, from);
     }
 }
 

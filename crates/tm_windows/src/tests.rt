@@ -1,15 +1,15 @@
 // Tests of what only this crate can see. Windows that were each begun from a wrong register: settled, their blocks are
-// those of one thread. And workers that decode windows of a phase that is followed: really side by side, and the same
-// blocks whatever their number.
+// those of one thread. And workers that decode windows of a phase that is followed: really side by side, where these
+// have enough steps, and the same blocks whatever their number.
 ghost use Rattle.std.specs.Prelude.{◌+◌, ◌*◌, ◌^◌, ◌<◌, ◌≤◌, ◌≡◌, ℕ, length};
 ghost use Rattle.tm_base.specs.Limits.{most_workers};
 ghost use Rattle.tm_conv.specs.Path.{steps_size};
-ghost use Rattle.tm_viterbi.specs.WindowSizes.{window_bound};
+ghost use Rattle.tm_viterbi.specs.WindowSizes.{least_keep, most_keep, window_bound};
 ghost use Rattle.tm_windows.specs.Candidates.{AreCandidates, HaveRoom, HoldsWindows};
 ghost use Rattle.tm_windows.specs.Sharing.{most_windows, most_octets};
 
 use crate::candidate::Candidate;
-use crate::closing::{Closing, OneByOne};
+use crate::closing::{Closing, OneByOne, decode_shared};
 use crate::decoding::decode_window;
 use crate::gathering::Gathering;
 use crate::settling::settle_run;
@@ -21,7 +21,7 @@ use std::process::Abort;
 use std::sync::atomic::{AtomicU64, Ordering};
 use std::test::Fail;
 use std::thread::Threads;
-use tm_base::{Failed, Gate};
+use tm_base::{Failed, Gate, OpenGate};
 use tm_conv::{Encoder, Rate, Symbols, steps_len};
 use tm_viterbi::{Block, BlockTaker, Decoder, Start, WindowDecoder, WindowShape};
 
@@ -194,17 +194,17 @@ fn windows_from_wrong_registers_are_decoded_again(rt: HostRuntime) -> Result<(),
 
 const SPINS: u64 = 1_000_000_000;
 
-// Holds the workers that come to two windows until both have come, and counts how many of them met the other.
+// Holds the workers that come to the first and the fifth window until both have come, and counts how many of them met
+// the other.
 #[derive(Drop)]
 struct Meeting {
-    windows: [u32; 2],
     come: AtomicU64,
     met: AtomicU64,
 }
 
 impl Gate for Meeting {
     fn enter(&self, index: u32) {
-        if index != self.windows[0] && index != self.windows[1] {
+        if index != 0 && index != 4 {
             return;
         }
         self.come.fetch_add(1, Ordering::SeqCst);
@@ -217,16 +217,7 @@ impl Gate for Meeting {
     }
 }
 
-// A gate at which these two windows meet.
-fn meeting_at(first: u32, second: u32) -> Meeting {
-    Meeting {
-        windows: [first, second],
-        come: AtomicU64::new(0),
-        met: AtomicU64::new(0),
-    }
-}
-
-// Windows by all workers, which enter a gate before each.
+// Windows shared out as the program shares them, by workers that enter a gate before each.
 #[derive(Drop)]
 struct PastMeeting<'a, R: Threads + Sync> {
     rt: &'a R,
@@ -234,6 +225,24 @@ struct PastMeeting<'a, R: Threads + Sync> {
 }
 
 impl<'a, R: Threads + Sync> Closing for PastMeeting<'a, R> {
+    ghost use Rattle.std.specs.Prelude.{◌≤◌};
+    ghost use Rattle.std.specs.Thread.{IsSync};
+    ghost use Rattle.tm_windows.specs.Sharing.{most_octets};
+
+    ghost is_ready = { λ by count. IsSync R.row × (count ≤ most_octets) };
+
+    fn decode(&self, decoders: &mut [WindowDecoder], run: &mut [Candidate], from: &Stretch<'_>) {
+        decode_shared(self.rt, self.gate, decoders, run, from);
+    }
+}
+
+// Windows by all workers, however few their steps are.
+#[derive(Drop)]
+struct AlwaysShared<'a, R: Threads + Sync> {
+    rt: &'a R,
+}
+
+impl<'a, R: Threads + Sync> Closing for AlwaysShared<'a, R> {
     ghost use Rattle.std.specs.Prelude.{◌≤◌};
     ghost use Rattle.std.specs.Thread.{IsSync};
     ghost use Rattle.tm_windows.specs.Sharing.{most_octets};
@@ -249,7 +258,7 @@ impl<'a, R: Threads + Sync> Closing for PastMeeting<'a, R> {
         } = *from;
         decode_evenly(
             self.rt,
-            self.gate,
+            &OpenGate,
             shape,
             decoders,
             Some(starts),
@@ -261,27 +270,28 @@ impl<'a, R: Threads + Sync> Closing for PastMeeting<'a, R> {
     }
 }
 
-const FOLLOWED: WindowShape = WindowShape {
-    rate: Rate::R12,
-    invert: false,
-    keep: KEEP,
-    ahead: AHEAD,
-};
-
 // What comes of octets whose phase is followed: the blocks, and before how many windows octets were dropped.
 fn followed<C: Closing>(
     alloc: Global,
     closing: &C,
+    keep: usize,
     workers: u8,
     most: usize,
     octets: &[u8],
 ) -> Result<(Digest, u64), Fail>
     requires ready { (count : ℕ) → count ≤ most_octets → C.is_ready closing.now count }
+    requires keep { (least_keep ≤ keep) × (keep ≤ most_keep) }
     requires workers { (0 < workers) × (workers ≤ most_workers) }
     requires most { (0 < most) × (most ≤ most_windows) }
     requires long { length octets.now < 2 ^ 59 }
 {
-    let mut gathering = Gathering::new(alloc, Start::Zero, FOLLOWED, Some(89), workers, most)?;
+    let shape = WindowShape {
+        rate: Rate::R12,
+        invert: false,
+        keep,
+        ahead: AHEAD,
+    };
+    let mut gathering = Gathering::new(alloc, Start::Zero, shape, Some(89), workers, most)?;
     let mut digest = empty();
     gathering.take(closing, octets, &mut digest)?;
     gathering.end(closing, &mut digest)?;
@@ -304,23 +314,29 @@ fn sent(alloc: Global, steps: usize) -> Result<Vec<u8>, AllocError> {
     Ok(octets)
 }
 
-// Of eight windows each worker has four, and none of the two begins its last ones before the other has come.
-#[test]
-fn windows_with_nothing_dropped_between_are_decoded_side_by_side(
-    rt: HostRuntime,
-) -> Result<(), Fail> {
-    let alloc = rt.alloc();
-    let octets = sent(alloc, WINDOWS * KEEP + AHEAD + 1)?;
-    assert!(rt; octets.len() < 6000);
-    let gate = meeting_at(0, 4);
-    let past = PastMeeting {
-        rt: &rt,
-        gate: &gate,
+// How many of two workers meet at the gate where eight windows of so many steps are closed together: each has four of
+// them, and waits at its first until the other has come.
+fn count_met<R: Abort + Threads + Sync>(rt: &R, alloc: Global, keep: usize) -> Result<u64, Fail>
+    requires { (least_keep ≤ keep) × (keep ≤ most_keep) }
+{
+    let octets = sent(alloc, WINDOWS * keep + AHEAD + 1)?;
+    assert!(rt; octets.len() < 200_000);
+    let gate = Meeting {
+        come: AtomicU64::new(0),
+        met: AtomicU64::new(0),
     };
-    let (digest, slips) = followed(alloc, &past, 2, WINDOWS, &octets)?;
-    assert!(rt; gate.met.load(Ordering::SeqCst) == 2);
+    let past = PastMeeting { rt, gate: &gate };
+    let (digest, slips) = followed(alloc, &past, keep, 2, WINDOWS, &octets)?;
     assert!(rt; digest.blocks == WINDOWS as u64 + 1);
     assert!(rt; slips == 0);
+    Ok(gate.met.load(Ordering::SeqCst))
+}
+
+// Eight windows of 8,192 steps are just enough to share out, and of a step less they are too few.
+#[test]
+fn followed_windows_of_enough_steps_are_decoded_side_by_side(rt: HostRuntime) -> Result<(), Fail> {
+    assert!(rt; count_met(&rt, rt.alloc(), 8_192)? == 2);
+    assert!(rt; count_met(&rt, rt.alloc(), 8_191)? == 0);
     Ok(())
 }
 
@@ -332,17 +348,13 @@ fn followed_windows_are_the_same_for_any_workers(rt: HostRuntime) -> Result<(), 
     octets.remove(3500);
     octets.remove(1500);
     assert!(rt; octets.len() < 6000);
-    let (wanted, slips) = followed(alloc, &OneByOne, 1, 1, &octets)?;
+    let (wanted, slips) = followed(alloc, &OneByOne, KEEP, 1, 1, &octets)?;
     assert!(rt; wanted.blocks == 41);
     assert!(rt; slips == 2);
-    let gate = meeting_at(u32::MAX, u32::MAX);
-    let past = PastMeeting {
-        rt: &rt,
-        gate: &gate,
-    };
+    let shared = AlwaysShared { rt: &rt };
     for workers in [1, 2, 3, 7] {
         for most in [1, 2, 8, 40] {
-            let (digest, slips) = followed(alloc, &past, workers, most, &octets)?;
+            let (digest, slips) = followed(alloc, &shared, KEEP, workers, most, &octets)?;
             assert!(rt; digest == wanted);
             assert!(rt; slips == 2);
         }
