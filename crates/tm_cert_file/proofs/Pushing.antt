@@ -1,4 +1,4 @@
--- Octets that are pushed, a part at a time, and the turn to the next window.
+-- Octets that are pushed, a part at a time, and then the next window.
 use Rattle.std.proofs.Common.{◌≡◌, ℕ, ◌+◌, ◌-◌, ◌<◌, ◌≤◌, List, [], ◌∷◌, ◌++◌, length, take, drop, sym, ap, subst, ◌∙◌, arith, take-add, append_assoc}
 use Rattle.std.proofs.lemmas.List.{length-append, take_rest, take_all, drop_all, drop-take, drop-drop}
 use Rattle.std.proofs.Math.Seq.{take-append-add}

@@ -88,8 +88,8 @@ pub totals-complemented : HasBest → Complements → ComplementedBlocks
     → c.inner ≡ Some R12 → c.start ≡ Any → c.skip ≡ 0
     → AreReceived c (complemented_octets (sent c octets)) handed totals
     → totals ≡ clean_totals c (8 * length (cadus c octets))
-totals-complemented best turns complemented c octets handed totals ok half any none r =
-    let phase : skip_of r.chosen ≡ 0 = ap skip_of (phase-complemented best turns c octets r.chosen none r.choice)
+totals-complemented best complements complemented c octets handed totals ok half any none r =
+    let phase : skip_of r.chosen ≡ 0 = ap skip_of (phase-complemented best complements c octets r.chosen none r.choice)
     ∙ sent-skip c in
     let all = r.are_items in
     let blocks = all.1.blocks in

@@ -33,7 +33,7 @@ use Rattle.tm_channel.specs.Most.{AreFew, most_bits, most_bits_at, most_items}
 use Rattle.tm_channel.specs.Receiving.{waiting_bits}
 use Rattle.tm_channel.specs.OctetReceiving.{BitReceiving, Received, ReceivedLast, Stages, StagesFor, StagesOn, bits_found}
 use Rattle.tm_channel.proofs.Batches.{batches-le, length-due}
-use Rattle.tm_channel.proofs.GivenOctets.{EndsIn, ended, further-at, items-ended, turn-items}
+use Rattle.tm_channel.proofs.GivenOctets.{EndsIn, ended, further-at, items-ended, phased-items}
 use Rattle.tm_channel.proofs.SentCodeblocks.{octets-received}
 
 -- ---- the octets of frames
@@ -198,8 +198,8 @@ stages-few s now given octets done more ok same stood on =
     ∙ ap (inner_bits c (given ++ octets)) (items_of-append stood.handed on.1)
     ∙ further-at c.inner c given octets blocks further (kept_bits further) skip refl refl in
     let all : there.items ≡ stood.items ++ items_of more =
-    sym (turn-items (phase_of there.handed) there.items (done ++ more) there.are) ∙ items_of-append done more
-    ∙ ap (λ l. l ++ items_of more) (turn-items (phase_of stood.handed) stood.items done stood.are) in
+    sym (phased-items (phase_of there.handed) there.items (done ++ more) there.are) ∙ items_of-append done more
+    ∙ ap (λ l. l ++ items_of more) (phased-items (phase_of stood.handed) stood.items done stood.are) in
     let are = subst (λ (k : Configuration). AreItemsOf k (inner_bits k (given ++ octets) (items_of there.handed))
     (due k (inner_bits k (given ++ octets) (items_of there.handed))) there.items)
     same there.are_items in

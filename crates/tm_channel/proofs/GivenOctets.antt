@@ -40,7 +40,7 @@ use Rattle.tm_channel.specs.OctetReceiving.{BitReceiving, OctetReceiving, Receiv
 use Rattle.tm_channel.proofs.Streaming.{first-longer, first-more, first-then, items-then}
 use Rattle.tm_channel.proofs.AllBits.{beyond-nil, all-items, some-items, few-items, due-nil}
 use Rattle.tm_channel.proofs.ReceivedPieces.{all_bits, all_bits-append}
-use Rattle.tm_channel.proofs.Turns.{prefix-nil, with_phase-split, none-after, part-some, phase_from-append, phase_from-items, phase_of-with_phase, turn-further}
+use Rattle.tm_channel.proofs.PhasedItems.{prefix-nil, with_phase-split, none-after, part-some, phase_from-append, phase_from-items, phase_of-with_phase, phased-further}
 
 -- ---- the phase and the bits that are kept
 
@@ -205,16 +205,16 @@ last-at None c phase given blocks last left are =
 last-at (Some rate) c phase given blocks last left are = all_bits-append blocks last
 
 -- the blocks of what was handed over
-pub turn-items : {I : Type 0} (chosen : Option Chosen) (items : List I) (handed : List (Handed I))
+pub phased-items : {I : Type 0} (chosen : Option Chosen) (items : List I) (handed : List (Handed I))
     → handed ≡ with_phase chosen items → items_of handed ≡ items
-turn-items chosen items handed are = ap items_of are ∙ items_of-with_phase chosen items
+phased-items chosen items handed are = ap items_of are ∙ items_of-with_phase chosen items
 
 -- the last blocks add these bits
 bits-last : (c : Configuration) (given : List ℕ) (done last : List (Handed WindowBlock)) (left : ℕ)
     → AreHanded c given (done ++ last) left
     → inner_bits c given (items_of (done ++ last)) ≡ inner_bits c given (items_of done) ++ all_bits (items_of last)
 bits-last c given done last left h =
-    let blocks : h.items ≡ items_of done ++ items_of last = sym (turn-items h.chosen h.items (done ++ last) h.are)
+    let blocks : h.items ≡ items_of done ++ items_of last = sym (phased-items h.chosen h.items (done ++ last) h.are)
     ∙ items_of-append done last in
     ap (inner_bits c given) (items_of-append done last)
     ∙ last-at c.inner c (skip_of h.chosen) given (items_of done) (items_of last) left
@@ -350,16 +350,16 @@ first-none-items c bits piece items none are =
     nil-first c (bits ++ piece) items (subst (λ (fs : List Found). AreFirstItemsOf c (bits ++ piece) fs items) nothing
     are)
 
--- ---- what is handed over in turn
+-- ---- what is handed over: a phase that may come, and items
 
-turn-more : (c : Configuration) (given : List ℕ) (handed : List (Handed WindowBlock)) (waiting : List WindowBlock)
+phased-more : (c : Configuration) (given : List ℕ) (handed : List (Handed WindowBlock)) (waiting : List WindowBlock)
     (more : List (Handed WindowBlock)) (done : List (Handed ItemValue)) (items others : List ItemValue)
     (phase : Option Chosen)
     → AreWaiting c given handed waiting
     → AreItemsOf c (inner_bits c given (items_of handed)) (due c (inner_bits c given (items_of handed))) items
     → done ≡ with_phase (phase_of handed) items → (IsSettled c given → phase_of more ≡ None) → phase ≡ phase_of more
     → done ++ (with_phase phase [] ++ map Item others) ≡ with_phase (phase_of (handed ++ more)) (items ++ others)
-turn-more c given handed waiting more done items others phase (inl before) are_items are once is =
+phased-more c given handed waiting more done items others phase (inl before) are_items are once is =
     let handed_none = (prefix-nil handed (map Item waiting) before.1).0 in
     let none = due-none-items c (inner_bits c given (items_of handed)) items
     (unsettled-bits c given handed before.0 handed_none) are_items in
@@ -370,9 +370,9 @@ turn-more c given handed waiting more done items others phase (inl before) are_i
     ∙ sym (with_phase-split (phase_of more) others)
     ∙ ap (λ (l : List (Handed WindowBlock)). with_phase (phase_of (l ++ more)) others) (sym handed_none)
     ∙ ap (λ l. with_phase (phase_of (handed ++ more)) (l ++ others)) (sym none)
-turn-more c given handed waiting more done items others phase (inr before) are_items are once is =
+phased-more c given handed waiting more done items others phase (inr before) are_items are once is =
     ap (λ (o : Option Chosen). done ++ (with_phase o [] ++ map Item others)) is
-    ∙ turn-further (phase_of handed) more done items others (once before.0) are
+    ∙ phased-further (phase_of handed) more done items others (once before.0) are
     ∙ ap (λ (o : Option Chosen). with_phase o (items ++ others)) (sym (phase_from-append None handed more))
 
 -- ---- both stages go on
@@ -400,7 +400,7 @@ due-few c given handed (inr g) =
     omega (
       arith,
       first-few c (skip_of h.chosen) given h.items (first-of-due c (skip_of h.chosen) given h.items h.are_items),
-      ap (λ (l : List WindowBlock). length (inner_bits c given l)) (turn-items h.chosen h.items handed h.are),
+      ap (λ (l : List WindowBlock). length (inner_bits c given l)) (phased-items h.chosen h.items handed h.are),
     )
 
 -- fewer than 2^60 octets have fewer than 2^63 bits
@@ -480,7 +480,7 @@ stages-due took s now middle taker_now room octets phase piece of roomy same gro
             (due k (inner_bits k (given ++ octets) (items_of handed))) (stood.items ++ p.items))
             (sym same) items;
         are =
-            turn-more c given stood.handed stood.waiting f.more done stood.items p.items phase stood.are_due
+            phased-more c given stood.handed stood.waiting f.more done stood.items p.items phase stood.are_due
             stood.are_items stood.are
             (once-due c given octets stood.handed stood.waiting f.more stood.are_due f.due) f.is_phase;
       },
@@ -587,7 +587,7 @@ stages-prefix s now room octets phase piece tried of roomy grows first some give
           )
       | inr g ↦ (
           let h = g.1 in
-          let blocks = turn-items h.chosen h.items handed h.are in
+          let blocks = phased-items h.chosen h.items handed h.are in
           let chosen : phase_of handed ≡ h.chosen = ap phase_of h.are ∙ phase_of-with_phase h.chosen h.items in (
             g.0,
             record {
@@ -604,7 +604,7 @@ stages-prefix s now room octets phase piece tried of roomy grows first some give
                     (sym f.is) (first-of-more c bits piece stood.items tried stood.are_items more);
               };
               are =
-                  turn-more c given stood.handed stood.waiting f.more done stood.items tried phase stood.are_due
+                  phased-more c given stood.handed stood.waiting f.more done stood.items tried phase stood.are_due
                   stood.are_items stood.are
                   (once-due c given octets stood.handed stood.waiting f.more stood.are_due f.due) f.is_phase
                   ∙ ap (λ (o : Option Chosen). with_phase o (stood.items ++ tried)) chosen;
@@ -742,7 +742,7 @@ received-due s given done stood =
           let blocks : items_of handed ++ waiting ≡ h.items =
           ap (λ (l : List WindowBlock). items_of handed ++ l) (sym (items_of-items waiting))
           ∙ sym (items_of-append handed (map Item waiting))
-          ∙ turn-items h.chosen h.items (handed ++ map Item waiting) h.are in
+          ∙ phased-items h.chosen h.items (handed ++ map Item waiting) h.are in
           let chosen : phase_of handed ≡ h.chosen = sym (phase_from-append None handed (map Item waiting)
           ∙ phase_from-items (phase_of handed) waiting) ∙ ap phase_of h.are
           ∙ phase_of-with_phase h.chosen h.items in
@@ -863,7 +863,7 @@ pub record Ended (s : Stages) (given : List ℕ) (done : List (Handed ItemValue)
   pub is : bits ≡ inner_bits s.inner.config given (items_of stood.handed) ++ piece
   pub few : length (inner_bits s.inner.config given (items_of stood.handed) ++ piece) < 2 ^ 63
   pub counted : totals ≡ totals_of s.inner.config bits inner.blocks
-  pub turn : (others : List ItemValue) → done ++ (with_phase phase [] ++ map Item others)
+  pub are : (others : List ItemValue) → done ++ (with_phase phase [] ++ map Item others)
       ≡ with_phase chosen (stood.items ++ others)
 
 pub ended : (s : Stages) (given : List ℕ) (done : List (Handed ItemValue)) (stood : StagesFor s given done) (room : ℕ)
@@ -875,7 +875,7 @@ ended s given done stood room phase piece totals at_end =
     let e = at_end.ends given stood.handed stood.waiting (omega (arith, stood.few, roomy)) stood.inner stood.are_due in
     let h = e.are_handed in
     let handed = stood.handed ++ e.last in
-    let blocks = turn-items h.chosen h.items handed h.are in
+    let blocks = phased-items h.chosen h.items handed h.are in
     let chosen : phase_of handed ≡ h.chosen = ap phase_of h.are ∙ phase_of-with_phase h.chosen h.items in
     let here = subst (λ (l : List WindowBlock). AreInnerBlocks c (skip_of h.chosen) given l e.left)
     (sym blocks) h.are_items in
@@ -893,8 +893,8 @@ ended s given done stood room phase piece totals at_end =
             stood.inner.few,
           );
       counted = e.counted;
-      turn =
-          λ others. turn-more c given stood.handed stood.waiting e.last done stood.items others phase stood.are_due
+      are =
+          λ others. phased-more c given stood.handed stood.waiting e.last done stood.items others phase stood.are_due
           stood.are_items stood.are
           (once-last c given stood.handed stood.waiting e.last e.left stood.are_due h) e.is_phase
           ∙ ap (λ (o : Option Chosen). with_phase o (stood.items ++ others)) chosen;
@@ -941,7 +941,7 @@ ends took s bits_now taker middle now room phase piece totals at_end p q given d
         subst (λ (l : List Bool). AreItems c l (stood.items ++ (p.items ++ q.items))) (sym e.is)
             (items-ended took s bits_now taker middle now piece at_end.of p q given done stood e.few),
       );
-      are = e.turn (p.items ++ q.items);
+      are = e.are (p.items ++ q.items);
     }
 
 -- a prefix of all, where these are first items of the bits
@@ -965,7 +965,7 @@ ends-first s phase piece totals given done stood e tried first =
             subst (λ (l : List Bool). AreFirstItemsOf c l (places (rules_of c) l) (stood.items ++ tried))
             (sym e.is) first;
       };
-      are = e.turn tried;
+      are = e.are tried;
     }
 
 -- the taker failed at the phase

@@ -26,7 +26,7 @@ pub mod Between
 pub mod AllBits
 pub mod ReceivedPieces
 pub mod Spare
-pub mod Turns
+pub mod PhasedItems
 pub mod GivenOctets
 mod FewItems
 pub mod ColumnsRead

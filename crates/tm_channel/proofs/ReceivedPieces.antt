@@ -42,11 +42,11 @@ held-then a b piece bits config pushes few stood =
     (pushes (due_count a.batch.config bits) bits few stood)
 
 -- and then the codeblocks that are whole with them were kept, and each batch that was full was handed over
-pub received-turn : {T : Type 0} (took : T → ItemValue → T → Type 0) (a b c : BitReceiving) (taker now : T)
+pub received-pushed : {T : Type 0} (took : T → ItemValue → T → Type 0) (a b c : BitReceiving) (taker now : T)
     (piece : List Bool) (items : List ItemValue)
     → b.batch.config ≡ a.batch.config → Pushes a b piece → c.batch.config ≡ b.batch.config
     → Settles b c items → HandedOver took taker items now → Received took a c taker now piece
-received-turn took a b c taker now piece items config pushes same settles handed = record {
+received-pushed took a b c taker now piece items config pushes same settles handed = record {
   config = same ∙ config;
   stands = λ bits few stood. (settles bits piece few (held-then a b piece bits config pushes few stood)).0;
   items = items;
@@ -56,11 +56,11 @@ received-turn took a b c taker now piece items config pushes same settles handed
 }
 
 -- at an item of which the taker failed
-pub part-turn : {T : Type 0} (took broke : T → ItemValue → T → Type 0) (a b c : BitReceiving) (taker now : T)
+pub part-pushed : {T : Type 0} (took broke : T → ItemValue → T → Type 0) (a b c : BitReceiving) (taker now : T)
     (piece : List Bool) (tried : List ItemValue)
     → b.batch.config ≡ a.batch.config → Pushes a b piece → c.batch.config ≡ b.batch.config
     → SettlesPart b tried → HandedPart took broke taker tried now → ReceivedPart took broke a c taker now piece
-part-turn took broke a b c taker now piece tried config pushes same settles handed = record {
+part-pushed took broke a b c taker now piece tried config pushes same settles handed = record {
   config = same ∙ config;
   tried = tried;
   handed = handed;

@@ -10,7 +10,7 @@ use Rattle.tm_channel.specs.Due.{in_batches, due_count_of, due_of, due_count, du
 use Rattle.tm_channel.specs.Receiving.{AreFirstFurther, AreFurther, AreItemsFor, Holding, HoldsMore, HoldsReported, IsHanded}
 use Rattle.tm_channel.specs.OctetReceiving.{BitReceiving, BitReceiverStandsFor}
 use Rattle.tm_channel.proofs.Batches.{batches-more}
-use Rattle.tm_channel.proofs.Streaming.{after-due, due-none, turn-broke, turn-items, turn-stands}
+use Rattle.tm_channel.proofs.Streaming.{after-due, batch-broke, batch-items, batch-stands, due-none}
 
 -- Of `all` bits, which follow others for which a receiver stood, the search reported these places by now, and these
 -- items were handed over.
@@ -67,13 +67,13 @@ held-next a b m f bits all items config keeps few s =
     (keeps (due_count_of a.batch.config s.reported) all s.reported few s.holds)
 
 -- and the batch is handed over where it is full
-pub settling-turn : (a b m n : BitReceiving) (f : Found) (others : List ItemValue) → b.batch.config ≡ a.batch.config
+pub settling-handed : (a b m n : BitReceiving) (f : Found) (others : List ItemValue) → b.batch.config ≡ a.batch.config
     → m.batch.config ≡ b.batch.config
     → n.search ≡ m.search → n.room ≡ m.room → n.batch.config ≡ m.batch.config → n.batch.part ≡ m.batch.part
     → KeepsPlace b m f → IsHanded m.batch.config m.batch.stored n.batch.stored others
     → (bits all : List Bool) (items : List ItemValue) → length all < 2 ^ 63 → Settling a b bits all items
     → Settling a n bits all (items ++ others)
-settling-turn a b m n f others config_b config_m search room config_n part keeps handed bits all items few s =
+settling-handed a b m n f others config_b config_m search room config_n part keeps handed bits all items few s =
     let c = a.batch.config in
     let now : List Found = s.reported ++ f ∷ [] in
     let config : m.batch.config ≡ c = config_m ∙ config_b in
@@ -86,11 +86,11 @@ settling-turn a b m n f others config_b config_m search room config_n part keeps
     record {
       reported = now;
       holds = holds-same c m n (due_count_of c now) all now search room (config_n ∙ config) part
-          (turn-stands c (SearchStandsFor m.search m.room) m.batch.part m.batch.stored n.batch.stored s.reported now
+          (batch-stands c (SearchStandsFor m.search m.room) m.batch.part m.batch.stored n.batch.stored s.reported now
           all others held is);
       least = omega (arith, least, more);
       are_items =
-          turn-items c (SearchStandsFor m.search m.room) m.batch.part m.batch.stored n.batch.stored s.reported f all
+          batch-items c (SearchStandsFor m.search m.room) m.batch.part m.batch.stored n.batch.stored s.reported f all
           (due_count c bits) items others held is s.least s.are_items;
     }
 
@@ -108,7 +108,7 @@ settling-broke a b m f number others config_b config_m keeps many are bits more 
     let held = held-next a b m f bits (bits ++ more) items config keeps few s in
     subst (λ (fs : List Found). AreFirstItemsOf c (bits ++ more) fs (items ++ others))
     (sym (after-due c bits (due c (bits ++ more))))
-    (turn-broke c (SearchStandsFor m.search m.room) m.batch.part m.batch.stored s.reported f (bits ++ more)
+    (batch-broke c (SearchStandsFor m.search m.room) m.batch.part m.batch.stored s.reported f (bits ++ more)
     (due_count c bits) number items others held
     (many ∙ ap (λ (k : Configuration). k.batch) config)
     (subst (λ (k : Configuration). AreItemsFor k (take number m.batch.stored) others) config are) s.least s.are_items)

@@ -163,17 +163,17 @@ pub due-none : (c : Configuration) (bits : List Bool) → drop (due_count c bits
 due-none c bits = ap (λ k. drop k (due c bits)) (sym (length-due c bits)) ∙ drop-length (due c bits)
 
 -- the batch was handed over where it is full with what was reported last
-pub turn-stands : (c : Configuration) (stands : List Bool → List Found
+pub batch-stands : (c : Configuration) (stands : List Bool → List Found
     → Type 0) (part : List Bool) (stored stored' : List StoredCodeblock)
     (reported now : List Found) (bits : List Bool) (items : List ItemValue)
     → Holding c stands part stored (due_count_of c reported) bits now → IsHanded c stored stored' items
     → Holding c stands part stored' (due_count_of c now) bits now
-turn-stands c stands part stored stored' reported now bits items h (inl (few, same, none)) =
+batch-stands c stands part stored stored' reported now bits items h (inl (few, same, none)) =
     let count = waiting-count c stands part stored (due_count_of c reported) bits now h in
     let still = not_full c.batch (length reported) (length now) h.within (subst (λ n. n < c.batch) count few) in
     subst (λ (l : List StoredCodeblock). Holding c stands part l (due_count_of c now) bits now) (sym same)
     (subst (λ n. Holding c stands part stored n bits now) (sym still) h)
-turn-stands c stands part stored stored' reported now bits items h (inr (many, nothing, are)) =
+batch-stands c stands part stored stored' reported now bits items h (inr (many, nothing, are)) =
     let count = waiting-count c stands part stored (due_count_of c reported) bits now h in
     let whole = full c.batch (length reported) (length now) h.within (sym count ∙ many) in
     record {
@@ -205,14 +205,14 @@ due-split c reported f count least =
     (omega (arith, long, least))
 
 -- the items handed over are those of the places reported that are due, but for so many of the first
-pub turn-items : (c : Configuration) (stands : List Bool → List Found
+pub batch-items : (c : Configuration) (stands : List Bool → List Found
     → Type 0) (part : List Bool) (stored stored' : List StoredCodeblock)
     (reported : List Found) (f : Found) (bits : List Bool) (count : ℕ) (items others : List ItemValue)
     → Holding c stands part stored (due_count_of c reported) bits (reported ++ f ∷ [])
     → IsHanded c stored stored' others
     → count ≤ due_count_of c reported → AreItemsOf c bits (drop count (due_of c reported)) items
     → AreItemsOf c bits (drop count (due_of c (reported ++ f ∷ []))) (items ++ others)
-turn-items c stands part stored stored' reported f bits count items others h (inl (few, same, none)) least were =
+batch-items c stands part stored stored' reported f bits count items others h (inl (few, same, none)) least were =
     let now : List Found = reported ++ f ∷ [] in
     let wait = waiting-count c stands part stored (due_count_of c reported) bits now h in
     let still = not_full c.batch (length reported) (length now) h.within (subst (λ n. n < c.batch) wait few) in
@@ -220,7 +220,7 @@ turn-items c stands part stored stored' reported f bits count items others h (in
     subst (λ (fs : List Found). AreItemsOf c bits (drop count fs) (items ++ others)) (sym due_now)
     (subst (λ (l : List ItemValue). AreItemsOf c bits (drop count (due_of c reported)) l)
     (sym (ap (λ l. items ++ l) none ∙ append-nil items)) were)
-turn-items c stands part stored stored' reported f bits count items others h (inr (many, nothing, are)) least were =
+batch-items c stands part stored stored' reported f bits count items others h (inr (many, nothing, are)) least were =
     let now : List Found = reported ++ f ∷ [] in
     let wait = waiting-count c stands part stored (due_count_of c reported) bits now h in
     let whole = full c.batch (length reported) (length now) h.within (sym wait ∙ many) in
@@ -254,14 +254,14 @@ due-first c bits reported first whole =
     sym (take-append-drop (length reported) (due c bits)) ∙ ap (λ l. l ++ drop (length reported) (due c bits)) prefix
 
 -- the taker failed at an item of a full batch
-pub turn-broke : (c : Configuration) (stands : List Bool → List Found → Type 0) (part : List Bool)
+pub batch-broke : (c : Configuration) (stands : List Bool → List Found → Type 0) (part : List Bool)
     (stored : List StoredCodeblock)
     (reported : List Found) (f : Found) (bits : List Bool) (count number : ℕ) (items others : List ItemValue)
     → Holding c stands part stored (due_count_of c reported) bits (reported ++ f ∷ []) → length stored ≡ c.batch
     → AreItemsFor c (take number stored) others
     → count ≤ due_count_of c reported → AreItemsOf c bits (drop count (due_of c reported)) items
     → AreFirstItemsOf c bits (drop count (due c bits)) (items ++ others)
-turn-broke c stands part stored reported f bits count number items others h many are least were =
+batch-broke c stands part stored reported f bits count number items others h many are least were =
     let now : List Found = reported ++ f ∷ [] in
     let wait = waiting-count c stands part stored (due_count_of c reported) bits now h in
     let whole = full c.batch (length reported) (length now) h.within (sym wait ∙ many) in

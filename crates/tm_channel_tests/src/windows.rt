@@ -6,7 +6,7 @@ use std::thread::Threads;
 use tm_base::{Failed, MemSink};
 use tm_channel::{Config, Item, ItemTaker, Raw, Receiver, RecvError, Sender};
 
-// Keeps one number that goes on with the place and the first octet of each item, and with each turn after it.
+// Keeps one number that goes on with the place and the first octet of each item, and with the end of each piece.
 #[derive(Drop)]
 struct Digest {
     number: u64,
@@ -113,9 +113,9 @@ fn received(
     Ok(taker.number)
 }
 
-// The items are those of one worker, and come in the same turns.
+// The items are those of one worker, and come with the same pieces.
 #[test]
-fn each_item_comes_in_its_turn(rt: HostRuntime) -> Result<(), Fail> {
+fn each_item_comes_with_its_piece(rt: HostRuntime) -> Result<(), Fail> {
     let soft = sent(rt.alloc())?;
     for size in [1, 4096] {
         let alone = received(&rt, rt.alloc(), 1, size, &soft)?;

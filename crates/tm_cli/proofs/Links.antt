@@ -5,7 +5,6 @@ use Rattle.std.proofs.lemmas.List.{length-map}
 use Rattle.tm_base.specs.Bits.{AreOctets}
 use Rattle.tm_base.specs.Handed.{Handed, items_of}
 use Rattle.tm_base.specs.Written.{Wrote}
-use Rattle.tm_base.proofs.HandedItems.{items_of-items}
 use Rattle.tm_config.specs.Configuration.{Configuration, codeblock_length, is_uncoded}
 use Rattle.tm_viterbi.specs.declared.block.Start.TheVariants.{Any}
 use Rattle.tm_conv.specs.declared.rates.Rate.TheVariants.{R12}
@@ -16,6 +15,7 @@ use Rattle.tm_windows.specs.declared.choosing.Chosen.{Chosen}
 use Rattle.tm_viterbi.specs.WindowBlock.{WindowBlock}
 use Rattle.tm_inner.specs.Inner.{AreInnerBlocks, BlocksAt, Inner, IsStartKnown, plain_count, reported_slips}
 use Rattle.tm_inner.specs.Phase.{IsChosen, PhaseAt, phase_octets, skip_of, with_phase}
+use Rattle.tm_inner.proofs.PhasePieces.{items_of-with_phase}
 use Rattle.tm_inner.proofs.WithPhase.{OnePhase, one-choice}
 use Rattle.tm_inner.proofs.ReceivedBits.{bits-plain}
 use Rattle.tm_rs_solve.specs.declared.answers.Answer.{Answer}
@@ -203,11 +203,6 @@ choice-plain c octets others (Some chosen) none is =
 
 -- ---- what was written
 
--- the items of what is handed over in turn are these
-items_of-turn : (chosen : Option Chosen) (items : List ItemValue) → items_of (with_phase chosen items) ≡ items
-items_of-turn None items = items_of-items items
-items_of-turn (Some chosen) items = items_of-items items
-
 -- What `decode` wrote for octets with this phase: the frames and the report of the items that are
 -- received. Where none of these has a
 -- column uncorrectable, the status is 0.
@@ -269,7 +264,8 @@ came one_phase one e status c octets chosen taken taken_now noted noted_now ok s
     let all = r.are_items in
     let same : r.chosen ≡ chosen = one-choice one_phase c octets r.chosen chosen r.choice choice in
     let handed : d.handed ≡ with_phase chosen r.items = r.are ∙ ap (λ (o : Option Chosen). with_phase o r.items) same in
-    let items : items_of d.handed ≡ r.items = ap (items_of {I = ItemValue}) handed ∙ items_of-turn chosen r.items in
+    let items : items_of d.handed ≡ r.items = ap (items_of {I = ItemValue}) handed
+    ∙ items_of-with_phase chosen r.items in
     let was = all.1 in
     let inner : Inner c (skip_of chosen) octets all.0 = record {
       blocks = was.blocks;

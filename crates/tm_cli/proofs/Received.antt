@@ -111,21 +111,22 @@ few-with_phase : (AreItems : ℕ → List ItemValue → Type 0) (c : Configurati
     (handed : List (Handed ItemValue)) (most : ℕ)
     → ((phase : ℕ) (items : List ItemValue) → AreItems phase items → length items ≤ most)
     → WithPhase AreItems c octets handed → length (items_of handed) ≤ most
-few-with_phase AreItems c octets handed most few turn =
-    let items : items_of handed ≡ turn.items = ap items_of turn.are ∙ items_of-with_phase turn.chosen turn.items in
-    omega (arith, ap length items, few (skip_of turn.chosen) turn.items turn.are_items)
+few-with_phase AreItems c octets handed most few phased =
+    let items : items_of handed ≡ phased.items = ap items_of phased.are
+    ∙ items_of-with_phase phased.chosen phased.items in
+    omega (arith, ap length items, few (skip_of phased.chosen) phased.items phased.are_items)
 
 pub few-received_due : (c : Configuration) (octets : List ℕ) (handed : List (Handed ItemValue))
     → AreReceivedDue c octets handed → length (items_of handed) ≤ 8 * length octets
 few-received_due c octets handed (inl none) = omega (arith, ap (λ l. length (items_of l)) none.1)
-few-received_due c octets handed (inr turn) =
-    few-with_phase (λ phase. ReceiveDue c phase octets) c octets handed (8 * length octets) (few-due c octets) turn.1
+few-received_due c octets handed (inr phased) =
+    few-with_phase (λ phase. ReceiveDue c phase octets) c octets handed (8 * length octets) (few-due c octets) phased.1
 
 pub few-received_first : (c : Configuration) (octets : List ℕ) (handed : List (Handed ItemValue))
     → AreReceivedFirst c octets handed → length (items_of handed) ≤ 8 * length octets
-few-received_first c octets handed turn =
+few-received_first c octets handed phased =
     few-with_phase (λ phase. ReceiveFirst c phase octets) c octets handed (8 * length octets)
-    (few-first c octets) turn.1
+    (few-first c octets) phased.1
 
 pub few-received_prefix : (c : Configuration) (octets : List ℕ) (handed : List (Handed ItemValue))
     → AreReceivedPrefix c octets handed → length (items_of handed) ≤ 8 * length octets

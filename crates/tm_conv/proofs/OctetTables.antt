@@ -223,10 +223,11 @@ flip low symbol within = go (symbol == 0)
     go false = both.1
 
 -- the same of a symbol that is complemented
-turn : (low symbol : ℕ) → low < 256 → symbol < 2 → bit_xor (level 0 symbol) (255 - low) ≡ level low (1 - symbol)
-turn low zero within bit = flip (255 - low) 0 (omega arith)
-turn low (suc zero) within bit = flip (255 - low) 1 (omega arith) ∙ omega arith
-turn low (suc (suc symbol)) within bit = absurd (omega arith)
+flip-complemented : (low symbol : ℕ) → low < 256 → symbol < 2
+    → bit_xor (level 0 symbol) (255 - low) ≡ level low (1 - symbol)
+flip-complemented low zero within bit = flip (255 - low) 0 (omega arith)
+flip-complemented low (suc zero) within bit = flip (255 - low) 1 (omega arith) ∙ omega arith
+flip-complemented low (suc (suc symbol)) within bit = absurd (omega arith)
 
 c2-bit : (register bit : ℕ) → c2 register bit < 2
 c2-bit register bit = omega arith
@@ -244,7 +245,7 @@ flip-second : (invert : Bool) (low register bit : ℕ) → low < 256
     → bit_xor (level 0 (c2 register bit)) (second invert low) ≡ level low (sent_c2 invert (c2 register bit))
 unfolding second
 flip-second false low register bit within = flip low (c2 register bit) within
-flip-second true low register bit within = turn low (c2 register bit) within (c2-bit register bit)
+flip-second true low register bit within = flip-complemented low (c2 register bit) within (c2-bit register bit)
 
 flipped : (invert : Bool) (low register a b c d e g h i : ℕ) → low < 256
     → zip2 bit_xor (levels 0 (path R12 false 0 register (a ∷ b ∷ c ∷ d ∷ e ∷ g ∷ h ∷ i ∷ []))) (flips invert low)

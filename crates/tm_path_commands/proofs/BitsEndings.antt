@@ -326,9 +326,9 @@ module _ (exists : HasBlocks) (stands : StandFirst) (phase : HasPhase) (one : On
     bits : bits_of_handed c longer all ≡ bits_of_handed c octets due ++ rest
     line : ((phase_line due ≡ []) × (bits_of_handed c octets due ≡ [])) ⊎ (phase_line due ≡ phase_line all)
 
-  turn-items : (chosen : Option Chosen) (items : List WindowBlock) (handed : List (Handed WindowBlock))
+  phased-items : (chosen : Option Chosen) (items : List WindowBlock) (handed : List (Handed WindowBlock))
       → handed ≡ with_phase chosen items → items_of handed ≡ items
-  turn-items chosen items handed are = ap items_of are ∙ items_of-with_phase chosen items
+  phased-items chosen items handed are = ap items_of are ∙ items_of-with_phase chosen items
 
   later : (c : Configuration) (octets more : List ℕ) (due all : List (Handed WindowBlock)) (left : ℕ)
       → AreHandedDue c octets due → AreHanded c (octets ++ more) all left → Later c octets (octets ++ more) due all
@@ -348,9 +348,9 @@ module _ (exists : HasBlocks) (stands : StandFirst) (phase : HasPhase) (one : On
       (subst (λ (o : Option Chosen). AreInnerDue c (skip_of o) octets t.items) same t.are_items) q.are_items in
       record {
         rest = first.0;
-        bits = ap (inner_bits c (octets ++ more)) (turn-items q.chosen q.items all q.are) ∙ first.1
+        bits = ap (inner_bits c (octets ++ more)) (phased-items q.chosen q.items all q.are) ∙ first.1
             ∙ ap (λ (l : List WindowBlock). inner_bits c octets l ++ first.0)
-            (sym (turn-items t.chosen t.items due t.are));
+            (sym (phased-items t.chosen t.items due t.are));
         line = inr (ap phase_line t.are ∙ line-with_phase t.chosen t.items ∙ ap line_of same
             ∙ sym (line-with_phase q.chosen q.items) ∙ sym (ap phase_line q.are));
       }

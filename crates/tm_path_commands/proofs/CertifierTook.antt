@@ -130,12 +130,12 @@ wrote-items before now [] taken taken_now wrote = wrote
 wrote-items before now (item ∷ items) taken taken_now wrote =
     (wrote.0, wrote.1, wrote.2, wrote-items wrote.0 now items wrote.1 taken_now wrote.3)
 
-pub wrote-turn : (before now : Certifying) (chosen : Option Chosen) (items : List WindowBlock)
+pub wrote-phased : (before now : Certifying) (chosen : Option Chosen) (items : List WindowBlock)
     (taken taken_now : Option (List ℕ))
     → WroteHanded before now (with_phase chosen items) taken taken_now
     → WroteBlocks (with_octets before (drop (skip_of chosen) before.place.octets)) now items taken taken_now
-wrote-turn before now None items taken taken_now wrote = wrote-items before now items taken taken_now wrote
-wrote-turn before now (Some chosen) items taken taken_now wrote =
+wrote-phased before now None items taken taken_now wrote = wrote-items before now items taken taken_now wrote
+wrote-phased before now (Some chosen) items taken taken_now wrote =
     wrote-items (with_octets before (drop chosen.skip before.place.octets)) now items taken taken_now wrote
 
 -- items that begin with these have no phase in these
@@ -173,12 +173,12 @@ prefix-after before items taken taken_now part =
     prefix-items before part.middle items part.prefix part.next part.rest taken part.taken_then taken_now part.split
     part.wrote part.broke
 
-pub prefix-turn : (before : Certifying) (chosen : Option Chosen) (items : List WindowBlock)
+pub prefix-phased : (before : Certifying) (chosen : Option Chosen) (items : List WindowBlock)
     (taken taken_now : Option (List ℕ))
     → WroteHandedPrefix before (with_phase chosen items) taken taken_now
     → WroteBlocksPrefix (with_octets before (drop (skip_of chosen) before.place.octets)) items taken taken_now
-prefix-turn before None items taken taken_now part = prefix-after before items taken taken_now part
-prefix-turn before (Some chosen) items taken taken_now part = by_prefix part.prefix part.split part.wrote
+prefix-phased before None items taken taken_now part = prefix-after before items taken taken_now part
+prefix-phased before (Some chosen) items taken taken_now part = by_prefix part.prefix part.split part.wrote
   where
     by_prefix : (prefix : List (Handed WindowBlock)) → Phase chosen.skip chosen.cost ∷ map Item items ≡ prefix
         ++ Item part.next ∷ part.rest

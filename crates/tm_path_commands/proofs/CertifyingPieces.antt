@@ -103,10 +103,10 @@ pub new-is : (c : Configuration) (rate : Rate) (now : Certifying) (other : Rate)
     → other ≡ rate → invert ≡ is_inverted other c.invert → start ≡ (settings_of c rate).start → keep ≡ c.keep
     → ahead ≡ c.ahead → now ≡ new-at c rate
 new-is c rate now other invert start keep ahead is same inverts starts keeps aheads =
-    let turns : invert ≡ is_inverted rate c.invert = inverts ∙ ap (λ r. is_inverted r c.invert) same in
+    let inverted : invert ≡ is_inverted rate c.invert = inverts ∙ ap (λ r. is_inverted r c.invert) same in
     is ∙ (λ i. record {
       rate = same i;
-      invert = turns i;
+      invert = inverted i;
       place
           = record { starts = first_start (starts i); t = 0; octets = [] };
       room = soft_room (keeps i + aheads i);

@@ -22,7 +22,7 @@ use Rattle.tm_inner.proofs.ReceivedBits.{kept-le, length-soft}
 use Rattle.tm_cert_file.specs.Certificate.{AreCertified, IsCertificate}
 use Rattle.tm_cert_file.specs.Certifying.{Certifying, AreNext, WroteBlocks, WroteBlocksPrefix, soft_room, with_octets, with_place}
 use Rattle.tm_cert_file.proofs.ManyWindows.{Append, whole-after}
-use Rattle.tm_path_commands.proofs.CertifierTook.{WroteHanded, WroteHandedPrefix, wrote-turn, wrote-items, prefix-turn, prefix-after}
+use Rattle.tm_path_commands.proofs.CertifierTook.{WroteHanded, WroteHandedPrefix, wrote-phased, wrote-items, prefix-phased, prefix-after}
 
 -- ---- closed windows, and those after them
 
@@ -199,7 +199,7 @@ from-waiting : (c : Configuration) (rate : Rate) (given : Certifying) (octets : 
     → StoodWaiting c rate given octets handed text
     → From c rate given octets (skip_of other) all more text
 from-waiting c rate given octets other all handed more text is are s w =
-    let turn : more ≡ with_phase other all = ap (λ l. l ++ more) (sym w.nothing) ∙ are in
+    let more_is : more ≡ with_phase other all = ap (λ l. l ++ more) (sym w.nothing) ∙ are in
     let skip = skip_of other in
     let place : with_octets given (drop skip given.place.octets)
     ≡ with_place given (first_place (settings_of c rate) (soft_octets c skip octets)) =
@@ -216,11 +216,11 @@ from-waiting c rate given octets other all handed more text is are s w =
       closed = sym (ap (λ (v : Certifying). v.place) place);
       is_text = w.is_text;
       wrote =
-          λ now taken taken_now wrote. wrote-turn given now other all taken taken_now
-          (subst (λ (l : List (Handed WindowBlock)). WroteHanded given now l taken taken_now) turn wrote);
+          λ now taken taken_now wrote. wrote-phased given now other all taken taken_now
+          (subst (λ (l : List (Handed WindowBlock)). WroteHanded given now l taken taken_now) more_is wrote);
       broke =
-          λ taken taken_now part. prefix-turn given other all taken taken_now
-          (subst (λ (l : List (Handed WindowBlock)). WroteHandedPrefix given l taken taken_now) turn part);
+          λ taken taken_now part. prefix-phased given other all taken taken_now
+          (subst (λ (l : List (Handed WindowBlock)). WroteHandedPrefix given l taken taken_now) more_is part);
     }
 
 from-going : (c : Configuration) (rate : Rate) (given : Certifying) (octets soft : List ℕ) (other : Option Chosen)

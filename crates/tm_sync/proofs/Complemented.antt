@@ -77,13 +77,13 @@ match-complemented rules bits either few long =
     go false false p q = refl
 
 -- what stands before, complemented
-turn : Before → Before
-turn before = record { inverted = flip before.inverted; bridged = before.bridged }
+complemented_before : Before → Before
+complemented_before before = record { inverted = flip before.inverted; bridged = before.bridged }
 
 place_by-complemented : (rules : Rules) (at : ℕ) (before : Option Before) (bits : List Bool) (polarity : Option Bool)
-    → place_by rules at (option_map turn before) (complement bits) (option_map flip polarity)
+    → place_by rules at (option_map complemented_before before) (complement bits) (option_map flip polarity)
     ≡ option_map complemented_place (place_by rules at before bits polarity)
-unfolding turn
+unfolding complemented_before
 place_by-complemented rules at before bits (Some inverted) =
     λ i. Some (record {
       place = at;
@@ -154,7 +154,7 @@ are_verified-complemented rules inverted (suc count) bits either few =
 
 place_polarity-complemented : (rules : Rules) (before : Option Before) (bits : List Bool) → rules.either ≡ true
     → rules.tolerance ≤ 15 → 32 ≤ length bits
-    → place_polarity rules (option_map turn before) (complement bits)
+    → place_polarity rules (option_map complemented_before before) (complement bits)
     ≡ option_map flip (place_polarity rules before bits)
 place_polarity-complemented rules (Some before) bits either few long = match-complemented rules bits either few long
 place_polarity-complemented rules None bits either few long =
@@ -175,56 +175,60 @@ place_polarity-complemented rules None bits either few long =
 
 place_at-complemented : (rules : Rules) (at : ℕ) (before : Option Before) (bits : List Bool) → rules.either ≡ true
     → rules.tolerance ≤ 15
-    → place_at rules at (option_map turn before) (complement bits)
+    → place_at rules at (option_map complemented_before before) (complement bits)
     ≡ option_map complemented_place (place_at rules at before bits)
 place_at-complemented rules at before bits either few = go (cases_lt (length bits) (32 + rules.block_bits))
   where
     go : (length bits < 32 + rules.block_bits) ⊎ (32 + rules.block_bits ≤ length bits)
-        → place_at rules at (option_map turn before) (complement bits)
+        → place_at rules at (option_map complemented_before before) (complement bits)
         ≡ option_map complemented_place (place_at rules at before bits)
     go (inl short) =
-        place_at-short rules at (option_map turn before) (complement bits) (omega (arith, length-complement bits))
+        place_at-short rules at (option_map complemented_before before) (complement bits)
+        (omega (arith, length-complement bits))
         ∙ ap (option_map complemented_place) (sym (place_at-short rules at before bits short))
     go (inr room) =
-        place_at-room rules at (option_map turn before) (complement bits) (omega (arith, length-complement bits))
-        ∙ ap (place_by rules at (option_map turn before) (complement bits))
+        place_at-room rules at (option_map complemented_before before) (complement bits)
+        (omega (arith, length-complement bits))
+        ∙ ap (place_by rules at (option_map complemented_before before) (complement bits))
         (place_polarity-complemented rules before bits either few (omega arith))
         ∙ place_by-complemented rules at before bits (place_polarity rules before bits)
         ∙ ap (option_map complemented_place) (sym (place_at-room rules at before bits room))
 
-after-complemented : (before : Option Before) (f : Found) → Some
-    (before_next (option_map turn before) (complemented_place f)) ≡ option_map turn (Some (before_next before f))
-unfolding turn
+after-complemented : (before : Option Before) (f : Found)
+    → Some (before_next (option_map complemented_before before) (complemented_place f))
+    ≡ option_map complemented_before (Some (before_next before f))
+unfolding complemented_before
 after-complemented None f = refl
 after-complemented (Some before) f = refl
 
 places_from-complemented : (rules : Rules) (at skip : ℕ) (before : Option Before) (bits : List Bool)
     → rules.either ≡ true → rules.tolerance ≤ 15
-    → places_from rules at skip (option_map turn before) (complement bits)
+    → places_from rules at skip (option_map complemented_before before) (complement bits)
     ≡ map complemented_place (places_from rules at skip before bits)
 places_from-complemented rules at skip before [] either few =
-    places_from-nil rules at skip (option_map turn before) ∙ ap (map complemented_place)
+    places_from-nil rules at skip (option_map complemented_before before) ∙ ap (map complemented_place)
     (sym (places_from-nil rules at skip before))
 places_from-complemented rules at (suc skip) before (b ∷ bits) either few =
-    places_from-inside rules at skip (option_map turn before) (flip b) (complement bits)
+    places_from-inside rules at skip (option_map complemented_before before) (flip b) (complement bits)
     ∙ places_from-complemented rules (at + 1) skip before bits either few
     ∙ ap (map complemented_place) (sym (places_from-inside rules at skip before b bits))
 places_from-complemented rules at zero before (b ∷ bits) either few =
     go (λ skip since. places_from-complemented rules (at + 1) skip since bits either few)
     (place_at-complemented rules at before (b ∷ bits) either few) (seen (place_at rules at before (b ∷ bits)))
   where
-    go : ((skip : ℕ) (before : Option Before) → places_from rules (at + 1) skip (option_map turn before)
+    go : ((skip : ℕ) (before : Option Before) → places_from rules (at + 1) skip (option_map complemented_before before)
         (complement bits) ≡ map complemented_place (places_from rules (at + 1) skip before bits))
-        → place_at rules at (option_map turn before) (complement (b ∷ bits))
+        → place_at rules at (option_map complemented_before before) (complement (b ∷ bits))
         ≡ option_map complemented_place (place_at rules at before (b ∷ bits))
-        → Seen (place_at rules at before (b ∷ bits)) → places_from rules at 0 (option_map turn before)
+        → Seen (place_at rules at before (b ∷ bits)) → places_from rules at 0 (option_map complemented_before before)
         (complement (b ∷ bits)) ≡ map complemented_place (places_from rules at 0 before (b ∷ bits))
     go next same (none e) =
-        places_from-miss rules at (option_map turn before) (flip b) (complement bits)
+        places_from-miss rules at (option_map complemented_before before) (flip b) (complement bits)
         (same ∙ ap (option_map complemented_place) e)
         ∙ next 0 None ∙ ap (map complemented_place) (sym (places_from-miss rules at before b bits e))
     go next same (some f e) =
-        places_from-one rules at (option_map turn before) (flip b) (complement bits) (complemented_place f)
+        places_from-one rules at (option_map complemented_before before) (flip b) (complement bits)
+        (complemented_place f)
         (same ∙ ap (option_map complemented_place) e)
         ∙ ap (λ (o : Option Before). complemented_place f ∷ places_from rules (at + 1) (31 + rules.block_bits) o
         (complement bits)) (after-complemented before f)

@@ -79,7 +79,7 @@ tail_size_complemented rate t keep ahead cut len len' is cut_is is' = go (cases_
           steps_size-add rate t keep (ahead - keep),
         )
 
--- when a full window turns, its whole tail is the next window's first steps
+-- when a full window is decoded, its whole tail is the next window's first steps
 pub tail_is : (rate rate' : Rate) (t t' n keep ahead len : ℕ) → rate' ≡ rate → t' ≡ t + keep → n ≡ keep + ahead
     → len ≡ steps_size rate (t + keep) (n - keep) → len ≡ steps_size rate' t' ahead
 tail_is rate rate' t t' n keep ahead len er et full is =

@@ -3,7 +3,7 @@ use Rattle.tm_base.proofs.Handing.{HandedOver-append, HandedPart-after}
 use Rattle.tm_sync.specs.Searching.{Searching, waiting_of}
 use Rattle.tm_channel.specs.OctetReceiving.{BitReceiving}
 use Rattle.tm_channel.proofs.Stepping.{agree-same}
-use Rattle.tm_channel.proofs.Settling.{settling-all, settling-broke, settling-start, settling-turn}
+use Rattle.tm_channel.proofs.Settling.{settling-all, settling-broke, settling-handed, settling-start}
 use Rattle.tm_channel.proofs.bit_receiver.BitReceiver.keep_all.Goals as goal
 
 pub loop-self-init : goal.loop-self-init
@@ -57,7 +57,7 @@ loop-self-preserved g c =
         i.settling.0 ++ some.0,
         HandedOver-append took c.args.taker.now c.loop-self.taker c.hand_full.new.taker i.settling.0 some.0
             i.settling.1 some.2,
-        λ bits more short h. settling-turn start before middle now stored.0 some.0 i.config
+        λ bits more short h. settling-handed start before middle now stored.0 some.0 i.config
             c.keep_whole.ensures.config c.hand_full.ensures.search c.hand_full.ensures.room
             c.hand_full.ensures.config c.hand_full.ensures.part stored.1 some.1 bits (bits ++ more) i.settling.0 short
             (i.settling.2 bits more short h),

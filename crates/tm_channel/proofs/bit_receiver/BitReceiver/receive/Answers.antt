@@ -4,7 +4,7 @@ use Rattle.tm_channel.specs.OctetReceiving.{BitReceiving, Received, ReceivedPart
 use Rattle.tm_channel.specs.Receiving.{bits_between}
 use Rattle.tm_channel.specs.declared.bit_receiver.BitReceiver.{BitReceiver}
 use Rattle.tm_channel.proofs.Between.{between-all, between-joined, between-none, between-rest}
-use Rattle.tm_channel.proofs.ReceivedPieces.{part-all, part-then, part-turn, received-none, received-then, received-turn}
+use Rattle.tm_channel.proofs.ReceivedPieces.{part-all, part-pushed, part-then, received-none, received-pushed, received-then}
 use Rattle.tm_channel.proofs.bit_receiver.BitReceiver.receive.Goals as goal
 
 -- what contracts see of it
@@ -46,7 +46,7 @@ loop-at-preserved g c =
     let now = receiving c.keep_all.new.self in
     let some = c.in-Ok.ensures.all in
     let first = i.first in
-    let turn = received-turn took before middle now c.loop-at.taker c.keep_all.new.taker
+    let pushed = received-pushed took before middle now c.loop-at.taker c.keep_all.new.taker
     (bits_between at to octets) some.0
     c.push-at.ensures.config c.push-at.ensures.holds c.keep_all.ensures.config some.2 some.1 in record {
       first = omega (arith, first);
@@ -57,7 +57,7 @@ loop-at-preserved g c =
           (between-joined c.args.from at to octets first (omega arith))
           (received-then took start before now c.args.taker.now c.loop-at.taker c.keep_all.new.taker
           (bits_between c.args.from at octets)
-          (bits_between at to octets) i.received turn);
+          (bits_between at to octets) i.received pushed);
     }
 
 pub returns-in-Err-clause-part : goal.returns-in-Err-clause-part
@@ -74,14 +74,14 @@ returns-in-Err-clause-part g c =
     let now = receiving c.keep_all.new.self in
     let some = c.in-Err.ensures.broke in
     let first = i.first in
-    let turn = part-turn took broke before middle now c.loop-at.taker c.keep_all.new.taker
+    let pushed = part-pushed took broke before middle now c.loop-at.taker c.keep_all.new.taker
     (bits_between at to octets) some.0
     c.push-at.ensures.config c.push-at.ensures.holds c.keep_all.ensures.config some.2 some.1 in
     let part = subst (ReceivedPart took broke start now c.args.taker.now c.keep_all.new.taker)
     (between-joined c.args.from at to octets first (omega arith))
     (part-then took broke start before now c.args.taker.now c.loop-at.taker c.keep_all.new.taker
     (bits_between c.args.from at octets)
-    (bits_between at to octets) i.received turn) in
+    (bits_between at to octets) i.received pushed) in
     subst (ReceivedPart took broke start now c.args.taker.now c.keep_all.new.taker)
     (between-rest c.args.from to octets (omega (arith, first)))
     (part-all took broke start now c.args.taker.now c.keep_all.new.taker (bits_between c.args.from to octets) _ part)

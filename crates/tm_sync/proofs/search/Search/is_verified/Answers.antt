@@ -8,15 +8,15 @@ use Rattle.tm_sync.proofs.Looks.{match-received, verified-step, back-or, polarit
 use Rattle.tm_sync.proofs.search.Search.is_verified.Goals.{After-polarity_of}
 use Rattle.tm_sync.proofs.search.Search.is_verified.Goals as goal
 
--- what one turn looks at: the next marker
-turn : (c : After-polarity_of) (bits : List Bool) (from : ℕ) → Recalls c.args.self.now c.args.room.now bits from
+-- what one pass of the loop looks at: the next marker
+next-marker : (c : After-polarity_of) (bits : List Bool) (from : ℕ) → Recalls c.args.self.now c.args.room.now bits from
     → from + 32 + verify_bits c.args.self.now.rules ≤ length bits
     → are_verified c.args.self.now.rules c.args.inverted c.loop-left.left
     (drop (length bits - (32 + c.loop-left.left * (32 + c.args.self.now.rules.block_bits))) bits)
     ≡ (matches_in c.polarity_of.result c.args.inverted
     && are_verified c.args.self.now.rules c.args.inverted (c.loop-left.left - 1)
     (drop (length bits - (32 + (c.loop-left.left - 1) * (32 + c.args.self.now.rules.block_bits))) bits))
-turn c bits from r room =
+next-marker c bits from r room =
     let s = c.args.self.now in
     let left = c.loop-left.left in
     let u : ℕ = 32 + s.rules.block_bits in
@@ -47,8 +47,8 @@ pub loop-left-preserved : goal.loop-left-preserved
 loop-left-preserved c = record {
   fewer = omega (arith, c.loop-left.invariant.fewer);
   held = λ bits from r room.
-      c.loop-left.invariant.held bits from r room ∙ turn (goal.at.loop-left-preserved c).After-polarity_of bits from r
-      room
+      c.loop-left.invariant.held bits from r room
+      ∙ next-marker (goal.at.loop-left-preserved c).After-polarity_of bits from r room
       ∙ ap (λ w. w && are_verified c.args.self.now.rules c.args.inverted (c.loop-left.left - 1)
       (drop (length bits - (32 + (c.loop-left.left - 1) * (32 + c.args.self.now.rules.block_bits))) bits))
       (ap (λ o. matches_in o c.args.inverted) c.in-Some.is ∙ polarity-test c.in-Some.polarity c.args.inverted true
@@ -57,7 +57,7 @@ loop-left-preserved c = record {
 
 pub returns-in_default : goal.returns-in_default
 returns-in_default c = λ bits from r room.
-    sym (c.loop-left.invariant.held bits from r room ∙ turn
+    sym (c.loop-left.invariant.held bits from r room ∙ next-marker
     (goal.at.returns-in_default c).After-polarity_of bits from r room
     ∙ ap (λ w. w && are_verified c.args.self.now.rules c.args.inverted (c.loop-left.left - 1)
     (drop (length bits - (32 + (c.loop-left.left - 1) * (32 + c.args.self.now.rules.block_bits))) bits))
@@ -66,7 +66,7 @@ returns-in_default c = λ bits from r room.
 
 pub returns-in_default-2 : goal.returns-in_default-2
 returns-in_default-2 c = λ bits from r room.
-    sym (c.loop-left.invariant.held bits from r room ∙ turn
+    sym (c.loop-left.invariant.held bits from r room ∙ next-marker
     (goal.at.returns-in_default-2 c).After-polarity_of bits from r room
     ∙ ap (λ w. w && are_verified c.args.self.now.rules c.args.inverted (c.loop-left.left - 1)
     (drop (length bits - (32 + (c.loop-left.left - 1) * (32 + c.args.self.now.rules.block_bits))) bits))

@@ -1,4 +1,4 @@
--- What is handed over in turn: a phase that may come, and items after it.
+-- What is handed over: a phase that may come, and items after it.
 use Rattle.std.proofs.Common.{◌≡◌, List, [], ◌∷◌, ◌++◌, map, refl, sym, ap, ◌∙◌, Option, Some, None}
 use Rattle.tm_base.specs.Handed.{Handed, Phase, Item}
 use Rattle.tm_base.specs.Takers.{HandedPart}
@@ -57,10 +57,10 @@ with_phase-split None items = refl
 with_phase-split (Some chosen) items = refl
 
 -- further items after what was handed over, with no further phase
-pub turn-further : {I J : Type 0} (before : Option Chosen) (more : List (Handed J)) (done : List (Handed I))
+pub phased-further : {I J : Type 0} (before : Option Chosen) (more : List (Handed J)) (done : List (Handed I))
     (items others : List I) → phase_of more ≡ None → done ≡ with_phase before items
     → done ++ (with_phase (phase_of more) [] ++ map Item others) ≡ with_phase (phase_from before more) (items ++ others)
-turn-further before more done items others none are =
+phased-further before more done items others none are =
     ap (λ (o : Option Chosen). done ++ (with_phase o [] ++ map Item others)) none
     ∙ further before done items others are
     ∙ ap (λ (o : Option Chosen). with_phase o (items ++ others)) (sym (phase_from-none before more none))
