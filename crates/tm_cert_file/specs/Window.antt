@@ -61,9 +61,9 @@ soft_end rate t steps = bits_end steps + steps_size rate t steps
 abbrev pub window_size : Rate → ℕ → ℕ → ℕ
 window_size rate t steps = soft_end rate t steps + column_size * (steps + 1)
 
--- the most octets of a window of so many steps: of each its bit, two symbols and a column
+-- the most octets of a window of so many steps, of which each sends at most two symbols
 abbrev pub window_room : ℕ → ℕ
-window_room steps = header_size + column_size + 259 * steps
+window_room steps = bits_end steps + 2 * steps + column_size * (steps + 1)
 
 abbrev pub bits_in : List ℕ → List ℕ
 bits_in octets = take (steps_in octets) (drop header_size octets)

@@ -1,5 +1,5 @@
 // The command `soak`: generated frames are sent, and what is received of them is counted.
-ghost use Rattle.std.specs.Prelude.{◌≡◌, ◌⊎◌, ◌+◌, ◌*◌, ◌^◌, ◌≤◌, ℕ, List, [], ◌++◌, length, false, Option, None, IfOk, OnErr};
+ghost use Rattle.std.specs.Prelude.{◌≡◌, ◌⊎◌, ◌+◌, ◌*◌, ◌≤◌, ℕ, List, [], ◌++◌, length, false, Option, None, IfOk, OnErr};
 ghost use Rattle.tm_base.specs.Takers.{HandedOver};
 ghost use Rattle.tm_config.specs.Accepted.{IsAccepted};
 ghost use Rattle.tm_config.specs.Configuration.{Configuration, correctable};
@@ -10,6 +10,7 @@ ghost use Rattle.tm_channel.specs.Handing.{AreReceived};
 ghost use Rattle.tm_channel.specs.Items.{ItemValue};
 ghost use Rattle.tm_channel.specs.OctetReceiving.{ReceiverStandsFor};
 ghost use Rattle.tm_cli.specs.Generated.{generated};
+ghost use Rattle.tm_cli.specs.HeldSymbols.{unit_room};
 ghost use Rattle.tm_cli.specs.Receiving.{HandedDue};
 ghost use Rattle.tm_cli.specs.Soak.{soak_meaning, soak_refusal, CountedHanded, counts_of};
 ghost use Rattle.tm_cli.specs.Taken.{no_counts};
@@ -104,7 +105,7 @@ fn pass_frames<R: Threads + Sync>(
     requires config { receiver.old.config ≡ config.now }
     requires new { ReceiverStandsFor receiver.old [] [] }
     ensures accepted { IsAccepted config.now }
-    ensures few { length (generated config.now seed frames hits) ≤ 2 ^ 15 * frames }
+    ensures few { length (generated config.now seed frames hits) ≤ unit_room * frames }
     ensures ready { receiver.new.has_stopped ≡ false }
     ensures handed { HandedDue config.now receiver.new
         (λ handed. HandedOver CountedHanded no_counts handed result) (generated config.now seed frames hits) }

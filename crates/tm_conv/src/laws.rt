@@ -17,7 +17,8 @@ pub fn clean_symbols_law()
 /// nothing.
 pub fn complement_law()
     ensures { (rate : Rate) (invert : Bool) (t register : ℕ) (bits : List ℕ) → register < registers → AreBits bits
-        → path rate invert t (63 - register) (complement bits) ≡ complement (path rate invert t register bits) }
+        → path rate invert t (registers - 1 - register) (complement bits)
+        ≡ complement (path rate invert t register bits) }
 {}
 
 /// At rate 1/2 the undisturbed pairs of six steps, or more, fix the register before them and the bits. It does nothing.

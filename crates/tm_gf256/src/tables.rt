@@ -1,6 +1,6 @@
 //! The powers of alpha and the logarithms, as tables in which a product needs no branch.
 
-ghost use Rattle.std.specs.Prelude.{◌≡◌, ◌<◌, ◌≤◌};
+ghost use Rattle.std.specs.Prelude.{◌≡◌, ◌*◌, ◌<◌, ◌≤◌};
 ghost use Rattle.tm_gf256.specs.Field.{power};
 ghost use Rattle.tm_gf256.specs.Logarithm.{IsLogarithm, log_of_zero};
 
@@ -76,7 +76,7 @@ pub fn logarithm(a: u8) -> u16
 
 /// The power i of alpha for i below 510, and 0 from there on.
 pub fn power_or_zero(i: u16) -> u8
-    requires { i < 1021 }
+    requires { i ≤ 2 * log_of_zero }
     ensures low { i < log_of_zero → result ≡ power 2 i }
     ensures high { log_of_zero ≤ i → result ≡ 0 }
 {

@@ -7,6 +7,8 @@ use Rattle.tm_config.specs.Configuration.{Configuration, unfollowed}
 use Rattle.tm_conv.specs.declared.rates.Rate.{Rate}
 use Rattle.tm_inner.specs.Inner.{inner_bits}
 use Rattle.tm_inner.specs.Symbols.{is_inverted}
+use Rattle.tm_driver.specs.Statuses.{status_of}
+use Rattle.tm_driver.specs.declared.ending.Ending.TheVariants.{Done, SourceFault, SinkFault}
 use Rattle.tm_cert_file.specs.Window.{Window}
 use Rattle.tm_cert_file.specs.File.{IsWhole, all_kept}
 use Rattle.tm_cert_file.specs.Shown.{AreAllShown}
@@ -41,7 +43,7 @@ abbrev pub PassesCertified : ℕ → Configuration → List ℕ → (noted noted
 PassesCertified status c octets noted noted_now =
     (d : Configuration) (given : List ℕ) → HasSamePaths c d → AreOctets given
     → (all : IsCertifiedAll (unfollowed d) given octets) → length octets ≤ c.limit
-    → (status ≡ 3 → ⊥) → (status ≡ 4 → ⊥)
-    → (status ≡ 0) × Wrote noted noted_now
+    → (status ≡ status_of SourceFault → ⊥) → (status ≡ status_of SinkFault → ⊥)
+    → (status ≡ status_of Done) × Wrote noted noted_now
     (trace_text (map Item all.are_handed.items)
     (length (inner_bits (unfollowed d) given all.are_handed.items)) 0)

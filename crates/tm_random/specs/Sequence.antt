@@ -11,3 +11,7 @@ sequence_bit (suc (suc (suc (suc (suc (suc (suc (suc k)))))))) =
     (sequence_bit (suc (suc (suc (suc (suc k))))))) (sequence_bit (suc (suc (suc k)))))
     (sequence_bit k)
 sequence_bit _ = true
+
+-- after how many bits it repeats, and so after how many octets its octets do
+abbrev pub sequence_period : ℕ
+sequence_period = 255

@@ -5,6 +5,7 @@
 
 ghost use Rattle.std.specs.Prelude.{◌≡◌, ◌≤◌, length};
 ghost use Rattle.tm_random.specs.Masked.{masked};
+ghost use Rattle.tm_random.specs.Sequence.{sequence_period};
 
 // The first 255 octets of the sequence. It repeats after 255 bits, and so its octets repeat after 255 octets.
 static SEQUENCE: [u8; 255] = [
@@ -44,7 +45,7 @@ pub fn mask(block: &mut [u8])
 
 // Masks a block that is no longer than a piece.
 fn mask_piece(piece: &mut [u8])
-    requires { length piece.old ≤ 255 }
+    requires { length piece.old ≤ sequence_period }
     ensures { piece.new ≡ masked piece.old }
 {
     for k in 0..piece.len() {
