@@ -7,9 +7,9 @@ ghost use Rattle.tm_viterbi.specs.Starts.{starts_from};
 ghost use Rattle.tm_viterbi.specs.Totals.{AreAtMost};
 ghost use Rattle.tm_viterbi.specs.WindowSizes.{most_window, window_bound};
 
-use crate::passes::run;
+use crate::forward_pass::run;
+use crate::path_ends::{first_sums, least_register};
 use crate::traceback::{end_register, trace_back};
-use crate::window::{first_sums, least_register};
 use crate::window_decoder::WindowShape;
 use std::alloc::{AllocError, Global};
 use tm_conv::Rate;

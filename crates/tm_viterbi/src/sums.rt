@@ -8,8 +8,8 @@ ghost use Rattle.tm_viterbi.specs.Summing.{SumsFor};
 ghost use Rattle.tm_viterbi.specs.WindowSizes.{most_window};
 
 use crate::block::Start;
-use crate::passes::step;
-use crate::window::first_sums;
+use crate::forward_pass::step;
+use crate::path_ends::first_sums;
 use std::marker::Model;
 use tm_conv::Rate;
 

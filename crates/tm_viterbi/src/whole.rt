@@ -13,9 +13,9 @@ ghost use Rattle.tm_viterbi.specs.WindowSizes.{least_keep, most_keep, most_ahead
 
 use crate::block::{BlockTaker, Start, first_start};
 use crate::decoder::Decoder;
-use crate::passes::{MOST_NARROW, run};
+use crate::forward_pass::{MOST_NARROW, run};
+use crate::path_ends::{first_sums, least_register};
 use crate::stream::whole_steps;
-use crate::window::{first_sums, least_register};
 use std::alloc::Global;
 use thiserror::Error;
 use tm_conv::Rate;

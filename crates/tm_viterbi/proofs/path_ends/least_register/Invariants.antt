@@ -1,5 +1,5 @@
 use Rattle.std.proofs.Common.{ℕ, ◌<◌, ◌≤◌, slice_index}
-use Rattle.tm_viterbi.proofs.window.least_register.Given as goal
+use Rattle.tm_viterbi.proofs.path_ends.least_register.Given as goal
 
 abbrev pub invariant-loop-k : goal.invariant-loop-k
 invariant-loop-k l = record {

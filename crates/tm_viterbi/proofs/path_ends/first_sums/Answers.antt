@@ -1,7 +1,7 @@
 use Rattle.std.proofs.Common.{◌≡◌, ◌<◌, ◌≢◌, length, arith, get_or-set_other, get_or-set_same, below_more, ℕ, subst, sym, length-set}
 use Rattle.tm_conv.specs.Columns.{first_cost}
 use Rattle.tm_viterbi.specs.Starts.{starts_from}
-use Rattle.tm_viterbi.proofs.window.first_sums.Goals as goal
+use Rattle.tm_viterbi.proofs.path_ends.first_sums.Goals as goal
 
 pub loop-r-preserved : goal.loop-r-preserved
 loop-r-preserved c =

@@ -4,7 +4,7 @@ use Rattle.tm_conv.specs.Path.{steps_size}
 use Rattle.tm_conv.proofs.Paths.{steps_size-zero}
 use Rattle.tm_viterbi.specs.Carries.{Carries}
 use Rattle.tm_viterbi.proofs.Carrying.{Carries-none, rest_fits, blocks_on, length-mid}
-use Rattle.tm_viterbi.proofs.passes.run.Goals as goal
+use Rattle.tm_viterbi.proofs.forward_pass.run.Goals as goal
 use Rattle.tm_conv.proofs.Sizes.{steps_size-add, steps_size-le}
 
 pub loop-done-init : goal.loop-done-init

@@ -2,7 +2,7 @@ use Rattle.std.proofs.Common.{◌≡◌, ◌<◌, ◌+◌, ◌-◌, ◌++◌, �
 use Rattle.tm_viterbi.specs.Totals.{AreAtMost}
 use Rattle.tm_viterbi.specs.Carries.{Carries, lifted}
 use Rattle.tm_viterbi.proofs.Carrying.{lifted_is}
-use Rattle.tm_viterbi.proofs.passes.narrow_block.Goals as goal
+use Rattle.tm_viterbi.proofs.forward_pass.narrow_block.Goals as goal
 
 pub narrow_at-taken-requires-clause-bounded : goal.narrow_at-taken-requires-clause-bounded
 narrow_at-taken-requires-clause-bounded c s lt =

@@ -2,7 +2,7 @@ use Rattle.std.proofs.Common.{◌≡◌, ◌≤◌, ◌+◌, ◌-◌, ◌*◌, l
 use Rattle.tm_conv.specs.Path.{steps_size}
 use Rattle.tm_viterbi.specs.Totals.{AreAtMost}
 use Rattle.tm_viterbi.specs.Carries.{Carries}
-use Rattle.tm_viterbi.proofs.passes.run.Given as goal
+use Rattle.tm_viterbi.proofs.forward_pass.run.Given as goal
 
 abbrev pub invariant-loop-done : goal.invariant-loop-done
 invariant-loop-done l = record {
