@@ -71,7 +71,7 @@ fn margins(near: u32, far: u32, before: &[u32; 64], sums: &[u32; 64], j: usize) 
         | (odd + near).wrapping_sub(high)
 }
 
-// True only where no edge undercuts any sum. What an edge costs is at the pair of its two sums.
+// True only where no edge undercuts any sum. `costs` are the step's branch metrics, each at the two sums of its edge.
 fn are_low_enough(costs: &[u32; 4], before: &[u32; 64], sums: &[u32; 64]) -> bool
     ensures { IsTrue result → (register : ℕ) → register < registers
         → IsLowEnough (λ from bit. slice_index costs.now (2 * c1 from bit + c2 from bit)) before.now sums.now register }

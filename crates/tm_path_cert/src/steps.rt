@@ -1,4 +1,4 @@
-// What the steps of a path cost.
+// The branch metrics of steps, and the path metric that they add up to.
 ghost use Rattle.std.specs.Prelude.{◌≡◌, ℕ, ◌+◌, ◌*◌, ◌≤◌, ◌<◌, length, slice_index};
 ghost use Rattle.tm_path_cert.specs.Claim.{most_soft};
 ghost use Rattle.tm_conv.specs.Path.{c1, c2, sent, step_size, step_symbols, steps_size, AreBits, path, registers};
@@ -44,7 +44,7 @@ pub(crate) struct Step<'a> {
 }
 
 impl<'a> Step<'a> {
-    // What the step costs with these two sums.
+    // The branch metric of these two sums.
     fn cost_of(&self, first: u8, second: u8) -> u32
         requires first { first < 2 }
         requires second { second < 2 }
@@ -61,7 +61,7 @@ impl<'a> Step<'a> {
         }
     }
 
-    // What the step costs from a register by a bit.
+    // The branch metric from a register by a bit.
     pub(crate) fn cost(&self, register: u8, bit: u8) -> u32
         requires register { register < registers }
         requires bit { bit < 2 }
@@ -72,7 +72,7 @@ impl<'a> Step<'a> {
         self.cost_of(first_sum(register, bit), second_sum(register, bit))
     }
 
-    // What it costs with each pair of sums, at 2 * first + second.
+    // The four branch metrics, each at 2 * first + second.
     pub(crate) fn costs(&self) -> [u32; 4]
         ensures { (register bit : ℕ) → register < registers → bit < 2
             → slice_index result (2 * c1 register bit + c2 register bit)
@@ -87,7 +87,7 @@ impl<'a> Step<'a> {
     }
 }
 
-// What a path costs for soft octets that are the symbols of its steps, from step `first` on.
+// The path metric for soft octets that are the symbols of the path's steps, from step `first` on.
 pub(crate) fn path_sum(
     rate: Rate,
     invert: bool,
