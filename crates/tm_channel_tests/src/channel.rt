@@ -118,7 +118,7 @@ fn wrong_octets_are_repaired(rt: HostRuntime) -> Result<(), Fail> {
 
 // The word lies at distance 17 from the zero codeword and from that of the codeblock, and farther from all others.
 #[test]
-fn beyond_repair_there_is_no_frame(rt: HostRuntime) -> Result<(), Fail> {
+fn uncorrectable_there_is_no_frame(rt: HostRuntime) -> Result<(), Fail> {
     let mut octets = CADU;
     for k in 4..20 {
         octets[k] = 0;

@@ -120,7 +120,7 @@ fn resolves_what_was_not_given(rt: HostRuntime) {
 }
 
 #[test]
-fn tells_each_value(rt: HostRuntime) {
+fn answers_each_value(rt: HostRuntime) {
     let raw = Raw {
         code: 8,
         depth: 2,
