@@ -11,7 +11,7 @@ use Rattle.tm_conv.specs.Cost.{cost}
 use Rattle.tm_conv.specs.Best.{backwards, register_bits, IsCandidate, IsBest}
 use Rattle.tm_conv.proofs.Sizes.{same_from_steps_size}
 use Rattle.tm_conv.proofs.Paths.{length-path}
-use Rattle.tm_conv.proofs.Words.{value, value_lt, IsLexLe-from_value, register_bits_small, All-reverse}
+use Rattle.tm_conv.proofs.DictionaryOrder.{value, value_lt, IsLexLe-from_value, register_bits_small, All-reverse}
 
 -- ---- the least of so many bits
 
@@ -134,11 +134,11 @@ the_start : (starts : ℕ → Bool) (key : ℕ → ℕ) (count start : ℕ) → 
 the_start starts key count start is less =
     elim (least_start starts key count) [ inl h ↦ h | inr none ↦ absurd (none start is less) ]
 
--- ---- the least cost, and of those the first word
+-- ---- the least cost, and of those the first in the order of a dictionary
 
--- the number of a path: its cost, and then that of its word
+-- the number of a path: its cost, and then that of its bits
 number_of : ℕ → ℕ → ℕ → ℕ
-number_of size cost word = cost * size + word
+number_of size cost bits = cost * size + bits
 
 lesser_number : (size a b v w : ℕ) → v < size → w < size → number_of size a v ≤ number_of size b w → (a ≤ b)
     × (b ≡ a → v ≤ w)
@@ -158,9 +158,9 @@ length-backwards : (register : ℕ) (bits : List ℕ) → length (backwards regi
 length-backwards register bits =
     length-append (reverse bits) (register_bits register) ∙ omega (arith, length-reverse {A = ℕ} bits)
 
-word_lt : (n register : ℕ) (bits : List ℕ) → AreBits bits → length bits ≡ n
+backwards-lt : (n register : ℕ) (bits : List ℕ) → AreBits bits → length bits ≡ n
     → value (backwards register bits) < 2 ^ (n + 6)
-word_lt n register bits each long =
+backwards-lt n register bits each long =
     let size : length (backwards register bits) ≡ n + 6 = omega (arith, length-backwards register bits) in
     let small = value_lt (backwards register bits) (bits_backwards register bits each) in
     subst (λ (k : ℕ). value (backwards register bits) < 2 ^ k) size small
@@ -171,8 +171,8 @@ pub IsBest-exists : (starts : ℕ → Bool) (rate : Rate) (invert : Bool) (t ste
 IsBest-exists starts rate invert t steps start octets is less whole =
     let size : ℕ = 2 ^ (steps + 6) in
     let cost_of : ℕ → List ℕ → ℕ = λ register bits. cost (path rate invert t register bits) octets in
-    let word_of : ℕ → List ℕ → ℕ = λ register bits. value (backwards register bits) in
-    let key : ℕ → List ℕ → ℕ = λ register bits. number_of size (cost_of register bits) (word_of register bits) in
+    let value_of : ℕ → List ℕ → ℕ = λ register bits. value (backwards register bits) in
+    let key : ℕ → List ℕ → ℕ = λ register bits. number_of size (cost_of register bits) (value_of register bits) in
     let least : (register : ℕ) → LeastBits steps (key register) = λ register. least_bits steps (key register) in
     let h : LeastStart starts 64 (λ register. key register (least register).bits) =
     the_start starts (λ register. key register (least register).bits) 64 start is less in
@@ -183,11 +183,11 @@ IsBest-exists starts rate invert t steps start octets is less whole =
     ∙ whole) in
     let over : (other : ℕ) (others : List ℕ) → IsCandidate starts rate invert t octets other others
     → (cost_of h.register k.bits ≤ cost_of other others) × (cost_of other others ≡ cost_of h.register k.bits
-    → word_of h.register k.bits ≤ word_of other others) = λ other others c.
+    → value_of h.register k.bits ≤ value_of other others) = λ other others c.
     (let long = many other others c in
-    lesser_number size (cost_of h.register k.bits) (cost_of other others) (word_of h.register k.bits)
-    (word_of other others)
-    (word_lt steps h.register k.bits k.each k.long) (word_lt steps other others c.each long)
+    lesser_number size (cost_of h.register k.bits) (cost_of other others) (value_of h.register k.bits)
+    (value_of other others)
+    (backwards-lt steps h.register k.bits k.each k.long) (backwards-lt steps other others c.each long)
     (omega (arith, h.least other c.start c.register, (least other).least others c.each long))) in
     let candidate : IsCandidate starts rate invert t octets h.register k.bits = record {
       start = h.start;

@@ -1,6 +1,6 @@
 pub mod Sizes
 pub mod Paths
-pub mod Words
+pub mod DictionaryOrder
 pub mod Unique
 mod HasBest
 pub mod LeastColumns

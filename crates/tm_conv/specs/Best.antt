@@ -14,7 +14,7 @@ register_bits register =
 abbrev pub backwards : ℕ → List ℕ → List ℕ
 backwards register bits = reverse bits ++ register_bits register
 
--- a list comes before another in the order of words, or is the same
+-- a list comes before another in the order of a dictionary, or is the same
 abbrev pub IsLexLe : List ℕ → List ℕ → Type 0
 IsLexLe [] ys = Unit {0}
 IsLexLe (x ∷ xs) [] = ⊥
@@ -29,8 +29,8 @@ pub record IsCandidate (starts : ℕ → Bool) (rate : Rate) (invert : Bool) (t 
   pub each : AreBits bits
   pub covers : length (path rate invert t initial bits) ≡ length octets
 
--- no candidate costs less, and of those that cost as little it is the first in the order of words,
--- read backwards
+-- no candidate costs less, and of those that cost as little it is the first in the order of a
+-- dictionary, read backwards
 pub record IsBest (starts : ℕ → Bool) (rate : Rate) (invert : Bool) (t : ℕ) (octets : List ℕ)
     (initial : ℕ) (bits : List ℕ) : Type 0 where
   pub candidate : IsCandidate starts rate invert t octets initial bits

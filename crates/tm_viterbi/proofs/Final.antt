@@ -17,7 +17,7 @@ use Rattle.tm_viterbi.specs.Totals.{total_of, AreFirsts, IsFirstLeast}
 use Rattle.tm_viterbi.proofs.Walk.{rank_lt, register_back_lt}
 use Rattle.tm_viterbi.proofs.Totals.{IsLexLe-from_rank}
 use Rattle.tm_conv.proofs.Paths.{length-path}
-use Rattle.tm_conv.proofs.Words.{All-reverse}
+use Rattle.tm_conv.proofs.DictionaryOrder.{All-reverse}
 
 -- ---- costs are small
 

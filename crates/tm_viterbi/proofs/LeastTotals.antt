@@ -8,7 +8,7 @@ use Rattle.tm_conv.specs.Cost.{cost}
 use Rattle.tm_conv.specs.Columns.{IsColumn, total}
 use Rattle.tm_conv.proofs.Sizes.{same_from_steps_size}
 use Rattle.tm_conv.proofs.Paths.{length-path, steps_size-more}
-use Rattle.tm_conv.proofs.Words.{All-reverse}
+use Rattle.tm_conv.proofs.DictionaryOrder.{All-reverse}
 use Rattle.tm_viterbi.specs.Walk.{IsPathTo, IsNoWorse, AreBest, past_of, start_of, rank}
 use Rattle.tm_viterbi.specs.Totals.{total_of, AreFirsts, StepsTo}
 use Rattle.tm_viterbi.specs.Starts.{starts_from}

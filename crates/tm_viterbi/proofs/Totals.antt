@@ -1,4 +1,4 @@
--- Totals, one step on; and the order of ranks as that of words.
+-- Totals, one step on; and the order of ranks as that of a dictionary.
 use Rattle.std.proofs.Common.{◌≡◌, ℕ, ◌+◌, ◌*◌, ◌^◌, ◌<◌, ◌≤◌, ◌∙◌, sym, ap, arith, length, List, [], ◌∷◌, ◌++◌, Bool, length-append}
 use Rattle.std.specs.List.{All}
 use Rattle.std.proofs.lemmas.List.{length-reverse}
@@ -12,7 +12,7 @@ use Rattle.tm_viterbi.specs.Walk.{register_back, rank}
 use Rattle.tm_viterbi.specs.Totals.{total_of, AreBranchMetrics}
 use Rattle.tm_viterbi.proofs.Walk.{Grows, edge_cost}
 use Rattle.tm_conv.proofs.Paths.{path-push, cost-append, length-path}
-use Rattle.tm_conv.proofs.Words.{value, IsLexLe-from_value, register_bits_small}
+use Rattle.tm_conv.proofs.DictionaryOrder.{value, IsLexLe-from_value, register_bits_small}
 use Rattle.tm_viterbi.proofs.Back.{reverse_cons, register_after-reverse}
 
 pub Grows-total_of : (rate : Rate) (invert : Bool) (t n : ℕ) (firsts octets piece metrics : List ℕ)
@@ -38,7 +38,7 @@ Grows-total_of rate invert t n firsts octets piece metrics long are = record {
       omega (arith, whole, edge);
 }
 
--- ---- words
+-- ---- the order of ranks
 
 rank_is_value : (r : ℕ) (past : List ℕ) → r < 64 → rank r past ≡ value (past ++ register_bits r)
 unfolding value

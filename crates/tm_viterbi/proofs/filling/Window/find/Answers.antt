@@ -8,7 +8,7 @@ use Rattle.tm_conv.specs.Path.{path, steps_size}
 use Rattle.tm_viterbi.specs.Walk.{past_of, start_of}
 use Rattle.tm_viterbi.specs.Starts.{starts_from}
 use Rattle.tm_viterbi.proofs.Walk.{past_of_small}
-use Rattle.tm_conv.proofs.Words.{All-reverse}
+use Rattle.tm_conv.proofs.DictionaryOrder.{All-reverse}
 use Rattle.tm_viterbi.proofs.Final.{IsBest-from_columns}
 use Rattle.tm_viterbi.proofs.filling.Window.find.Goals as goal
 use Rattle.tm_conv.proofs.Sizes.{steps_size-most}

@@ -1,4 +1,4 @@
--- The order of words of bits, as that of the numbers whose binary digits they are.
+-- Lists of bits in the order of a dictionary, as in that of the numbers whose binary digits they are.
 use Rattle.std.proofs.Common.{◌≡◌, ℕ, ◌+◌, ◌*◌, ◌^◌, ◌<◌, ◌≤◌, ◌∙◌, inl, inr, ap, sym, arith, length, List, [], ◌∷◌, ◌++◌, suc}
 use Rattle.std.specs.List.{All}
 use Rattle.std.proofs.lemmas.List.{reverse-append}
@@ -8,7 +8,7 @@ use Rattle.std.proofs.Math.Nat.{pow-suc, mul-le-mul_right}
 use mathlib.Core.List.{reverse}
 use Rattle.tm_conv.specs.Best.{IsLexLe, register_bits}
 
--- the number of a word
+-- the number whose binary digits these are
 unfoldable pub value : List ℕ → ℕ
 value [] = 0
 value (x ∷ xs) = x * 2 ^ length xs + value xs
