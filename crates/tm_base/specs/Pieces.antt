@@ -4,7 +4,7 @@ use Rattle.std.specs.Prelude.{◌≡◌, ℕ, List, ◌++◌, drop, length, Opti
 use Rattle.tm_base.specs.Written.{Wrote, WrotePrefix}
 
 -- what stands in `all` after a prefix as long as `prefix`
-abbrev pub beyond : List ℕ → List ℕ → List ℕ
+abbrev pub beyond : {A : Type 0} → List A → List A → List A
 beyond prefix all = drop (length prefix) all
 
 -- what is due once `piece` follows `given`, beyond what was due for `given`

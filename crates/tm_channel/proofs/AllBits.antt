@@ -1,6 +1,7 @@
 -- All bits at once.
 use Rattle.std.proofs.Common.{◌≡◌, Bool, List, [], ◌++◌, length, take, drop, ap, ◌∙◌, subst, take-append-drop, None}
 use Rattle.std.proofs.Math.Seq.{take-nil}
+use Rattle.tm_base.specs.Pieces.{beyond}
 use Rattle.tm_sync.specs.declared.found.Found.{Found}
 use Rattle.tm_sync.specs.Places.{places}
 use Rattle.tm_sync.proofs.Steps.{places_from-nil}
@@ -8,7 +9,6 @@ use Rattle.tm_config.specs.Configuration.{Configuration}
 use Rattle.tm_codeblock.specs.ReceivedCodeblock.{rules_of}
 use Rattle.tm_channel.specs.Items.{ItemValue, AreItemsOf, AreFirstItemsOf, AreItems}
 use Rattle.tm_channel.specs.Due.{in_batches, due_count, due}
-use Rattle.tm_channel.specs.Receiving.{beyond}
 use Rattle.tm_channel.proofs.Batches.{length-due}
 use Rattle.tm_channel.proofs.Streaming.{items-append, first-append, first-longer}
 

@@ -5,6 +5,7 @@ use Rattle.std.specs.Option.{is_some}
 use Rattle.std.proofs.lemmas.List.{append-nil, drop_all, length-map, take_all}
 use Rattle.std.proofs.Math.Seq.{drop-length}
 use Rattle.tm_base.specs.Handed.{Handed, Phase, Item, on_handed, items_of}
+use Rattle.tm_base.specs.Pieces.{beyond}
 use Rattle.tm_base.specs.Takers.{HandedOver, HandedPart}
 use Rattle.tm_base.proofs.Handing.{HandedOver-append, HandedPart-after}
 use Rattle.tm_base.proofs.HandedItems.{HandedOver-items, HandedPart-items, items_of-append, items_of-items}
@@ -35,7 +36,7 @@ use Rattle.tm_channel.specs.Items.{ItemValue, AreItemsOf, AreFirstItemsOf, AreIt
 use Rattle.tm_channel.specs.Due.{due}
 use Rattle.tm_channel.specs.declared.totals.Totals.{Totals}
 use Rattle.tm_channel.specs.Handing.{totals_of, phase_from, phase_of, AreReceived, AreReceivedDue, AreReceivedFirst, AreReceivedPrefix}
-use Rattle.tm_channel.specs.Receiving.{beyond, waiting_bits, AreFurther, AreFirstFurther, AreFirstDue}
+use Rattle.tm_channel.specs.Receiving.{waiting_bits, AreFurther, AreFirstFurther, AreFirstDue}
 use Rattle.tm_channel.specs.OctetReceiving.{BitReceiving, OctetReceiving, ReceiverStandsFor, FirstWith, BitReceiverStandsFor, Stages, StagesFor, StagesHand, StagesOn, Keeping, Keeps, KeepsPhase, AreSpare, AreWaiting, Gathers, Grows, Ends, Received, ReceivedPart, ReceivedLast, ReceivedLastPart, bits_found, received_bits}
 use Rattle.tm_channel.proofs.Streaming.{first-longer, first-more, first-then, items-then}
 use Rattle.tm_channel.proofs.AllBits.{beyond-nil, all-items, some-items, few-items, due-nil}

@@ -1,9 +1,10 @@
 -- A piece of the bits, and then another.
 use Rattle.std.proofs.Common.{◌<◌, ◌^◌, Bool, List, ◌++◌, length, subst, arith, append_assoc, length-append}
+use Rattle.tm_base.specs.Pieces.{beyond}
 use Rattle.tm_config.specs.Configuration.{Configuration}
 use Rattle.tm_channel.specs.Items.{ItemValue, AreItemsOf, AreFirstItemsOf}
 use Rattle.tm_channel.specs.Due.{due}
-use Rattle.tm_channel.specs.Receiving.{beyond, AreDue, AreFirstDue, GoesOn}
+use Rattle.tm_channel.specs.Receiving.{AreDue, AreFirstDue, GoesOn}
 use Rattle.tm_channel.proofs.Streaming.{items-then, first-then, first-of-all}
 
 -- fewer bits in all are fewer in the prefix

@@ -2,6 +2,7 @@
 use Rattle.std.proofs.Common.{◌≡◌, ◌==◌, ◌<◌, ◌^◌, ℕ, Bool, List, [], ◌++◌, length, map, refl, sym, ap, ◌∙◌, subst}
 use Rattle.std.proofs.lemmas.List.{append-nil, map-append}
 use Rattle.std.proofs.Math.Seq.{drop-length}
+use Rattle.tm_base.specs.Pieces.{beyond}
 use Rattle.tm_base.specs.Takers.{HandedOver, HandedPart}
 use Rattle.tm_base.proofs.Handing.{HandedOver-append, HandedPart-after}
 use Rattle.tm_config.specs.Configuration.{Configuration}
@@ -11,7 +12,7 @@ use Rattle.tm_viterbi.specs.Clean.{kept_bits}
 use Rattle.tm_inner.proofs.DueBits.{kept-append}
 use Rattle.tm_channel.specs.Items.{ItemValue, AreItemsOf}
 use Rattle.tm_channel.specs.Due.{due, due_count}
-use Rattle.tm_channel.specs.Receiving.{beyond, AreDue, AreFirstDue, AreFirstFurther, AreFurther, Holds, HoldsMore}
+use Rattle.tm_channel.specs.Receiving.{AreDue, AreFirstDue, AreFirstFurther, AreFurther, Holds, HoldsMore}
 use Rattle.tm_channel.specs.OctetReceiving.{BitReceiving, BitReceiverStandsFor, Received, ReceivedPart, Settles, SettlesPart}
 use Rattle.tm_channel.proofs.Pieces.{goes-then, due-then, first-due-then, first-due-all}
 

@@ -3,6 +3,7 @@ use Rattle.std.proofs.Common.{◌≡◌, ℕ, zero, suc, ◌+◌, ◌-◌, ◌<�
 use Rattle.std.specs.List.{AllByRecursion}
 use Rattle.std.proofs.lemmas.List.{length-map, length-take-le, nil_from_length, take-append-le, drop-append-le, drop_at, append-nil, map-append}
 use Rattle.std.proofs.Math.Seq.{drop-length, drop-nil, take-length, drop-append_seam}
+use Rattle.tm_base.specs.Pieces.{beyond}
 use Rattle.tm_sync.specs.declared.found.Found.{Found}
 use Rattle.tm_sync.specs.Places.{places}
 use Rattle.tm_sync.proofs.Steps.{places_from-nil}
@@ -11,7 +12,7 @@ use Rattle.tm_config.specs.Configuration.{Configuration}
 use Rattle.tm_codeblock.specs.ReceivedCodeblock.{rules_of, codeblock_at}
 use Rattle.tm_channel.specs.Items.{ItemValue, IsItem, AreItemsOf, AreFirstItemsOf}
 use Rattle.tm_channel.specs.Due.{in_batches, due_count, due_count_of, due_of, due}
-use Rattle.tm_channel.specs.Receiving.{StoredCodeblock, stored_of, stored_at, beyond, AreItemsFor, Holding, IsHanded}
+use Rattle.tm_channel.specs.Receiving.{StoredCodeblock, stored_of, stored_at, AreItemsFor, Holding, IsHanded}
 use Rattle.tm_channel.proofs.Batches.{batches-le, batches-more, full, length-due, not_full}
 
 -- ---- codeblocks stay as the bits go on

@@ -2,6 +2,7 @@
 use Rattle.std.specs.Prelude.{◌≡◌, ℕ, ◌+◌, ◌-◌, ◌*◌, ◌<◌, ◌≤◌, Bool, false, List, [], ◌∷◌, ◌++◌, length, take, drop, map, get_or, unwrap_or, nat_lt, if◌then◌else◌, ◌⊎◌}
 use Rattle.tm_base.specs.Bits.{bits_of}
 use Rattle.tm_base.specs.Marker.{marker_size}
+use Rattle.tm_base.specs.Pieces.{beyond}
 use Rattle.tm_config.specs.Configuration.{Configuration, codeblock_length}
 use Rattle.tm_sync.specs.declared.found.Found.{Found}
 use Rattle.tm_sync.specs.Places.{places, verify_bits}
@@ -12,10 +13,6 @@ use Rattle.tm_channel.specs.Items.{ItemValue, IsItem, AreItemsOf, AreFirstItemsO
 use Rattle.tm_channel.specs.Due.{due_count, due}
 
 -- ---- when an item is handed over
-
--- what stands in `all` after a prefix as long as `prefix`
-abbrev pub beyond : {A : Type 0} → List A → List A → List A
-beyond prefix all = drop (length prefix) all
 
 -- these items are due once `piece` follows the bits, and were not due before
 abbrev pub AreFurther : Configuration → List Bool → List Bool → List ItemValue → Type 0
