@@ -73,14 +73,15 @@ fn split_both<R: Threads + Sync, G: Gate + Sync, W: InPlace + Send>(
     ensures first_part { EachBecomes (W.becomes params.now repair) first_part.old first_part.new }
     ensures other_part { EachBecomes (W.becomes params.now repair) other_part.old other_part.new }
 {
-    let some = 1;
-    let others = workers - some;
+    // The new thread has one part: a name, since a closure borrows what it takes.
+    let one = 1;
+    let others = workers - one;
     let after = first + first_part.len() as u32;
     let mut decode_first = ||
         requires { IsSync R.row × IsSync G.row × IsSend W.row × (repair ≤ params.now.e)
             × (first + length first_part.now < words_bound) }
         ensures { EachBecomes (W.becomes params.entry.now repair) first_part.entry.now first_part.exit.now }
-    { split_evenly(rt, gate, params, repair, first, some, first_part) };
+    { split_evenly(rt, gate, params, repair, first, one, first_part) };
     let mut decode_other = ||
         requires { IsSync R.row × IsSync G.row × IsSend W.row × (repair ≤ params.now.e)
             × (after + length other_part.now < words_bound) }
