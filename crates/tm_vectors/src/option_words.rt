@@ -5,63 +5,37 @@ use std::test::Fail;
 use tm_config::Raw;
 use tm_words::{Job, JobKind};
 
-// The values where no option is given, and those of a line that gives each option.
-static LINES: [(&str, Raw); 2] = [
-    (
-        "tmchan encode",
-        Raw {
-            code: 16,
-            depth: 1,
-            length: None,
-            inner: 12,
-            invert: None,
-            randomize: 1,
-            basis: 0,
-            tolerance: 0,
-            repair: None,
-            soft: 0,
-            start: 0,
-            skip: 0,
-            workers: 1,
-            limit: 4_294_967_296,
-            fly: 0,
-            keep: 8_192,
-            ahead: 256,
-            phase: 0,
-            polarity: 0,
-            batch: 32,
-            pack: 1,
-            verify: 0,
-        },
-    ),
-    (
-        "tmchan encode --code rs8 --depth 4 --length 956 --inner 7/8 --invert off --randomize off --basis poly --tolerance 8 --repair 7 --soft i8 --start any --skip 15 --workers 64 --limit 1099511627776 --fly 14 --keep 65536 --ahead 4096 --phase find --polarity find --batch 7 --pack off --verify 6",
-        Raw {
-            code: 8,
-            depth: 4,
-            length: Some(956),
-            inner: 78,
-            invert: Some(0),
-            randomize: 0,
-            basis: 1,
-            tolerance: 8,
-            repair: Some(7),
-            soft: 1,
-            start: 1,
-            skip: 15,
-            workers: 64,
-            limit: 1_099_511_627_776,
-            fly: 14,
-            keep: 65_536,
-            ahead: 4_096,
-            phase: 1,
-            polarity: 1,
-            batch: 7,
-            pack: 0,
-            verify: 6,
-        },
-    ),
-];
+// A line that gives each option, and its values.
+static EACH_OPTION: &str = "\
+tmchan encode --code rs8 --depth 4 --length 956 --inner 7/8 --invert off --randomize off \
+--basis poly --tolerance 8 --repair 7 --soft i8 --start any --skip 15 --workers 64 \
+--limit 1099511627776 --fly 14 --keep 65536 --ahead 4096 --phase find --polarity find --batch 7 \
+--pack off --verify 6";
+
+static EACH_VALUE: Raw = Raw {
+    code: 8,
+    depth: 4,
+    length: Some(956),
+    inner: 78,
+    invert: Some(0),
+    randomize: 0,
+    basis: 1,
+    tolerance: 8,
+    repair: Some(7),
+    soft: 1,
+    start: 1,
+    skip: 15,
+    workers: 64,
+    limit: 1_099_511_627_776,
+    fly: 14,
+    keep: 65_536,
+    ahead: 4_096,
+    phase: 1,
+    polarity: 1,
+    batch: 7,
+    pack: 0,
+    verify: 6,
+};
 
 // An option, a word for it, and the number that stands for that word.
 static OPTION_WORDS: [(&str, &str, u64); 26] = [
@@ -120,10 +94,11 @@ fn check_job(rt: &impl Abort, line: &str, job: &Job, raw: &Raw) {
 
 #[test]
 fn words_become_a_job(rt: HostRuntime) -> Result<(), Fail> {
-    for (line, raw) in &LINES {
-        let job = job_of(rt.alloc(), *line)?;
-        check_job(&rt, *line, &job, raw);
-    }
+    let plain = "tmchan encode";
+    let job = job_of(rt.alloc(), plain)?;
+    check_job(&rt, plain, &job, &Raw::default());
+    let job = job_of(rt.alloc(), EACH_OPTION)?;
+    check_job(&rt, EACH_OPTION, &job, &EACH_VALUE);
     Ok(())
 }
 
