@@ -75,14 +75,7 @@ fn call(
     let mut source = MemSource::new(input, cuts, list_of(alloc, faults.read)?);
     let mut out = sink(alloc, faults.out_room.unwrap_or(50_000), faults.write)?;
     let mut notes = sink(alloc, faults.notes_room.unwrap_or(1_000), None)?;
-    let status = run(
-        rt,
-        alloc,
-        words.as_slice(),
-        &mut source,
-        &mut out,
-        &mut notes,
-    );
+    let status = run(rt, alloc, &words, &mut source, &mut out, &mut notes);
     Ok(Outcome {
         status,
         reads: source.calls(),

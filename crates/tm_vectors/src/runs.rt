@@ -20,8 +20,6 @@ pub struct Given<'a> {
     pub cut: usize,
     /// The number of the read that fails, counted from 0.
     pub failing_read: Option<usize>,
-    /// The number of the write to out that fails, counted from 0.
-    pub failing_write: Option<usize>,
     pub out_room: usize,
     pub notes_room: usize,
 }
@@ -34,19 +32,17 @@ impl<'a> Given<'a> {
             input,
             cut,
             failing_read: None,
-            failing_write: None,
             out_room: 20_000,
             notes_room: 256,
         }
     }
 }
 
-/// What came of a call.
+/// What came of a call: its status, and its source and sinks as it left them.
 #[derive(Drop)]
 pub struct Outcome {
     pub status: u8,
-    /// How often the source was read.
-    pub reads: u64,
+    pub source: MemSource,
     pub out: MemSink,
     pub notes: MemSink,
 }
@@ -66,19 +62,13 @@ pub fn job_of(alloc: Global, line: &str) -> Result<Job, Fail> {
     Ok(read_words(alloc, words.as_slice())?)
 }
 
-// The number, if there is one, as a list.
-fn list_of(alloc: Global, number: Option<usize>) -> Result<Vec<usize>, AllocError> {
-    let mut list = Vec::new(alloc);
-    if let Some(number) = number {
-        list.push(number)?;
-    }
-    Ok(list)
-}
-
 fn source_of(alloc: Global, given: &Given) -> Result<MemSource, AllocError> {
     let content = given.input.to_vec(alloc)?;
     let cuts = vec![in alloc; given.cut; given.input.len()]?;
-    let fails = list_of(alloc, given.failing_read)?;
+    let mut fails = Vec::new(alloc);
+    if let Some(read) = given.failing_read {
+        fails.push(read)?;
+    }
     Ok(MemSource::new(content, cuts, fails))
 }
 
@@ -98,19 +88,12 @@ fn run_by(
 pub fn run_over(rt: &(impl Threads + Sync), alloc: Global, given: &Given) -> Result<Outcome, Fail> {
     let words = words_of(alloc, given.line)?;
     let mut source = source_of(alloc, given)?;
-    let mut out = MemSink::new(alloc, given.out_room, list_of(alloc, given.failing_write)?)?;
+    let mut out = MemSink::new(alloc, given.out_room, Vec::new(alloc))?;
     let mut notes = MemSink::new(alloc, given.notes_room, Vec::new(alloc))?;
-    let status = run_by(
-        rt,
-        alloc,
-        words.as_slice(),
-        &mut source,
-        &mut out,
-        &mut notes,
-    );
+    let status = run_by(rt, alloc, &words, &mut source, &mut out, &mut notes);
     Ok(Outcome {
         status,
-        reads: source.calls(),
+        source,
         out,
         notes,
     })
