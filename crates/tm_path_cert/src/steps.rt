@@ -1,7 +1,7 @@
 // The branch metrics of steps, and the path metric that they add up to.
 ghost use Rattle.std.specs.Prelude.{◌≡◌, ℕ, ◌+◌, ◌*◌, ◌≤◌, ◌<◌, length, slice_index};
 ghost use Rattle.tm_path_cert.specs.Claim.{most_soft};
-ghost use Rattle.tm_conv.specs.Path.{c1, c2, sent, step_size, step_symbols, steps_size, AreBits, path, registers};
+ghost use Rattle.tm_conv.specs.Path.{c1, c2, keeps_c1, keeps_c2, sent, step_size, step_symbols, steps_size, AreBits, path, registers};
 ghost use Rattle.tm_conv.specs.Cost as metric;
 ghost use Rattle.tm_conv.specs.Columns.{last_certified};
 ghost use Rattle.tm_conv.specs.Cost.{most_branch_metric};
@@ -44,8 +44,10 @@ pub(crate) struct Step<'a> {
 }
 
 impl<'a> Step<'a> {
-    // The branch metric of these two sums.
-    fn cost_of(&self, first: u8, second: u8) -> u32
+    // The branch metric of these two sums, where `kept` says which of them are sent.
+    fn cost_of(&self, kept: (bool, bool), first: u8, second: u8) -> u32
+        requires c1 { kept.0 ≡ keeps_c1 self.now.rate self.now.t }
+        requires c2 { kept.1 ≡ keeps_c2 self.now.rate self.now.t }
         requires first { first < 2 }
         requires second { second < 2 }
         ensures cost { result ≡ metric.cost (sent self.now.rate self.now.invert self.now.t first second)
@@ -53,7 +55,7 @@ impl<'a> Step<'a> {
         ensures small { result ≤ most_branch_metric }
     {
         let second = if self.invert { 1 - second } else { second };
-        match kept(self.rate, self.t) {
+        match kept {
             (true, true) => distance(first, self.octets[0]) + distance(second, self.octets[1]),
             (true, false) => distance(first, self.octets[0]),
             (false, true) => distance(second, self.octets[0]),
@@ -69,7 +71,8 @@ impl<'a> Step<'a> {
             self.now.octets.now }
         ensures small { result ≤ most_branch_metric }
     {
-        self.cost_of(first_sum(register, bit), second_sum(register, bit))
+        let kept = kept(self.rate, self.t);
+        self.cost_of(kept, first_sum(register, bit), second_sum(register, bit))
     }
 
     // The four branch metrics, each at 2 * first + second.
@@ -78,11 +81,12 @@ impl<'a> Step<'a> {
             → slice_index result (2 * c1 register bit + c2 register bit)
             ≡ metric.cost (step_symbols self.now.rate self.now.invert self.now.t register bit) self.now.octets.now }
     {
+        let kept = kept(self.rate, self.t);
         [
-            self.cost_of(0, 0),
-            self.cost_of(0, 1),
-            self.cost_of(1, 0),
-            self.cost_of(1, 1),
+            self.cost_of(kept, 0, 0),
+            self.cost_of(kept, 0, 1),
+            self.cost_of(kept, 1, 0),
+            self.cost_of(kept, 1, 1),
         ]
     }
 }
