@@ -20,6 +20,8 @@ pub struct Sender {
     config: Config,
     frame: [u8; LONGEST_CODEBLOCK],
     count: usize,
+    // Room for the unit of a frame, which is written anew for each.
+    unit: [u8; LONGEST_CADU],
     inner: InnerSender,
 }
 
@@ -47,6 +49,7 @@ impl Sender {
             config,
             frame: [0; LONGEST_CODEBLOCK],
             count: 0,
+            unit: [0; LONGEST_CADU],
             inner: InnerSender::new(&config),
         }
     }
@@ -142,14 +145,21 @@ impl Sender {
             return Ok(());
         }
         self.count = 0;
-        send_frame(&self.config, &self.frame[..end], &mut self.inner, out)
+        send_frame(
+            &self.config,
+            &self.frame[..end],
+            &mut self.unit,
+            &mut self.inner,
+            out,
+        )
     }
 }
 
-// Gives the unit of a frame to the last stage.
+// Gives the unit of a frame, for which there is room, to the last stage.
 fn send_frame<O: Sink>(
     config: &Config,
     frame: &[u8],
+    room: &mut [u8; LONGEST_CADU],
     inner: &mut InnerSender,
     out: &mut O,
 ) -> Result<(), Failed>
@@ -163,7 +173,6 @@ fn send_frame<O: Sink>(
         (cadu config.now frame.now)) }
     ensures cause { HasCause (O.faults out.old) (O.faults out.new) (O.is_last out.new) result }
 {
-    let mut room = [0; LONGEST_CADU];
     let unit = &mut room[..codeblock_size(config) + 4];
     cadu(config, frame, unit);
     match inner.push(unit, out) {
