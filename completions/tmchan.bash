@@ -1,4 +1,4 @@
-# Completions of tmchan for bash. bench/manual compares them with the program.
+# Completions of tmchan for bash. tests/manual compares them with the program.
 
 _tmchan() {
     local word=${COMP_WORDS[COMP_CWORD]} before=${COMP_WORDS[COMP_CWORD - 1]} words=() option given

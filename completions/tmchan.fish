@@ -1,4 +1,4 @@
-# Completions of tmchan for fish. bench/manual compares them with the program.
+# Completions of tmchan for fish. tests/manual compares them with the program.
 
 set -l commands encode decode report trace bits erased certify check word soak
 set -l first "not __fish_seen_subcommand_from $commands"

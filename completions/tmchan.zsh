@@ -1,5 +1,5 @@
 #compdef tmchan
-# Completions of tmchan for zsh. bench/manual compares them with the program.
+# Completions of tmchan for zsh. tests/manual compares them with the program.
 
 local -a commands options soak_options
 

@@ -1,4 +1,4 @@
-/* Makes the call of each row on standard input (bench/library_rows.py writes them), and refusals of each call. Each array has exactly its
+/* Makes the call of each row on standard input (tests/library_rows.py writes them), and refusals of each call. Each array has exactly its
  * length on the heap, so that valgrind and AddressSanitizer see an octet beyond it. Status 0: no call differed. */
 #include <stdio.h>
 #include <stdlib.h>

@@ -1,5 +1,5 @@
 #!/usr/bin/env python3
-"""Makes the call of each row on standard input (bench/library_rows.py writes them) by ctypes.
+"""Makes the call of each row on standard input (tests/library_rows.py writes them) by ctypes.
 
     tests/c/rows.py out/libtmchan.so < rows.txt
 """

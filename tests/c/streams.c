@@ -1,6 +1,6 @@
 #define _POSIX_C_SOURCE 200809L
 
-/* Makes the calls of the streams of each row on standard input (bench/stream_rows.py writes them), in pieces of several sizes, and refusals of
+/* Makes the calls of the streams of each row on standard input (tests/stream_rows.py writes them), in pieces of several sizes, and refusals of
  * each call. Each array has exactly its length on the heap, so that valgrind and AddressSanitizer see an octet beyond it. Status 0: no call
  * differed. */
 #include <stdio.h>

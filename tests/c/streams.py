@@ -1,5 +1,5 @@
 #!/usr/bin/env python3
-"""Makes the calls of the streams of each row on standard input (bench/stream_rows.py writes them) by ctypes, and those of the decoder and of the
+"""Makes the calls of the streams of each row on standard input (tests/stream_rows.py writes them) by ctypes, and those of the decoder and of the
 search over what each row receives: their places are to be those of the receiver.
 
     tests/c/streams.py out/libtmchan.so < rows.txt

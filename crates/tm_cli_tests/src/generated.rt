@@ -1,4 +1,4 @@
-// The draws of generated frames, by `bench/soak_draws.py`.
+// The draws of generated frames, by `tests/soak_draws.py`.
 use rand_pcg::Lcg64Xsh32;
 use tm_base::MARKER;
 use tm_channel::{Config, Raw, cadu};

@@ -114,7 +114,7 @@ fn complement_bit(octets: &mut [u8], place: usize) {
 }
 
 // A certificate of three windows, with the lowest bit of an octet changed in turn: of each one before the columns of a
-// window, and each 97th of the columns. What is wanted is what `bench/certificates.py` says, which reads certificates
+// window, and each 97th of the columns. What is wanted is what `tests/certificates.py` says, which reads certificates
 // by their rules alone.
 #[test]
 fn changes_are_reported(rt: HostRuntime) -> Result<(), Fail> {

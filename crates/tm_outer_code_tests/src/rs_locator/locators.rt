@@ -1,4 +1,4 @@
-// Written by bench/reed_solomon_vectors.py. Each line has a name, E, the length of a word, the
+// Written by tests/reed_solomon_vectors.py. Each line has a name, E, the length of a word, the
 // indices of its erased symbols, its 2E syndromes, and the coefficients of the locator of the wrong
 // symbols that are not erased (- where there is none). Two hexadecimal digits are an element or an
 // index, the first being 0.

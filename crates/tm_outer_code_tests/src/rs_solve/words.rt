@@ -1,4 +1,4 @@
-// Written by bench/reed_solomon_vectors.py. Each line has a name, E, the repair bound, the
+// Written by tests/reed_solomon_vectors.py. Each line has a name, E, the repair bound, the
 // indices of the erased symbols, how many others and how many of these are wrong (- where the word
 // is beyond the bound), index and right symbol of each, and the received word. Two hexadecimal
 // digits are a symbol or an index, the first being 0.

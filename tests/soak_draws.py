@@ -1,7 +1,7 @@
 #!/usr/bin/env python3
 """What `soak` draws, by a generator written again (PCG-XSH-RR with 64 bits of state): the tables of its tests.
 
-    bench/soak_draws.py SEED LENGTH DEPTH CHECKS HITS FRAMES      a line for each frame: its octets, then the octets of its
+    tests/soak_draws.py SEED LENGTH DEPTH CHECKS HITS FRAMES      a line for each frame: its octets, then the octets of its
                                                                   codeblock that are changed, each as PLACE:CHANGE
 LENGTH is that of a frame in octets, CHECKS the check symbols of a codeword, HITS how many symbols of each codeword are changed.
 """

@@ -1,15 +1,15 @@
 #!/usr/bin/env python3
 """Certificates of the soft decoder, written and read by a plain program that shares nothing with the codec: the answers of its tests.
 
-    bench/certificates.py draw COUNT                            so many soft octets (form u8) that are drawn, often some at which symbols tie
-    bench/certificates.py write RATE INVERT START KEEP AHEAD    soft octets on standard input, their certificate on standard output
-    bench/certificates.py check RATE INVERT START KEEP AHEAD    a certificate on standard input, what `check` says of it on standard output
-    bench/certificates.py sweep RATE INVERT START KEEP AHEAD STEP   a certificate with the lowest bit of an octet changed in turn, of each one before the columns of a
+    tests/certificates.py draw COUNT                            so many soft octets (form u8) that are drawn, often some at which symbols tie
+    tests/certificates.py write RATE INVERT START KEEP AHEAD    soft octets on standard input, their certificate on standard output
+    tests/certificates.py check RATE INVERT START KEEP AHEAD    a certificate on standard input, what `check` says of it on standard output
+    tests/certificates.py sweep RATE INVERT START KEEP AHEAD STEP   a certificate with the lowest bit of an octet changed in turn, of each one before the columns of a
                                                                 window and each STEPth of the columns: how many changes there are and how many pass, and a
                                                                 number that mixes what `check` says of each; with --show a line `PLACE ANSWER` for each
 RATE is 1/2, 2/3, 3/4, 5/6 or 7/8, INVERT on or off, START zero or any. The test of changed certificates in tm_vectors has the answer of
 
-    bench/certificates.py draw 301 | bench/certificates.py write 1/2 on zero 64 3 | bench/certificates.py sweep 1/2 on zero 64 3 97
+    tests/certificates.py draw 301 | tests/certificates.py write 1/2 on zero 64 3 | tests/certificates.py sweep 1/2 on zero 64 3 97
 """
 import functools
 import struct

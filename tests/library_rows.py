@@ -1,10 +1,10 @@
 #!/usr/bin/env python3
 """Writes rows for the tests of the C library: what each call is given, and what has to come out.
 
-    bench/library_rows.py > rows.txt
+    tests/library_rows.py > rows.txt
 
 A row is a word for the call and its numbers, in decimal, and octets, in hexadecimal ("-": none), in the order of the header; the last ones
-are the answer and what is left. It shares nothing with the crates: words come from bench/reed_solomon_vectors.py, which decodes by
+are the answer and what is left. It shares nothing with the crates: words come from tests/reed_solomon_vectors.py, which decodes by
 elimination, and the rest is written here from its rules.
 """
 import random

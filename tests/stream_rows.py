@@ -2,7 +2,7 @@
 """Writes rows for the tests of the C library's streams: the worked rows of the program's `encode` and `decode` in crates/tm_rows/stdin, of
 undisturbed and of disturbed units, and rows that are drawn.
 
-    bench/stream_rows.py > rows.txt
+    tests/stream_rows.py > rows.txt
 
 A row is "send" or "receive", 22 numbers of a configuration in the order of tmchan_config, octets in hexadecimal ("-": none) that are given, and
 those that have to come: symbols, or frames. Rows that are refused are "check", 22 numbers, and the answer.

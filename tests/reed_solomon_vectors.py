@@ -1,8 +1,8 @@
 #!/usr/bin/env python3
 """Writes the tables of the Reed-Solomon decoder's tests: received words and syndromes, with what has to come out of them.
 
-    bench/reed_solomon_vectors.py words > crates/tm_outer_code_tests/src/rs_solve/words.rt
-    bench/reed_solomon_vectors.py locators > crates/tm_outer_code_tests/src/rs_locator/locators.rt
+    tests/reed_solomon_vectors.py words > crates/tm_outer_code_tests/src/rs_solve/words.rt
+    tests/reed_solomon_vectors.py locators > crates/tm_outer_code_tests/src/rs_locator/locators.rt
 
 It shares nothing with the crates. The field and the generator polynomial are made from F(x) = x^8 + x^7 + x^2 + x + 1 and the
 roots alpha^(11 j), j = 128-E .. 127+E. Words are encoded by division, and decoded by Gauss elimination, where the crates
@@ -243,7 +243,7 @@ def hex_of(numbers):
 
 def print_table(about, name, lines):
     """A static text with these lines. No line of the file begins with a space, which would be lost after a backslash."""
-    print(f"// Written by bench/reed_solomon_vectors.py. {about}\npub static {name}: &str = \"\\")
+    print(f"// Written by tests/reed_solomon_vectors.py. {about}\npub static {name}: &str = \"\\")
     for line in lines:
         print("\\\n".join(re.findall(r"\S.{0,118} ?", line)) + "\\n\\")
     print("\";")
