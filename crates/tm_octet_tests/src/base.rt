@@ -1,4 +1,7 @@
-// Each public function of tm_base once, and the fakes' faults.
+// Each public function of tm_base once, the faults of the fakes, and what the adapters make of uneven streams.
+ghost use Rattle.std.specs.Prelude.{IfOk, ◌≤◌};
+
+use std::io::{self, ErrorKind, Read, Write};
 use std::test::Fail;
 use tm_base::{
     BitReader, Failed, MARKER, MemSink, MemSource, Sink, Source, StdSink, StdSource, SureSink,
@@ -52,16 +55,117 @@ fn sure_ones_never_fail(rt: HostRuntime) -> Result<(), Fail> {
     Ok(())
 }
 
+// A reader or writer of which each call moves at most `most` octets, and the call of number `fails`, from 0, fails.
+#[derive(Drop)]
+struct Uneven<S> {
+    stream: S,
+    most: usize,
+    fails: u64,
+    calls: u64,
+}
+
+impl<S> Uneven<S> {
+    // How many of the octets offered the next call moves.
+    fn turn(&mut self, offered: usize) -> io::Result<usize>
+        ensures { IfOk result (λ count. count ≤ offered) }
+    {
+        let call = self.calls;
+        self.calls = call.saturating_add(1);
+        if call == self.fails {
+            return Err(ErrorKind::Other.into());
+        }
+        Ok(self.most.min(offered))
+    }
+}
+
+impl<R: Read> Read for Uneven<R> {
+    fn read(&mut self, buf: &mut [u8]) -> io::Result<usize> {
+        let count = self.turn(buf.len())?;
+        self.stream.read(&mut buf[..count])
+    }
+}
+
+impl<W: Write> Write for Uneven<W> {
+    fn write(&mut self, buf: &[u8]) -> io::Result<usize> {
+        let count = self.turn(buf.len())?;
+        self.stream.write(&buf[..count])
+    }
+
+    fn flush(&mut self) -> io::Result<()> {
+        self.stream.flush()
+    }
+}
+
+// Each read is one call of the reader: it gives what that call gives, and fails where it does.
 #[test]
-fn std_ones_read_and_write(rt: HostRuntime) -> Result<(), Fail> {
-    let mut source = StdSource::new([7, 8].as_slice());
-    let mut buf = [0; 4];
-    assert!(rt; source.read(&mut buf) == Ok(2));
-    assert!(rt; buf == [7, 8, 0, 0]);
-    assert!(rt; source.read(&mut buf) == Ok(0));
-    let mut sink = StdSink::new(Vec::<u8>::new(rt.alloc()));
-    assert!(rt; put_all(&mut sink, &[1, 2, 3]) == Ok(()));
-    Ok(())
+fn std_source_reads_as_its_reader(rt: HostRuntime) {
+    let end = (Ok(0), [0; 4]);
+    let fault = (Err(Failed), [0; 4]);
+    for (most, fails, reads) in [
+        (4, 9, [(Ok(3), [7, 8, 9, 0]), end, end]),
+        (2, 9, [(Ok(2), [7, 8, 0, 0]), (Ok(1), [9, 0, 0, 0]), end]),
+        (2, 1, [(Ok(2), [7, 8, 0, 0]), fault, (Ok(1), [9, 0, 0, 0])]),
+        (0, 9, [end, end, end]),
+    ] {
+        let mut source = StdSource::new(Uneven {
+            stream: [7, 8, 9].as_slice(),
+            most,
+            fails,
+            calls: 0,
+        });
+        for (answer, octets) in reads {
+            let mut buf = [0; 4];
+            assert!(rt; source.read(&mut buf) == answer);
+            assert!(rt; buf == octets);
+        }
+    }
+}
+
+// Each write is one call of the writer: it takes what that call takes, and fails where it does.
+#[test]
+fn std_sink_writes_as_its_writer(rt: HostRuntime) {
+    for (most, fails, writes, held) in [
+        (9, 9, [Ok(2), Ok(2), Ok(2)], [1, 2, 1, 2, 1, 2].as_slice()),
+        (1, 9, [Ok(1), Ok(1), Ok(1)], [1, 1, 1].as_slice()),
+        (1, 1, [Ok(1), Err(Failed), Ok(1)], [1, 1].as_slice()),
+        (0, 9, [Ok(0), Ok(0), Ok(0)], [].as_slice()),
+    ] {
+        let mut writer = Uneven {
+            stream: Vec::<u8>::new(rt.alloc()),
+            most,
+            fails,
+            calls: 0,
+        };
+        let mut sink = StdSink::new(&mut writer);
+        for answer in writes {
+            assert!(rt; sink.write(&[1, 2]) == answer);
+        }
+        assert!(rt; writer.stream.as_slice() == held);
+    }
+}
+
+// A piece of five octets: how many of them the writer then holds, and after how many calls.
+#[test]
+fn pieces_are_written_up_to_a_fault(rt: HostRuntime) {
+    let piece = [1, 2, 3, 4, 5];
+    for (most, fails, held, calls) in [
+        (9, 9, 5, 1),
+        (2, 9, 5, 3),
+        (2, 2, 4, 3),
+        (2, 0, 0, 1),
+        (0, 9, 0, 1),
+    ] {
+        let mut writer = Uneven {
+            stream: Vec::<u8>::new(rt.alloc()),
+            most,
+            fails,
+            calls: 0,
+        };
+        let written = put_all(&mut StdSink::new(&mut writer), &piece);
+        assert!(rt; written.is_ok() == (held == 5));
+        assert!(rt; writer.stream.as_slice() == &piece[..held]);
+        assert!(rt; writer.calls == calls);
+    }
 }
 
 #[test]
