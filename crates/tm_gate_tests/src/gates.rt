@@ -132,33 +132,38 @@ impl ItemTaker for Counting {
     }
 }
 
+// Eight codeblocks are no batch of 32 before the end, and are one of eight as soon as they are there.
 #[test]
 fn a_receiver_decodes_a_batch_by_all_its_workers(rt: HostRuntime) -> Result<(), Fail> {
-    let link = Raw {
-        length: Some(1),
-        inner: 0,
-        randomize: 0,
-        workers: 2,
-        ..Raw::default()
-    };
-    let Ok(config) = Config::check(&link) else {
-        panic!(rt; "refused")
-    };
-    let Ok(mut receiver) = Receiver::open(rt.alloc(), config) else {
-        panic!(rt; "no memory")
-    };
-    let gate = gate_that_holds(0, 7);
-    let mut counting = Counting { count: 0 };
-    for _ in 0..8 {
-        assert!(rt; receiver.feed(&rt, &MARKED, &mut counting, &gate) == Ok(()));
+    for (batch, count_fed) in [(32, 0), (8, 8)] {
+        let link = Raw {
+            length: Some(1),
+            inner: 0,
+            randomize: 0,
+            workers: 2,
+            batch,
+            ..Raw::default()
+        };
+        let Ok(config) = Config::check(&link) else {
+            panic!(rt; "refused")
+        };
+        let Ok(mut receiver) = Receiver::open(rt.alloc(), config) else {
+            panic!(rt; "no memory")
+        };
+        let gate = gate_that_holds(0, 7);
+        let mut counting = Counting { count: 0 };
+        for _ in 0..8 {
+            assert!(rt; receiver.feed(&rt, &MARKED, &mut counting, &gate) == Ok(()));
+        }
+        assert!(rt; counting.count == count_fed);
+        assert!(rt; (gate.freed.load(Ordering::SeqCst) == 1) == (count_fed == 8));
+        let totals = Totals {
+            bits: 2368,
+            slips: None,
+        };
+        assert!(rt; receiver.finish(&rt, &mut counting, &gate) == Ok(totals));
+        assert!(rt; gate.freed.load(Ordering::SeqCst) == 1);
+        assert!(rt; counting.count == 8);
     }
-    assert!(rt; counting.count == 0);
-    let totals = Totals {
-        bits: 2368,
-        slips: None,
-    };
-    assert!(rt; receiver.finish(&rt, &mut counting, &gate) == Ok(totals));
-    assert!(rt; gate.freed.load(Ordering::SeqCst) == 1);
-    assert!(rt; counting.count == 8);
     Ok(())
 }
