@@ -6,7 +6,7 @@ use Rattle.tm_viterbi.specs.WindowSizes.{stream_bound}
 use Rattle.tm_viterbi.specs.Decoding.{DecoderStandsFor}
 use Rattle.tm_windows.specs.Followed.{Windows, slips_of, kept_of}
 use Rattle.tm_windows.specs.Gathered.{IsOpen, room_of}
-use Rattle.tm_windows.specs.Sharing.{workers_for, windows_for}
+use Rattle.tm_windows.specs.Sharing.{SharesAmong}
 use Rattle.tm_windows.specs.ParallelDecoding.{ParallelStandsFor}
 use Rattle.tm_inner.specs.declared.inner_decoder.InnerDecoder.{InnerDecoder}
 use Rattle.tm_inner.specs.declared.inner_decoder.InnerDecoder.TheVariants.{One, Many}
@@ -21,15 +21,13 @@ abbrev pub has_stopped_in : InnerDecoder → Bool
 has_stopped_in (One decoder) = decoder.has_stopped
 has_stopped_in (Many decoder) = decoder.has_stopped
 
--- it has as many workers and windows at a time as so many workers are to have, and one worker has
--- the decoder of one, unless the phase is followed
+-- it has as many workers as it was opened for, and windows at a time for these; one worker has the
+-- decoder of one, unless the phase is followed
 abbrev pub HasWorkers : ℕ → Configuration → Option InnerDecoder → Type 0
 HasWorkers workers c None = Unit {0}
 HasWorkers workers c (Some (One decoder)) = workers ≡ 1
 HasWorkers workers c (Some (Many decoder)) =
-    (decoder.gathering.workers.workers ≡ workers_for workers c.keep c.ahead)
-    × (decoder.gathering.workers.most ≡ windows_for (workers_for workers c.keep c.ahead) c.keep)
-    × (workers ≡ 1 → IsTrue c.follow)
+    SharesAmong workers decoder.gathering.workers × (workers ≡ 1 → IsTrue c.follow)
 
 -- it can take so many octets, all of them, and decode none yet
 abbrev pub CanGather : InnerDecoder → ℕ → Type 0

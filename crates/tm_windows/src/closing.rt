@@ -1,5 +1,5 @@
 // How windows are decoded that close: side by side, by many workers, or one after another, with no thread.
-ghost use Rattle.std.specs.Prelude.{◌≡◌, ◌+◌, ◌*◌, ◌<◌, ◌≤◌, ℕ, length};
+ghost use Rattle.std.specs.Prelude.{◌≡◌, ◌+◌, ◌*◌, ◌<◌, ◌≤◌, ℕ, IsTrue, length};
 ghost use Rattle.std.specs.List.{All};
 ghost use Rattle.tm_base.specs.Limits.{most_workers};
 ghost use Rattle.tm_viterbi.specs.WindowSizes.{window_bound};
@@ -12,11 +12,16 @@ use crate::sharing::decode_evenly;
 use crate::stretch::Stretch;
 use std::thread::Threads;
 use tm_base::{Gate, OpenGate};
-use tm_viterbi::WindowDecoder;
+use tm_viterbi::{WindowDecoder, WindowShape};
 
-// The least steps of windows that are shared out: one worker decodes fewer in the millisecond that a thread may take to
-// begin.
-const LEAST_SHARED: usize = 65_536;
+// The least windows that are shared out: a guess runs over some hundred steps, and is often wrong where few stand
+// ahead.
+const LEAST_SHARED_KEEP: usize = 1_024;
+
+const LEAST_SHARED_AHEAD: usize = 64;
+
+// The least steps that they keep together: one worker decodes fewer in the millisecond that a thread may take to begin.
+const LEAST_SHARED_STEPS: usize = 65_536;
 
 pub(crate) trait Closing {
     /// Whether windows of so many octets can be decoded in this way.
@@ -35,6 +40,13 @@ pub(crate) trait Closing {
         ensures candidates { AreCandidates from.now.shape from.now.t from.now.octets.now 0 (length run.old) run.new }
         ensures bits { HaveRoom (from.now.shape.keep + from.now.shape.ahead) run.new }
         ensures shape { All (λ d. d ≡ from.now.shape) decoders.new };
+}
+
+/// Whether windows of this shape are shared out, where they have enough steps together.
+pub(crate) fn are_shared(shape: WindowShape) -> bool
+    ensures long { IsTrue result → 1024 ≤ shape.keep }
+{
+    shape.keep >= LEAST_SHARED_KEEP && shape.ahead >= LEAST_SHARED_AHEAD
 }
 
 /// Does what `Closing::decode` does: by all workers, which enter the gate before each window, where there is enough to
@@ -56,7 +68,7 @@ pub(crate) fn decode_shared<R: Threads + Sync, G: Gate + Sync>(
     ensures bits { HaveRoom (from.now.shape.keep + from.now.shape.ahead) run.new }
     ensures shape { All (λ d. d ≡ from.now.shape) decoders.new }
 {
-    if run.len() * from.shape.keep < LEAST_SHARED {
+    if !are_shared(from.shape) || run.len() * from.shape.keep < LEAST_SHARED_STEPS {
         OneByOne.decode(decoders, run, from);
         return;
     }

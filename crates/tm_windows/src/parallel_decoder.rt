@@ -12,10 +12,10 @@ ghost use Rattle.tm_windows.specs.Slip.{steps_seen, most_seen};
 ghost use Rattle.tm_windows.specs.Followed.{slips_of, kept_of};
 ghost use Rattle.tm_windows.specs.Windows.{AreBlocksIn, AreDueIn, AreFirstIn};
 ghost use Rattle.tm_windows.specs.Gathered.{IsOpen, room_of};
-ghost use Rattle.tm_windows.specs.Sharing.{workers_for, windows_for, most_windows, most_octets};
+ghost use Rattle.tm_windows.specs.Sharing.{SharesAmong, most_windows, most_window_steps, most_octets};
 ghost use Rattle.tm_windows.specs.ParallelDecoding.{Calls, Feeds, Finishes, ParallelStandsFor};
 
-use crate::closing::{Closing, OneByOne, SideBySide};
+use crate::closing::{Closing, OneByOne, SideBySide, are_shared};
 use crate::gathering::Gathering;
 use crate::slipping::steps_seen;
 use std::alloc::Global;
@@ -26,12 +26,6 @@ use tm_viterbi::{BlockTaker, FeedError, STREAM_BOUND, Start, WindowShape};
 
 // The steps of the windows that a worker has at a time: so many that making a thread costs little beside them.
 const STEPS_EACH: usize = 131_072;
-
-// The least windows for which workers pay: a guess runs over some hundred steps, and is often wrong where few stand
-// ahead.
-const LEAST_SHARED_KEEP: usize = 1_024;
-
-const LEAST_SHARED_AHEAD: usize = 64;
 
 /// The soft decoder (CCSDS 131.0-B, Convolutional Coding), fed in pieces of soft octets as `tm_viterbi::Decoder` is,
 /// whose windows many workers decode side by side: all those that octets close. Octets may also be gathered, so that
@@ -62,28 +56,20 @@ impl Model for ParallelDecoder {
     ghost invariant = { λ d. (reached d.gathering ≤ d.count) × (d.count < stream_bound) × HasRoom d.gathering };
 }
 
-// How many of so many workers windows are shared out among.
-fn worker_count(workers: u8, keep: usize, ahead: usize) -> u8
-    ensures { result ≡ workers_for workers keep ahead }
-{
-    if keep < LEAST_SHARED_KEEP || ahead < LEAST_SHARED_AHEAD {
-        1
-    } else {
-        workers
-    }
-}
-
-// How many windows so many workers have at a time.
-fn window_count(workers: u8, keep: usize) -> usize
+// How many windows so many workers have at a time: one each, and more where they are shared out.
+fn window_count(workers: u8, shape: WindowShape) -> usize
     requires workers { (0 < workers) × (workers ≤ most_workers) }
-    requires keep { (least_keep ≤ keep) × (keep ≤ most_keep) }
-    ensures value { result ≡ windows_for workers keep }
-    ensures small { (0 < result) × (result ≤ most_windows) }
+    requires keep { (least_keep ≤ shape.keep) × (shape.keep ≤ most_keep) }
+    requires ahead { shape.ahead ≤ most_ahead }
+    ensures each { workers ≤ result }
+    ensures alone { workers ≡ 1 → result ≡ 1 }
+    ensures small { result ≤ most_windows }
+    ensures bound { result * (shape.keep + shape.ahead) ≤ most_window_steps }
 {
-    if workers > 1 {
-        usize::from(workers) * (STEPS_EACH / keep)
+    if workers > 1 && are_shared(shape) {
+        usize::from(workers) * (STEPS_EACH / shape.keep)
     } else {
-        1
+        usize::from(workers)
     }
 }
 
@@ -118,9 +104,10 @@ fn counted(count: u64, piece: &[u8]) -> &[u8]
 
 impl ParallelDecoder {
     /// A decoder that was given nothing yet, with 1 to 64 workers, for windows of this shape, which keeps 64 to 65,536
-    /// steps, of the last window all, and has at most 4,096 ahead. Where fewer than 1,024 steps are kept or fewer than
-    /// 64 stand ahead, one worker decodes all windows. Where `follow` is set a slip is looked for before each window
-    /// but the first, and as many octets are dropped; workers share out the windows before which none are dropped.
+    /// steps, of the last window all, and has at most 4,096 ahead. There is room for a window for each worker at least,
+    /// and for one alone where there is one worker; workers share them out where that pays. Where `follow` is set a
+    /// slip is looked for before each window but the first, and as many octets are dropped; workers share out the
+    /// windows before which none are dropped.
     ///
     /// It fails only where there isn't enough memory.
     pub fn open(
@@ -143,15 +130,11 @@ impl ParallelDecoder {
           };
           seen = if follow then Some (steps_seen shape.keep shape.ahead) else None;
         }) }
-        ensures workers { IfOk result (λ d.
-            d.gathering.workers.workers ≡ workers_for workers shape.keep shape.ahead) }
-        ensures most { IfOk result (λ d.
-            d.gathering.workers.most ≡ windows_for (workers_for workers shape.keep shape.ahead) shape.keep) }
+        ensures workers { IfOk result (λ d. SharesAmong workers d.gathering.workers) }
         ensures fresh { IfOk result (λ d. d.has_stopped ≡ false) }
         ensures stands { IfOk result (λ d. ParallelStandsFor d [] []) }
     {
-        let workers = worker_count(workers, shape.keep, shape.ahead);
-        let most = window_count(workers, shape.keep);
+        let most = window_count(workers, shape);
         let seen = seen_of(follow, shape.keep, shape.ahead);
         let gathering = Gathering::new(alloc, start, shape, seen, workers, most)?;
         Ok(ParallelDecoder {

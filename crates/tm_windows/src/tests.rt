@@ -4,7 +4,7 @@
 ghost use Rattle.std.specs.Prelude.{◌+◌, ◌*◌, ◌^◌, ◌<◌, ◌≤◌, ◌≡◌, ℕ, length};
 ghost use Rattle.tm_base.specs.Limits.{most_workers};
 ghost use Rattle.tm_conv.specs.Path.{steps_size};
-ghost use Rattle.tm_viterbi.specs.WindowSizes.{least_keep, most_keep, window_bound};
+ghost use Rattle.tm_viterbi.specs.WindowSizes.{least_keep, most_keep, most_ahead, window_bound};
 ghost use Rattle.tm_windows.specs.Candidates.{AreCandidates, HaveRoom, HoldsWindows};
 ghost use Rattle.tm_windows.specs.Sharing.{most_windows, most_octets};
 
@@ -275,12 +275,14 @@ fn followed<C: Closing>(
     alloc: Global,
     closing: &C,
     keep: usize,
+    ahead: usize,
     workers: u8,
     most: usize,
     octets: &[u8],
 ) -> Result<(Digest, u64), Fail>
     requires ready { (count : ℕ) → count ≤ most_octets → C.is_ready closing.now count }
     requires keep { (least_keep ≤ keep) × (keep ≤ most_keep) }
+    requires ahead { (33 ≤ ahead) × (ahead ≤ most_ahead) }
     requires workers { (0 < workers) × (workers ≤ most_workers) }
     requires most { (0 < most) × (most ≤ most_windows) }
     requires long { length octets.now < 2 ^ 59 }
@@ -289,7 +291,7 @@ fn followed<C: Closing>(
         rate: Rate::R12,
         invert: false,
         keep,
-        ahead: AHEAD,
+        ahead,
     };
     let mut gathering = Gathering::new(alloc, Start::Zero, shape, Some(89), workers, most)?;
     let mut digest = empty();
@@ -316,27 +318,34 @@ fn sent(alloc: Global, steps: usize) -> Result<Vec<u8>, AllocError> {
 
 // How many of two workers meet at the gate where eight windows of so many steps are closed together: each has four of
 // them, and waits at its first until the other has come.
-fn count_met<R: Abort + Threads + Sync>(rt: &R, alloc: Global, keep: usize) -> Result<u64, Fail>
-    requires { (least_keep ≤ keep) × (keep ≤ most_keep) }
+fn count_met<R: Abort + Threads + Sync>(
+    rt: &R,
+    alloc: Global,
+    keep: usize,
+    ahead: usize,
+) -> Result<u64, Fail>
+    requires keep { (least_keep ≤ keep) × (keep ≤ most_keep) }
+    requires ahead { (33 ≤ ahead) × (ahead ≤ most_ahead) }
 {
-    let octets = sent(alloc, WINDOWS * keep + AHEAD + 1)?;
+    let octets = sent(alloc, WINDOWS * keep + ahead + 1)?;
     assert!(rt; octets.len() < 200_000);
     let gate = Meeting {
         come: AtomicU64::new(0),
         met: AtomicU64::new(0),
     };
     let past = PastMeeting { rt, gate: &gate };
-    let (digest, slips) = followed(alloc, &past, keep, 2, WINDOWS, &octets)?;
+    let (digest, slips) = followed(alloc, &past, keep, ahead, 2, WINDOWS, &octets)?;
     assert!(rt; digest.blocks == WINDOWS as u64 + 1);
     assert!(rt; slips == 0);
     Ok(gate.met.load(Ordering::SeqCst))
 }
 
-// Eight windows of 8,192 steps are just enough to share out, and of a step less they are too few.
+// Eight windows of 8,192 steps with 64 ahead are just enough to share out, and of a step less they are too few.
 #[test]
 fn followed_windows_of_enough_steps_are_decoded_side_by_side(rt: HostRuntime) -> Result<(), Fail> {
-    assert!(rt; count_met(&rt, rt.alloc(), 8_192)? == 2);
-    assert!(rt; count_met(&rt, rt.alloc(), 8_191)? == 0);
+    assert!(rt; count_met(&rt, rt.alloc(), 8_192, 64)? == 2);
+    assert!(rt; count_met(&rt, rt.alloc(), 8_191, 64)? == 0);
+    assert!(rt; count_met(&rt, rt.alloc(), 8_192, 63)? == 0);
     Ok(())
 }
 
@@ -348,13 +357,13 @@ fn followed_windows_are_the_same_for_any_workers(rt: HostRuntime) -> Result<(), 
     octets.remove(3500);
     octets.remove(1500);
     assert!(rt; octets.len() < 6000);
-    let (wanted, slips) = followed(alloc, &OneByOne, KEEP, 1, 1, &octets)?;
+    let (wanted, slips) = followed(alloc, &OneByOne, KEEP, AHEAD, 1, 1, &octets)?;
     assert!(rt; wanted.blocks == 41);
     assert!(rt; slips == 2);
     let shared = AlwaysShared { rt: &rt };
     for workers in [1, 2, 3, 7] {
         for most in [1, 2, 8, 40] {
-            let (digest, slips) = followed(alloc, &shared, KEEP, workers, most, &octets)?;
+            let (digest, slips) = followed(alloc, &shared, KEEP, AHEAD, workers, most, &octets)?;
             assert!(rt; digest == wanted);
             assert!(rt; slips == 2);
         }

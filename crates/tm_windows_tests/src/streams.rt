@@ -227,7 +227,7 @@ fn gathered_octets_wait(rt: HostRuntime) -> Result<(), Fail> {
     Ok(())
 }
 
-// One worker alone has room for the octets that close one window.
+// There is room for the octets that close a window for each worker, though too few steps are kept to share them out.
 #[test]
 fn room_ends_with_the_batch(rt: HostRuntime) -> Result<(), Fail> {
     let alloc = rt.alloc();
@@ -237,7 +237,7 @@ fn room_ends_with_the_batch(rt: HostRuntime) -> Result<(), Fail> {
         keep: 64,
         ahead: 0,
     };
-    let mut decoder = opened(&rt, alloc, shape, Start::Zero, 7, false)?;
+    let mut decoder = opened(&rt, alloc, shape, Start::Zero, 1, false)?;
     let mut digest = empty();
     assert!(rt; !decoder.gather(&[127; 131]));
     assert!(rt; decoder.gather(&[127; 129]));
@@ -247,6 +247,10 @@ fn room_ends_with_the_batch(rt: HostRuntime) -> Result<(), Fail> {
     assert!(rt; decoder.count_closed() == 1);
     decoder.feed(&rt, &[127; 128], &mut digest)?;
     assert!(rt; digest.blocks == 2);
+    let mut many = opened(&rt, alloc, shape, Start::Zero, 7, false)?;
+    assert!(rt; !many.gather(&[127; 899]));
+    assert!(rt; many.gather(&[127; 898]));
+    assert!(rt; many.count_closed() == 7);
     Ok(())
 }
 
