@@ -12,6 +12,7 @@ use crate::candidate::Candidate;
 use crate::closing::{Closing, OneByOne, decode_shared};
 use crate::decoding::decode_window;
 use crate::gathering::Gathering;
+use crate::guessing::known_or_guessed;
 use crate::settling::settle_run;
 use crate::sharing::decode_evenly;
 use crate::stretch::Stretch;
@@ -190,6 +191,45 @@ fn windows_from_wrong_registers_are_decoded_again(rt: HostRuntime) -> Result<(),
     let drawn = drawn_octets();
     check_rate(&rt, rt.alloc(), Rate::R12, &drawn)?;
     check_rate(&rt, rt.alloc(), Rate::R78, &drawn)
+}
+
+// Over clean symbols the guess of a register is that through which their path passes, so that no window is decoded
+// twice.
+#[test]
+fn a_guess_over_clean_symbols_is_right(rt: HostRuntime) -> Result<(), Fail> {
+    let alloc = rt.alloc();
+    let octets = sent(alloc, 2 * KEEP + AHEAD + 1)?;
+    let size = steps_len(Rate::R12, 0, KEEP + AHEAD + 1);
+    assert!(rt; size <= octets.len());
+    let shape = WindowShape {
+        rate: Rate::R12,
+        invert: false,
+        keep: KEEP,
+        ahead: AHEAD,
+    };
+    let mut decoder = WindowDecoder::new(alloc, shape)?;
+    let mut candidate = Candidate::new(alloc, KEEP + AHEAD)?;
+    let from = Stretch {
+        shape,
+        starts: Some(0),
+        t: 0,
+        octets: &octets,
+    };
+    decode_window(&mut decoder, &mut candidate, &from);
+    let register = candidate.path.end_state;
+    assert!(rt; register != 0);
+    let (step, place) = (KEEP as u64, 2 * KEEP);
+    let guess = known_or_guessed(
+        &mut decoder,
+        shape,
+        &mut candidate,
+        None,
+        step,
+        &octets,
+        place,
+    );
+    assert!(rt; guess == Some(register));
+    Ok(())
 }
 
 const SPINS: u64 = 1_000_000_000;
