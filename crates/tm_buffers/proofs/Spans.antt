@@ -1,16 +1,20 @@
 -- Bits of a list from one index on up to another.
-use Rattle.std.proofs.Common.{◌≡◌, ◌==◌, ◌<◌, ◌≤◌, ◌+◌, ◌-◌, ◌*◌, ◌/◌, ◌%◌, ℕ, zero, suc, Bool, not, get_or, List, [], ◌∷◌, ◌++◌, length, take, drop, unwrap_or, false, refl, sym, ap, ◌∙◌, subst, arith, append_assoc, Option, Some, None, IfNone, IfSome, length-take, length-drop}
-use Rattle.std.proofs.lemmas.List.{drop-append-le, drop-drop, get_or-drop}
+use Rattle.std.proofs.Common.{◌≡◌, ◌==◌, ◌<◌, ◌≤◌, ◌+◌, ◌-◌, ◌*◌, ◌/◌, ◌%◌, ℕ, zero, suc, Bool, not, get_or, List, [], ◌∷◌, ◌++◌, length, take, drop, unwrap_or, refl, sym, ap, ◌∙◌, subst, arith, append_assoc, Option, Some, None, IsSome, length-take, length-drop, inl, inr, mul-le-mul_right}
+use Rattle.std.specs.Option.{option_map_or}
+use Rattle.std.proofs.lemmas.Bool.{cases_lt}
+use Rattle.std.proofs.lemmas.List.{append-nil, drop-append-le, drop-drop, get_or-drop, take_all}
 use Rattle.std.proofs.Math.Seq.{take-add}
 use Rattle.tm_base.specs.Bits.{bits_of, bits_of_octet, low_bits}
 use Rattle.tm_base.proofs.Packing.{bits_of-drop, bits_of-take, length-low_bits}
 use Rattle.tm_sync.specs.declared.found.Found.{Found}
-use Rattle.tm_sync.specs.Places.{Rules, places}
-use Rattle.tm_sync.specs.Searching.{Searching, SearchStandsFor, inside_of, is_pending, waiting_of}
+use Rattle.tm_sync.specs.Places.{Rules, places, verify_bits}
+use Rattle.tm_sync.specs.Searching.{Searching, SearchStandsFor, inside_of}
+use Rattle.tm_sync.proofs.Ends.{first-stays}
+use Rattle.tm_sync.proofs.Given.{reported-few}
 use Rattle.tm_sync.proofs.Sliding.{bit_of}
-use Rattle.tm_buffers.specs.Searching.{Finds, bits_in, span}
+use Rattle.tm_buffers.specs.Searching.{NoneSooner, bits_in, span}
 
-pub span-none : {T : Type 0} (at : ℕ) (items : List T) → span at at items ≡ []
+span-none : {T : Type 0} (at : ℕ) (items : List T) → span at at items ≡ []
 span-none at items = ap (λ n. take n (drop at items)) (let none : at - at ≡ 0 = omega arith in none)
 
 -- a span goes on
@@ -93,6 +97,11 @@ span-octets at first whole octets is =
 
 -- ---- bits that are taken after others
 
+pub taken-none : {T : Type 0} (P : List T → Type 0) (at : ℕ) (given items : List T) → P given
+    → P (given ++ span at at items)
+taken-none P at given items =
+    subst P (sym (ap (λ l. given ++ l) (span-none at items) ∙ append-nil given))
+
 pub taken-more : {T : Type 0} (P : List T → Type 0) (from at to : ℕ) (given items more : List T) → from ≤ at → at ≤ to
     → span at to items ≡ more
     → P ((given ++ span from at items) ++ more) → P (given ++ span from to items)
@@ -100,32 +109,51 @@ taken-more P from at to given items more first second is =
     subst P (append_assoc given (span from at items) more ∙ ap (λ l. given ++ l)
     (ap (λ l. span from at items ++ l) (sym is) ∙ sym (span-more from at to items first second)))
 
--- ---- one place after another
+-- ---- no place is found sooner
 
-pub finds-next : (was now : Searching) (room : List ℕ) (place : Option Found) → now.rules ≡ was.rules
-    → IfNone place (now ≡ was)
-    → IfNone place ((bits : List Bool) (found : List Found) → SearchStandsFor was room bits found
-    → places was.rules bits ≡ found)
-    → IfSome place (λ f. (bits : List Bool) (found : List Found) → SearchStandsFor was room bits found
-    → SearchStandsFor now room bits (found ++ f ∷ [])
-    × ((rest : List Found) × (places was.rules bits ≡ found ++ f ∷ rest) × (length rest ≡ waiting_of now))
-    × (f.place + 32 + unwrap_or (inside_of was) 0 ≡ length bits))
-    → (bits : List Bool) (found : List Found) → SearchStandsFor was room bits found → Finds now room bits found place
-finds-next was now room None rules same none some bits found stands = (
-  subst (λ (s : Searching). SearchStandsFor s room bits found) (sym same) stands,
-  subst (λ (r : Rules). places r bits ≡ found) (sym rules) (none bits found stands),
-)
-finds-next was now room (Some f) rules same none some bits found stands =
-    let there = some bits found stands in
-    let left = there.1 in
-    (there.0, (left.0, subst (λ (r : Rules). places r bits ≡ found ++ f ∷ left.0) (sym rules) left.1, left.2))
+-- bits are taken after others
+pub sooner-more : (rules : Rules) (given items : List Bool) (found : List Found) (from at to : ℕ)
+    → from ≤ at → NoneSooner rules given found items from at
+    → NoneSooner rules (given ++ span from at items) found items at to
+    → NoneSooner rules given found items from to
+sooner-more rules given items found from at to first before after n low below =
+    elim (cases_lt n at) [
+      | inl early ↦ before n low early
+      | inr late ↦ taken-more (λ (l : List Bool). places rules l ≡ found) from at n given items
+          (span at n items) first late refl (after n late below)
+    ]
 
--- no place was found
-pub not-found : (search : Searching) (room : List ℕ) (bits : List Bool) (found : List Found) (place : Option Found)
-    → place ≡ None → Finds search room bits found place → SearchStandsFor search room bits found
-not-found search room bits found place none finds = (subst (Finds search room bits found) none finds).0
+-- one bit is taken
+pub sooner-one : (rules : Rules) (given items : List Bool) (found : List Found) (at : ℕ)
+    → places rules given ≡ found → NoneSooner rules given found items at (at + 1)
+sooner-one rules given items found at none n low below =
+    let same : at ≡ n = omega (arith, low, below) in
+    subst (λ (k : ℕ). places rules (given ++ span at k items) ≡ found) same
+    (taken-none (λ (l : List Bool). places rules l ≡ found) at given items none)
 
--- so none waits
-pub none-waits : (search : Searching) (place : Option Found) → place ≡ None → IfNone place (is_pending search ≡ false)
-    → is_pending search ≡ false
-none-waits search place none free = subst (λ (p : Option Found). IfNone p (is_pending search ≡ false)) none free
+begun-inside : (inside : Option ℕ) (none : ℕ) → IsSome inside
+    → option_map_or (λ count. 32 + count) inside none ≡ 32 + unwrap_or inside 0
+begun-inside None none is = absurd (cc)
+begun-inside (Some count) none is = refl
+
+-- bits are taken inside a codeblock, which lacks as many or more
+pub sooner-inside : (search : Searching) (room : List ℕ) (given items : List Bool)
+    (found : List Found) (at to : ℕ) → IsSome (inside_of search)
+    → unwrap_or (inside_of search) 0 + (to - at) ≤ search.rules.block_bits
+    → SearchStandsFor search room given found → NoneSooner search.rules given found items at to
+sooner-inside search room given items found at to inside fits stands n low below =
+    let all = places search.rules (given ++ span at n items) in
+    let few = reported-few search room given (span at n items) found stands in
+    let short = length-take (n - at) (drop at items) in
+    let begun = begun-inside (inside_of search) (31 + verify_bits search.rules) inside in
+    let none : length all ≤ length found = elim (cases_lt (length found) (length all)) as
+    (λ _. length all ≤ length found) [
+      | inl many ↦ (
+          let one : length found + 1 ≤ length all = omega (arith, many) in
+          let size = mul-le-mul_right (32 + search.rules.block_bits) one in
+          absurd (omega (arith, size, few, short, begun, fits, low, below))
+          )
+      | inr there ↦ there
+    ] in
+    sym (take_all (length found) all none)
+    ∙ first-stays search.rules given (span at n items) found stands.found_first

@@ -1,7 +1,7 @@
 -- Bits that a search takes up to the one with which a place is found.
-use Rattle.std.specs.Prelude.{◌≡◌, ℕ, ◌-◌, ◌==◌, Bool, not, List, [], ◌∷◌, ◌++◌, length, map, take, drop, Option, Some, None}
+use Rattle.std.specs.Prelude.{◌≡◌, ℕ, ◌-◌, ◌==◌, ◌<◌, ◌≤◌, Bool, not, List, [], ◌∷◌, ◌++◌, length, map, take, drop, Option, Some, None}
 use Rattle.tm_sync.specs.declared.found.Found.{Found}
-use Rattle.tm_sync.specs.Places.{places}
+use Rattle.tm_sync.specs.Places.{Rules, places}
 use Rattle.tm_sync.specs.Searching.{Searching, SearchStandsFor, waiting_of}
 
 -- bits that are passed as numbers, 0 and others
@@ -21,3 +21,9 @@ Finds search room bits found None = SearchStandsFor search room bits found
 Finds search room bits found (Some f) = SearchStandsFor search room bits (found ++ f ∷ [])
     × ((rest : List Found) × (places search.rules bits ≡ found ++ f ∷ rest)
     × (length rest ≡ waiting_of search))
+
+-- Bits of a list are taken from one index on up to another, after bits with which these places were
+-- found. With fewer of them no further place is found: one that is found is found with the last.
+abbrev pub NoneSooner : Rules → List Bool → List Found → List Bool → ℕ → ℕ → Type 0
+NoneSooner rules given found bits from end = (n : ℕ) → from ≤ n → n < end
+    → places rules (given ++ span from n bits) ≡ found

@@ -4,16 +4,16 @@ ghost use Rattle.tm_base.specs.Bits.{bits_of};
 ghost use Rattle.tm_sync.specs.declared.found.Found.{Found};
 ghost use Rattle.tm_sync.specs.Searching.{SearchStandsFor, is_pending};
 ghost use Rattle.tm_sync.specs.Bits.{bits_bound};
-ghost use Rattle.tm_buffers.specs.Searching.{Finds, bits_in, span};
+ghost use Rattle.tm_buffers.specs.Searching.{Finds, NoneSooner, bits_in, span};
 ghost use Rattle.tm_buffers.specs.Buffer.{most_taken};
 
 use tm_sync::{Found, Search};
 
-/// Takes bits from index `from` on, each 0 or any other number for 1, up to the one with which the next place is found,
-/// or all of them; none where a place is left that came with the bit before. Answers how many of the array are taken
-/// then, and the place. `room` is the search's own.
+/// Takes bits from index `from` on, each 0 or any other number for 1, up to the one with which the next place is found
+/// and no further, or all of them; none where a place is left that came with the bit before. Answers how many of the
+/// array are taken then, and the place. `room` is the search's own.
 ///
-/// The bits given in all are to be below 2^63.
+/// The bits given in all, those of the array too, are to be at most 2^63.
 pub fn find_in_bits(
     search: &mut Search,
     room: &mut [u8],
@@ -28,15 +28,16 @@ pub fn find_in_bits(
     ensures finds { (given : List Bool) (found : List Found) → length given + length bits.now ≤ bits_bound
         → SearchStandsFor search.old room.old given found
         → Finds search.new room.new (given ++ span from result.0 (bits_in bits.now)) found result.1 }
+    ensures none_sooner { (given : List Bool) (found : List Found) → length given + length bits.now ≤ bits_bound
+        → SearchStandsFor search.old room.old given found
+        → NoneSooner search.old.rules given found (bits_in bits.now) from result.0 }
 {
     let mut end = from;
-    let mut place = search.next(room);
-    while place.is_none() && end < bits.len() {
+    while !search.pending() && end < bits.len() {
         search.push_bit(room, bits[end] != 0);
         end += 1;
-        place = search.next(room);
     }
-    (end, place)
+    (end, search.next(room))
 }
 
 /// The same of the bits of octets, the most significant bit of each octet first: from bit `from` on.
@@ -57,19 +58,20 @@ pub fn find_in_octets(
     ensures finds { (given : List Bool) (found : List Found) → length given + 8 * length octets.now ≤ bits_bound
         → SearchStandsFor search.old room.old given found
         → Finds search.new room.new (given ++ span from result.0 (bits_of octets.now)) found result.1 }
+    ensures none_sooner { (given : List Bool) (found : List Found) → length given + 8 * length octets.now ≤ bits_bound
+        → SearchStandsFor search.old room.old given found
+        → NoneSooner search.old.rules given found (bits_of octets.now) from result.0 }
 {
     let size = 8 * octets.len() as u64;
-    let mut end = from;
-    let mut place = search.next(room);
-    while place.is_none() && end < size {
-        end += take_some(search, room, block_bits, octets, end);
-        place = search.next(room);
+    let mut taken = from;
+    while !search.pending() && taken < size {
+        taken += take_some(search, room, block_bits, octets, taken);
     }
-    (end, place)
+    (taken, search.next(room))
 }
 
-// Takes some of the bits of octets from bit `from` on: whole octets inside a codeblock, which has `block_bits` bits,
-// and else one bit. Answers how many bits.
+// Takes some of the bits of octets from bit `from` on, none of which but the last ends a codeblock: whole octets inside
+// one, which has `block_bits` bits, and else one bit. Answers how many bits.
 fn take_some(search: &mut Search, room: &mut [u8], block_bits: u32, octets: &[u8], from: u64) -> u64
     requires block { search.old.rules.block_bits ≡ block_bits }
     requires few { length octets.now ≤ most_taken }
@@ -81,6 +83,8 @@ fn take_some(search: &mut Search, room: &mut [u8], block_bits: u32, octets: &[u8
     ensures takes { (given : List Bool) (found : List Found) → length given + result ≤ bits_bound
         → SearchStandsFor search.old room.old given found
         → SearchStandsFor search.new room.new (given ++ span from (from + result) (bits_of octets.now)) found }
+    ensures none_sooner { (given : List Bool) (found : List Found) → SearchStandsFor search.old room.old given found
+        → NoneSooner search.old.rules given found (bits_of octets.now) from (from + result) }
 {
     let first = (from / 8) as usize;
     let whole = whole_octets(search.inside(), block_bits, from % 8).min(octets.len() - first);

@@ -1,66 +1,50 @@
-use Rattle.std.proofs.Common.{rules, arith, ◌≡◌, ◌==◌, ◌+◌, Bool, not, List, ◌++◌, None, sym, ap, ◌∙◌, subst, length-append}
-use Rattle.std.proofs.lemmas.List.{append-nil, length-map}
+use Rattle.std.proofs.Common.{arith, rules, ◌≡◌, ◌==◌, ◌+◌, ℕ, Bool, not, List, ◌++◌, refl, ◌∙◌, subst, length-append}
+use Rattle.std.proofs.lemmas.List.{length-map}
+use Rattle.tm_sync.specs.Places.{Rules, places}
 use Rattle.tm_sync.specs.Searching.{SearchStandsFor}
+use Rattle.tm_sync.proofs.Given.{reported_all}
 use Rattle.tm_buffers.specs.Searching.{bits_in, span}
-use Rattle.tm_buffers.proofs.Spans.{finds-next, length-span, none-waits, not-found, span-none, span-number, taken-more}
+use Rattle.tm_buffers.proofs.Spans.{length-span, sooner-more, sooner-one, span-number, taken-more, taken-none}
 use Rattle.tm_buffers.proofs.searching.find_in_bits.Goals as goal
 
-pub loop-place-init : goal.loop-place-init
-loop-place-init c = record {
-  rules = c.next-place.ensures.rules;
-  free = c.next-place.ensures.free;
+pub loop-search-init : goal.loop-search-init
+loop-search-init c = record {
+  rules = refl;
   first = omega arith;
   within = c.requires;
-  finds = λ given found few stands.
-      let same : given ++ span c.args.from c.args.from (bits_in c.args.bits.now) ≡ given =
-      ap (λ l. given ++ l) (span-none c.args.from (bits_in c.args.bits.now)) ∙ append-nil given in
-      finds-next c.args.search.now c.next-place.new.self c.args.room.now c.next-place.result
-      c.next-place.ensures.rules c.next-place.ensures.unchanged c.next-place.ensures.none
-      c.next-place.ensures.some
-      (given ++ span c.args.from c.args.from (bits_in c.args.bits.now)) found
-      (subst (λ (l : List Bool). SearchStandsFor c.args.search.now c.args.room.now l found) (sym same) stands);
+  stands = λ given found few stands.
+      taken-none (λ (l : List Bool). SearchStandsFor c.args.search.now c.args.room.now l found)
+      c.args.from given (bits_in c.args.bits.now) stands;
+  none_sooner = λ given found few stands n low below. absurd (omega (arith, low, below));
 }
 
-pub push_bit-requires : goal.push_bit-requires
-push_bit-requires c = none-waits c.loop-place.search c.loop-place.place (search rules) c.loop-place.invariant.free
-
-pub loop-place-preserved : goal.loop-place-preserved
-loop-place-preserved c =
-    let none : c.loop-place.place ≡ None = search rules in
+pub loop-search-preserved : goal.loop-search-preserved
+loop-search-preserved c =
+    let l = c.loop-search in
+    let from : ℕ = c.args.from in
+    let bits = bits_in c.args.bits.now in
     record {
-      rules = c.next-place-in-loop-place.ensures.rules ∙ c.push_bit.ensures.rules ∙ c.loop-place.invariant.rules;
-      free = c.next-place-in-loop-place.ensures.free;
-      first = omega (arith, c.loop-place.invariant.first);
+      rules = c.push_bit.ensures.rules ∙ l.invariant.rules;
+      first = omega (arith, l.invariant.first);
       within = omega (arith, c.if-end-bits.true);
-      finds = λ given found few stands.
-          let before = not-found c.loop-place.search c.loop-place.room
-          (given ++ span c.args.from c.loop-place.end (bits_in c.args.bits.now)) found c.loop-place.place none
-          (c.loop-place.invariant.finds given found few stands) in
-          let bit = span-number c.loop-place.end c.args.bits.now (omega arith) in
-          let long = length-span c.args.from c.loop-place.end (bits_in c.args.bits.now) c.loop-place.invariant.first
-          (omega (arith, c.loop-place.invariant.within, length-map c.args.bits.now (λ number. not (number == 0))))
-          in
-          let next = c.push_bit.ensures.stands (given ++ span c.args.from c.loop-place.end (bits_in c.args.bits.now))
-          found
-          (omega (
-            arith,
-            few,
-            long,
-            length-append given (span c.args.from c.loop-place.end (bits_in c.args.bits.now)),
-            c.if-end-bits.true,
-          )) before in
-          finds-next c.push_bit.new.self c.next-place-in-loop-place.new.self c.push_bit.new.room
-          c.next-place-in-loop-place.result c.next-place-in-loop-place.ensures.rules
-          c.next-place-in-loop-place.ensures.unchanged
-          c.next-place-in-loop-place.ensures.none c.next-place-in-loop-place.ensures.some
-          (given ++ span c.args.from (c.loop-place.end + 1) (bits_in c.args.bits.now)) found
-          (taken-more (λ l. SearchStandsFor c.push_bit.new.self c.push_bit.new.room l found) c.args.from
-          c.loop-place.end (c.loop-place.end + 1) given (bits_in c.args.bits.now) _
-          c.loop-place.invariant.first (omega arith) bit next);
+      stands = λ given found few stands.
+          let before = given ++ span from l.end bits in
+          let bit = span-number l.end c.args.bits.now (omega arith) in
+          let size = length-map c.args.bits.now (λ number. not (number == 0)) in
+          let long = length-span from l.end bits l.invariant.first
+          (omega (arith, l.invariant.within, size)) in
+          let all = length-append given (span from l.end bits) in
+          let next = c.push_bit.ensures.stands before found
+          (omega (arith, few, long, all, c.if-end-bits.true))
+          (l.invariant.stands given found few stands) in
+          taken-more (λ (l : List Bool). SearchStandsFor c.push_bit.new.self c.push_bit.new.room l found)
+          from l.end (l.end + 1) given bits _ l.invariant.first (omega arith) bit next;
+      none_sooner = λ given found few stands.
+          let before = given ++ span from l.end bits in
+          let none = reported_all l.search l.room (search rules) before found
+          (l.invariant.stands given found few stands) in
+          sooner-more c.args.search.now.rules given bits found from l.end (l.end + 1) l.invariant.first
+          (l.invariant.none_sooner given found few stands)
+          (sooner-one c.args.search.now.rules before bits found l.end
+          (subst (λ (r : Rules). places r before ≡ found) l.invariant.rules none));
     }
-
-pub returns-else-end-bits-clause-finds : goal.returns-else-end-bits-clause-finds
-returns-else-end-bits-clause-finds c = c.loop-place.invariant.finds
-
-pub returns-after-loop-place-clause-finds : goal.returns-after-loop-place-clause-finds
-returns-after-loop-place-clause-finds c = c.loop-place.invariant.finds

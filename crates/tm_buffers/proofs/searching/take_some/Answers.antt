@@ -1,8 +1,9 @@
-use Rattle.std.proofs.Common.{arith, ◌≡◌, ◌<◌, ◌+◌, ◌-◌, ◌/◌, ◌%◌, ℕ, Bool, List, [], ◌∷◌, ◌++◌, take, drop, ap, sym, ◌∙◌, subst, length-take}
+use Rattle.std.proofs.Common.{arith, ◌≡◌, ◌<◌, ◌+◌, ◌-◌, ◌/◌, ◌%◌, ℕ, Bool, ◌*◌, List, [], ◌∷◌, ◌++◌, take, drop, Option, IsSome, unwrap_or, ap, sym, ◌∙◌, subst, length-take}
 use Rattle.tm_base.specs.Bits.{bits_of}
 use Rattle.tm_sync.specs.Searching.{SearchStandsFor}
+use Rattle.tm_sync.proofs.Given.{reported_all}
 use Rattle.tm_sync.proofs.Sliding.{masked-bit}
-use Rattle.tm_buffers.proofs.Spans.{span-bit, span-octets}
+use Rattle.tm_buffers.proofs.Spans.{sooner-inside, sooner-one, span-bit, span-octets}
 use Rattle.tm_buffers.proofs.searching.take_some.Goals as goal
 
 pub returns-then-whole-gt0-clause-takes : goal.returns-then-whole-gt0-clause-takes
@@ -26,3 +27,20 @@ returns-clause-takes c = λ given found few stands.
     (ap (λ b. b ∷ []) (masked-bit (7 - c.args.from % 8) _) ∙ sym
     (span-bit c.args.from c.args.octets.now c.requires.from))
     (c.push_bit.ensures.stands given found (omega (arith, few)) stands)
+
+pub returns-then-whole-gt0-clause-none_sooner : goal.returns-then-whole-gt0-clause-none_sooner
+returns-then-whole-gt0-clause-none_sooner c = λ given found stands.
+    let search = c.args.search.now in
+    let whole = c.min-whole.result in
+    let some : 0 < c.whole_octets.result = omega (arith, c.if-whole-gt0.true, c.min-whole.ensures) in
+    let fits = c.whole_octets.ensures some in
+    let count = c.inside.ensures.count in
+    let inside = ap (λ o. unwrap_or o 0) count in
+    sooner-inside search c.args.room.now given (bits_of c.args.octets.now) found c.args.from
+    (c.args.from + 8 * whole) (subst (λ (o : Option ℕ). IsSome o) count fits.0)
+    (omega (arith, fits.1, inside, c.requires.block, c.min-whole.ensures)) stands
+
+pub returns-clause-none_sooner : goal.returns-clause-none_sooner
+returns-clause-none_sooner c = λ given found stands.
+    sooner-one c.args.search.now.rules given (bits_of c.args.octets.now) found c.args.from
+    (reported_all c.args.search.now c.args.room.now c.requires.free given found stands)
