@@ -357,7 +357,8 @@ int32_t tmchan_search_open(tmchan_search *search, uint32_t tolerance, uint32_t f
  * codeblock, and where further markers verify it with the last bit of these: several places may be found with one
  * bit, and come one a call. Answers 1 where a place is found, and gives it; 0 where all are taken; TMCHAN_CLOSED,
  * TMCHAN_ROOM (the room has another length, *at is beyond the array, or that has more than 2^40 elements): nothing
- * was taken then. So this takes an array:
+ * was taken then. The bits given to a search in all, those of the array too, are to be at most 2^63. So this takes an
+ * array:
  *
  *     uint64_t at = 0;
  *     while (tmchan_search_bits(&search, room, room_length, bits, bits_length, &at, &place) == 1) use(place); */

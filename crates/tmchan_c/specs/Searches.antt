@@ -13,7 +13,7 @@ use Rattle.tm_sync.specs.Paused.{is_resumable, resumed}
 use Rattle.tm_sync.specs.Places.{Rules, verify_bits}
 use Rattle.tm_sync.specs.Searching.{Searching, SearchStandsFor}
 use Rattle.tm_sync.specs.Bits.{bits_bound}
-use Rattle.tm_buffers.specs.Searching.{Finds, span}
+use Rattle.tm_buffers.specs.Searching.{Finds, NoneSooner, span}
 use Rattle.tm_buffers.specs.Buffer.{most_taken}
 use Rattle.tmchan_c.specs.declared.refusal.Refusal.{Refusal}
 use Rattle.tmchan_c.specs.declared.refusal.Refusal.TheVariants.{Room, Closed, Value}
@@ -118,8 +118,8 @@ place_after (Some f) place = record {
   inverted = from_bool f.inverted;
 }
 
--- A search has taken bits of a list of `size` from one index on up to another: those with which it
--- finds the next place, or all.
+-- A search has taken bits of a list of `size` from one index on up to another: those up to the one
+-- with which the next place is found and no further, or all.
 pub record FindsInto (was now : SearchState) (room room_now : List ℕ) (at end size : ℕ)
     (bits : List Bool) (place place_now : PlaceState) (answer : ℤ) : Type 0 where
   pub found : Option Found
@@ -130,6 +130,10 @@ pub record FindsInto (was now : SearchState) (room room_now : List ℕ) (at end 
   pub all : found ≡ None → end ≡ size
   pub is_open : now.is_open ≡ 1
   pub valid : is_resumable (paused_of now) ≡ true
+  pub rules : (search_of now).rules ≡ (search_of was).rules
   pub finds : (given : List Bool) (before : List Found) → length given + size ≤ bits_bound
       → SearchStandsFor (search_of was) room given before
       → Finds (search_of now) room_now (given ++ span at end bits) before found
+  pub none_sooner : (given : List Bool) (before : List Found) → length given + size ≤ bits_bound
+      → SearchStandsFor (search_of was) room given before
+      → NoneSooner (search_of was).rules given before bits at end

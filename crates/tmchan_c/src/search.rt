@@ -91,8 +91,10 @@ pub extern "C" fn tmchan_search_open(
 }
 
 /// Takes bits from number `at` of an array on, each 0 or another number for 1, up to the one with which the next place
-/// is found, or all, and says how far it came. `room` is the search's own. Answers 1 where a place is found, whose
-/// codeblock is whole, and gives it, and else 0; or why it is refused.
+/// is found and no further, or all, and says how far it came. `room` is the search's own. Answers 1 where a place is
+/// found, whose codeblock is whole, and gives it, and else 0; or why it is refused.
+///
+/// The bits given in all, those of the array too, are to be at most 2^63.
 #[unsafe(no_mangle)]
 pub extern "C" fn tmchan_search_bits(
     search: &mut SearchState,
