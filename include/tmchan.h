@@ -14,10 +14,18 @@
  * - An array is passed as a pointer followed by its length, in octets, and of reports in reports. A call reads and
  *   writes nothing beyond it.
  * - Any length may be passed, 0 too, and any number. What does not fit is answered by a negative number, and nothing
- *   is written then, but by a receiver's push and finish what had room (TMCHAN_ROOM).
- * - What the caller owes, since no call can test it: a pointer is never null, not even where the length is 0; the
- *   memory that it points to is readable, or writable where it is not const, for the length passed; an array that a
- *   call writes overlaps no other array of that call.
+ *   is written then, but by a receiver's push and finish (TMCHAN_ROOM).
+ *
+ * What the caller owes, since no call can test it
+ *
+ * - A pointer is never null, not even where the length is 0. The memory that it points to is readable, or writable
+ *   where it is not const, for the length passed.
+ * - What a call may write, that is all that a pointer without const points to, an array or a struct, overlaps nothing
+ *   else that is passed to that call, or to another call under way. Each call that takes a handle or a tmchan_search
+ *   writes it: two threads do not pass one at the same time. What is const may be shared.
+ * - No call is made from a signal handler, and none in the forked child of a process with threads (as of Python's
+ *   multiprocessing, where it forks).
+ * - malloc, realloc and free are of one allocator, and the memory that they give is aligned to 16 octets.
  *
  * Octets and bits: octet 0 of an array is sent first, and of each octet the most significant bit.
  *
@@ -46,7 +54,7 @@ extern "C" {
  * longer, and the calls of a search and tmchan_receiver_finish take other arguments than in 0.1. */
 #define TMCHAN_VERSION 0x000200
 
-/* The codes. TMCHAN_NO_CODE is for tmchan_cadu and tmchan_cadu_length alone. */
+/* The codes. TMCHAN_NO_CODE is taken by tmchan_cadu, tmchan_cadu_length and the field code of tmchan_config alone. */
 #define TMCHAN_NO_CODE 0
 #define TMCHAN_RS8 8
 #define TMCHAN_RS16 16
@@ -56,7 +64,7 @@ extern "C" {
 #define TMCHAN_POLYNOMIAL 1
 
 /* Answers below 0. Each call lists its own; where several apply it gives the first of its list. After any of them all
- * arrays are as they were, but for those of a receiver's push or finish after TMCHAN_ROOM. */
+ * arrays are as they were, but for those of a receiver's push or finish: after TMCHAN_ROOM nothing is said of them. */
 #define TMCHAN_BEYOND (-1)      /* uncorrectable: no codeword is within the repair bound. No mistake of the caller */
 #define TMCHAN_ROOM (-2)        /* the length of an array does not fit those of the others, or the code */
 #define TMCHAN_FLAGS (-3)       /* there are not as many flags as symbols */
@@ -301,8 +309,9 @@ int32_t tmchan_receiver_open(tmchan_stream *stream, const tmchan_config *config)
 
 /* Takes the next octets, and writes the frames of the codeblocks that are handed over, one after the other, to
  * frames, and a report of each to reports; frames_length is in octets, reports_length in reports. Answers how many
- * codeblocks these are; TMCHAN_CLOSED: nothing was taken then; TMCHAN_ROOM: the octets were taken, and all codeblocks
- * from the first that had no room on are lost. That never comes with the room that tmchan_receiver_room says. */
+ * codeblocks these are; TMCHAN_CLOSED: nothing was taken then; TMCHAN_ROOM: the octets were taken, all codeblocks from
+ * the first that had no room on are lost, and nothing is said of either array. That never comes with the room that
+ * tmchan_receiver_room says. */
 int64_t tmchan_receiver_push(tmchan_stream *stream, const uint8_t *octets, size_t octets_length, uint8_t *frames,
                              size_t frames_length, tmchan_report *reports, size_t reports_length);
 
@@ -321,8 +330,8 @@ typedef struct {
 int32_t tmchan_receiver_slips(tmchan_stream *stream, uint64_t *slips);
 
 /* Writes the codeblocks that are left in the same way, gives what all octets came to and the phase, and closes the
- * receiver. Answers how many codeblocks these are; TMCHAN_CLOSED; TMCHAN_ROOM, as of a push: the receiver is closed
- * all the same. */
+ * receiver. Answers how many codeblocks these are; TMCHAN_CLOSED; TMCHAN_ROOM, as of a push: the totals and the phase
+ * are given, and the receiver is closed, all the same. */
 int64_t tmchan_receiver_finish(tmchan_stream *stream, uint8_t *frames, size_t frames_length, tmchan_report *reports,
                                size_t reports_length, tmchan_totals *totals, tmchan_phase *phase);
 
