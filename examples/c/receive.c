@@ -17,7 +17,8 @@ static const char *const names[NAMES] = {"code", "depth", "length", "inner", "in
                                          "start", "skip", "workers", "limit", "fly", "keep", "ahead", "phase", "polarity",
                                          "batch", "pack", "verify"};
 
-static int64_t show(int64_t count, const uint8_t *frames, const tmchan_report *reports) {
+/* Writes the frames and the lines; what fails is seen at the end. */
+static void show(int64_t count, const uint8_t *frames, const tmchan_report *reports) {
     size_t octets = 0;
     for (int64_t i = 0; i < count; i++) {
         fprintf(stderr, "place %" PRIu64 " distance %u%s%s", reports[i].place, reports[i].distance, reports[i].bridged ? " bridged" : "",
@@ -26,34 +27,45 @@ static int64_t show(int64_t count, const uint8_t *frames, const tmchan_report *r
         fputc('\n', stderr);
         octets += reports[i].frame_length;
     }
-    return count < 0 || fwrite(frames, 1, octets, stdout) != octets ? -1 : 0;
+    fwrite(frames, 1, octets, stdout);
 }
 
+/* Sets the option of NAME=NUMBER. Answers 0, or -1 where there is no such option, or no such number. */
+static int set_option(tmchan_config *config, const char *word) {
+    const char *equals = strchr(word, '=');
+    size_t digits = equals ? strspn(equals + 1, "0123456789") : 0;
+    if (digits == 0 || digits > 19 || equals[1 + digits]) return -1;
+    for (int k = 0; k < NAMES; k++)
+        if (strlen(names[k]) == (size_t)(equals - word) && !strncmp(names[k], word, equals - word)) {
+            ((uint64_t *)config)[k] = strtoull(equals + 1, NULL, 10);
+            return 0;
+        }
+    return -1;
+}
+
+/* Status 0: all was read and written. 2: an option is refused; 3: reading failed; 4: writing failed; 5: there is not enough memory. */
 int main(int argc, char **argv) {
     tmchan_config config;
     tmchan_config_defaults(&config);
-    for (int i = 1; i < argc; i++) {
-        int k = 0;
-        const char *equals = strchr(argv[i], '=');
-        while (k < NAMES && (!equals || strlen(names[k]) != (size_t)(equals - argv[i]) || strncmp(names[k], argv[i], equals - argv[i]))) k++;
-        if (k == NAMES) return fprintf(stderr, "no option: %s\n", argv[i]), 2;
-        ((uint64_t *)&config)[k] = strtoull(equals + 1, NULL, 10);
-    }
+    for (int i = 1; i < argc; i++)
+        if (set_option(&config, argv[i])) return fprintf(stderr, "no option: %s\n", argv[i]), 2;
     tmchan_stream receiver = {0};
     int32_t opened = tmchan_receiver_open(&receiver, &config);
-    if (opened) return fprintf(stderr, "refused: %" PRId32 "\n", opened), 2;
+    if (opened) return fprintf(stderr, "refused: %" PRId32 "\n", opened), opened == TMCHAN_MEMORY ? 5 : 2;
     uint64_t octets; /* of frames */
     int64_t room = tmchan_receiver_room(&config, PIECE, &octets);
     tmchan_report *reports = calloc(room, sizeof *reports);
     uint8_t *frames = malloc(octets), *piece = malloc(PIECE);
     if (!reports || !frames || !piece) return 5;
-    for (size_t count; (count = fread(piece, 1, PIECE, stdin)) > 0;)
-        if (show(tmchan_receiver_push(&receiver, piece, count, frames, octets, reports, room), frames, reports)) return 4;
+    for (size_t count; !ferror(stdout) && (count = fread(piece, 1, PIECE, stdin)) > 0;)
+        show(tmchan_receiver_push(&receiver, piece, count, frames, octets, reports, room), frames, reports);
     tmchan_totals totals;
     tmchan_phase phase;
-    if (show(tmchan_receiver_finish(&receiver, frames, octets, reports, room, &totals, &phase), frames, reports)) return 4;
+    show(tmchan_receiver_finish(&receiver, frames, octets, reports, room, &totals, &phase), frames, reports);
     fprintf(stderr, "bits %" PRIu64 "\n", totals.bits);
     if (config.phase == 2) fprintf(stderr, "slips %" PRIu64 "\n", totals.slips);
     free(reports), free(frames), free(piece);
+    if (ferror(stdin)) return fprintf(stderr, "reading failed\n"), 3;
+    if (fflush(stdout) || ferror(stdout) || ferror(stderr)) return fprintf(stderr, "writing failed\n"), 4;
     return 0;
 }
