@@ -1,13 +1,19 @@
 #!/usr/bin/env python3
-"""Writes rows for the tests of the C library's streams: the worked rows of the program's `encode` and `decode` in crates/tm_rows/stdin, of
-undisturbed and of disturbed units, and rows that are drawn.
+"""Writes rows for the tests of the C library's streams: the worked rows of the program's `encode`, `decode`, `report` and `bits` in
+crates/tm_rows/stdin. Where octets go through `encode` first it is that of docs/reference.
 
     tests/stream_rows.py > rows.txt
 
-A row is "send" or "receive", 22 numbers of a configuration in the order of tmchan_config, octets in hexadecimal ("-": none) that are given, and
-those that have to come: symbols, or frames. Rows that are refused are "check", 22 numbers, and the answer.
+A row is a word, 22 numbers of a configuration in the order of tmchan_config, and fields in hexadecimal ("-": none):
+
+    send NUMBERS FRAMES SYMBOLS            what is given, and what has to come
+    receive NUMBERS OCTETS FRAMES NOTES    the notes are the lines of the program; "*" in place of the frames: they are not told
+    bits NUMBERS OCTETS BITS NOTES         the decoder's bits, eight to an octet, or "*"; the line of the phase, and one of their number
+    check NUMBERS ANSWER                   a configuration that is refused
 """
 import re
+import runpy
+import sys
 from pathlib import Path
 
 NAMES = "code depth length inner invert randomize basis tolerance repair soft start skip workers limit fly keep ahead phase polarity batch pack verify".split()
@@ -19,7 +25,12 @@ WORDS = {"code": {"rs16": 16, "rs8": 8, "none": 0}, "inner": {"none": 0, "1/2": 
          "start": {"zero": 0, "any": 1}, "phase": {"given": 0, "find": 1, "follow": 2}, "polarity": {"given": 0, "find": 1}, "pack": {"on": 1, "off": 0}}
 REFUSALS = {word: -16 - k for k, word in enumerate("code depth length inner switch basis tolerance repair soft start skip workers limit fly keep ahead "
                                                    "phase polarity batch pack verify".split())}
+COMMANDS = ("encode", "decode", "report", "bits")
+TOP = Path(__file__).parent.parent
 values = {}
+
+sys.path.insert(0, str(TOP / "docs/reference"))
+reference = runpy.run_path(str(TOP / "docs/reference/__main__.py"))
 
 
 def symbols(digits, high, low):
@@ -55,7 +66,7 @@ def config(words):
 
 
 def rows():
-    text = (Path(__file__).parent.parent / "crates/tm_rows/stdin").read_text()
+    text = (TOP / "crates/tm_rows/stdin").read_text()
     for part in text.split("\n\n"):
         fields = {}
         for line in part.splitlines():
@@ -70,15 +81,50 @@ def rows():
             yield fields
 
 
-for fields in rows():
+def given_octets(fields):
+    """What the call reads: None where another command than `encode` made it."""
+    made, first = octets(fields.get("in", "")), fields.get("through", "").split()[1:]
+    if not first:
+        return made
+    return reference["run"](first, lambda most: made[:most])[0] if first[0] == "encode" else None
+
+
+def decoder_lines(notes):
+    return "".join(re.findall(r"^phase .*\n", notes, re.M) + [line + "\n" for line in re.findall(r"bits \d+", notes)])
+
+
+def rows_of(fields):
+    """The rows, each as words; none where the library has no such call."""
     command, *words = fields["line"].split()[1:] or [""]
-    made = config(words) if command in ("encode", "decode") and len(words) % 2 == 0 else None
-    if made is None or "through" in fields or "failing read" in fields or "failing write" in fields or "room of out" in fields:
-        continue
+    made = config(words) if command in COMMANDS and len(words) % 2 == 0 else None
+    if made is None or {"failing read", "failing write", "room of out", "room of notes"} & set(fields):
+        return
     numbers = " ".join(str(made[name]) for name in NAMES)
     if "refused" in fields:
-        if fields["refused"].strip() in REFUSALS:
-            print("check", numbers, REFUSALS[fields["refused"].strip()])
-    elif fields["status"].strip() in "016":
-        given, wanted = octets(fields.get("in", "")), octets(fields.get("out", ""))
-        print({"encode": "send", "decode": "receive"}[command], numbers, given.hex() or "-", wanted.hex() or "-")
+        reason = fields["refused"].strip()
+        if reason in REFUSALS and command in ("encode", "decode"):
+            yield "check", numbers, str(REFUSALS[reason])
+        return
+    given, out, notes = given_octets(fields), octets(fields.get("out", "")), octets(fields.get("notes", ""))
+    if given is None or fields["status"].strip() not in "016":
+        return
+    if command == "encode":
+        yield "send", numbers, hexadecimal(given), hexadecimal(out)
+        return
+    if command == "report":
+        out, notes = None, out
+    if command != "bits":
+        yield "receive", numbers, hexadecimal(given), hexadecimal(out), hexadecimal(notes)
+        out = None
+    if made["inner"]:
+        yield "bits", numbers, hexadecimal(given), hexadecimal(out), hexadecimal(decoder_lines(notes.decode()).encode())
+
+
+def hexadecimal(octets):
+    return "*" if octets is None else octets.hex() or "-"
+
+
+found = [row for fields in rows() for row in rows_of(fields)]
+for row in found:
+    print(*row)
+sys.exit({row[0] for row in found} != {"send", "receive", "bits", "check"})

@@ -180,6 +180,10 @@ int main(void) {
         line_number++;
         make_row(strtok(line, " \n"));
     }
+    if (line_number == 0) {
+        fprintf(stderr, "there is no row\n");
+        differing++;
+    }
     make_refusals();
     if (tmchan_version() != TMCHAN_VERSION) {
         fprintf(stderr, "the library is of another version\n");

@@ -55,4 +55,4 @@ def differs(call, *words):
 rows = [line.split() for line in sys.stdin]
 wrong = [number for number, row in enumerate(rows, 1) if differs(*row)]
 print(f"{len(rows)} rows by ctypes, {len(wrong)} differ", *wrong[:9])
-sys.exit(bool(wrong))
+sys.exit(bool(wrong) or not rows)

@@ -1,8 +1,9 @@
 #define _POSIX_C_SOURCE 200809L
 
 /* Makes the calls of the streams of each row on standard input (tests/stream_rows.py writes them), in pieces of several sizes, and refusals of
- * each call. Each array has exactly its length on the heap, so that valgrind and AddressSanitizer see an octet beyond it. Status 0: no call
- * differed. */
+ * each call. Reports, totals and phases are written as the program's lines, and compared with those. Each array has exactly its length on the
+ * heap, so that valgrind and AddressSanitizer see an octet beyond it. Status 0: no call differed. */
+#include <inttypes.h>
 #include <stdio.h>
 #include <stdlib.h>
 #include <string.h>
@@ -27,55 +28,77 @@ static void *room(size_t size) {
     return made;
 }
 
-static uint8_t *octets(const char *digits, size_t *length) {
-    *length = *digits == '-' ? 0 : strcspn(digits, " \n") / 2;
-    uint8_t *made = room(*length);
-    for (size_t i = 0; i < *length; i++) {
+struct octets {
+    uint8_t *at; /* NULL where they are not told */
+    size_t length;
+};
+
+static struct octets octets(const char *digits) {
+    if (*digits == '*') return (struct octets){NULL, 0};
+    size_t length = *digits == '-' ? 0 : strcspn(digits, " \n") / 2;
+    struct octets made = {room(length), length};
+    for (size_t i = 0; i < length; i++) {
         unsigned octet;
-        sscanf(digits + 2 * i, "%2x", &octet);
-        made[i] = (uint8_t)octet;
+        sscanf((char[]){digits[2 * i], digits[2 * i + 1], 0}, "%x", &octet);
+        made.at[i] = (uint8_t)octet;
     }
     return made;
 }
 
-static void send(const tmchan_config *config, const uint8_t *given, size_t given_length, const uint8_t *wanted, size_t wanted_length, size_t piece) {
+static void send(const tmchan_config *config, const struct octets *fields, size_t piece) {
+    const struct octets *given = &fields[0], *wanted = &fields[1];
     tmchan_stream sender = {0};
-    uint8_t *sent = room(wanted_length);
+    uint8_t *sent = room(wanted->length);
     size_t count = 0;
     expect(tmchan_sender_open(&sender, config) == 0, "the sender does not open");
-    for (size_t at = 0; at < given_length; at += piece) {
-        size_t size = given_length - at < piece ? given_length - at : piece;
+    for (size_t at = 0; at < given->length; at += piece) {
+        size_t size = given->length - at < piece ? given->length - at : piece;
         int64_t needed = tmchan_sender_room(config, size);
         uint8_t *octets = room(size), *symbols = room(needed);
-        memcpy(octets, given + at, size);
+        memcpy(octets, given->at + at, size);
         int64_t answer = tmchan_sender_push(&sender, octets, size, symbols, needed);
-        expect(answer >= 0 && answer < needed && count + answer <= wanted_length, "a push has a wrong answer");
-        if (answer > 0 && count + answer <= wanted_length) memcpy(sent + count, symbols, answer);
+        expect(answer >= 0 && answer < needed && count + answer <= wanted->length, "a push has a wrong answer");
+        if (answer > 0 && count + answer <= wanted->length) memcpy(sent + count, symbols, answer);
         count += answer;
         free(octets), free(symbols);
     }
-    expect(count == wanted_length && !memcmp(sent, wanted, count), "other symbols were sent");
+    expect(count == wanted->length && !memcmp(sent, wanted->at, count), "other symbols were sent");
     int32_t size = tmchan_frame_length(config);
-    expect(tmchan_sender_finish(&sender) == (int64_t)(given_length % size), "another number is left over");
+    expect(tmchan_sender_finish(&sender) == (int64_t)(given->length % size), "another number is left over");
     expect(tmchan_close(&sender) == TMCHAN_CLOSED, "the sender is open after its finish");
     free(sent);
 }
 
-static void receive(const tmchan_config *config, const uint8_t *given, size_t given_length, const uint8_t *wanted, size_t wanted_length, size_t piece) {
-    tmchan_stream receiver = {0}, decoder = {0};
-    uint8_t *received = room(wanted_length);
-    size_t count = 0, decoded = 0;
+/* The line of a codeblock. */
+static void say_report(FILE *lines, size_t number, const tmchan_report *report) {
+    fprintf(lines, "frame %zu at %" PRIu64 " %s %u%s", number, report->place, report->bridged ? "bridged" : "marker", report->distance,
+            report->inverted ? " inverted" : "");
+    fputs(report->columns ? " words" : " uncoded", lines);
+    for (int k = 0; k < report->columns; k++) fprintf(lines, report->repaired[k] == 255 ? " x" : " %u", report->repaired[k]);
+    fputc('\n', lines);
+}
+
+static void say_phase(FILE *lines, const tmchan_phase *phase) {
+    if (phase->is_chosen) fprintf(lines, "phase %u cost %" PRIu64 "\n", phase->skip, phase->cost);
+}
+
+static void receive(const tmchan_config *config, const struct octets *fields, size_t piece) {
+    const struct octets *given = &fields[0], *wanted = &fields[1], *notes = &fields[2];
+    tmchan_stream receiver = {0};
+    uint8_t *received = room(wanted->length);
+    size_t count = 0, frames_found = 0, bad = 0, fixed = 0, lines_length, items_length;
     uint64_t slips = 0;
     tmchan_totals totals = {0};
-    tmchan_phase phase, decoder_phase;
+    tmchan_phase phase = {0};
+    char *lines_at, *items_at;
+    FILE *lines = open_memstream(&lines_at, &lines_length), *items = open_memstream(&items_at, &items_length);
     int32_t size = tmchan_frame_length(config);
     expect(tmchan_receiver_open(&receiver, config) == 0, "the receiver does not open");
-    expect(tmchan_decoder_open(&decoder, config) == 0, "the decoder does not open");
-    for (size_t at = 0; at <= given_length; at += piece) {
-        size_t length = given_length - at < piece ? given_length - at : piece;
-        int last = at + piece > given_length;
+    for (size_t at = 0; at <= given->length; at += piece) {
+        size_t length = given->length - at < piece ? given->length - at : piece;
+        int last = at + piece > given->length;
         uint8_t *octets = room(length);
-        memcpy(octets, given + at, length);
+        memcpy(octets, given->at + at, length);
         for (int ending = 0; ending <= last; ending++) {
             uint64_t frames_length = 0;
             int64_t most = tmchan_receiver_room(config, ending ? 0 : length, &frames_length);
@@ -88,30 +111,70 @@ static void receive(const tmchan_config *config, const uint8_t *given, size_t gi
             expect(answer >= 0 && answer <= most, "the receiver refuses");
             size_t written = 0;
             for (int64_t i = 0; i < answer; i++) {
-                int uncorrectable = 0;
-                for (int k = 0; k < reports[i].columns; k++) uncorrectable |= reports[i].repaired[k] == 255;
-                expect(reports[i].frame_length == (uncorrectable ? 0 : (uint64_t)size) && reports[i].distance <= 32, "a report is wrong");
+                int is_bad = 0;
+                for (int k = 0; k < reports[i].columns; k++) {
+                    is_bad |= reports[i].repaired[k] == 255;
+                    fixed += reports[i].repaired[k] == 255 ? 0 : reports[i].repaired[k];
+                }
+                expect(reports[i].frame_length == (is_bad ? 0 : (uint64_t)size), "a frame has another length");
+                expect(reports[i].bridged <= 1 && reports[i].inverted <= 1, "neither 0 nor 1");
+                say_report(items, frames_found + bad, &reports[i]);
+                frames_found += !is_bad, bad += is_bad;
                 written += reports[i].frame_length;
             }
-            if (count + written <= wanted_length) memcpy(received + count, frames, written);
+            if (wanted->at && count + written <= wanted->length) memcpy(received + count, frames, written);
             count += written;
             free(frames), free(reports);
-            int64_t needed = tmchan_decoder_room(config, ending ? 0 : length);
-            uint8_t *its_bits = room(needed);
-            answer = ending ? tmchan_decoder_finish(&decoder, its_bits, needed, &decoder_phase) : tmchan_decoder_push(&decoder, octets, length, its_bits, needed);
-            expect(answer >= 0 && answer <= needed, "the decoder refuses");
-            for (int64_t i = 0; i < answer; i++) expect(its_bits[i] <= 1, "no bit");
-            decoded += answer;
-            free(its_bits);
         }
         free(octets);
     }
-    expect(count == wanted_length && !memcmp(received, wanted, count), "other frames were received");
-    expect(config->inner == 0 ? decoded == 0 : decoded == totals.bits, "another number of bits was decoded");
+    expect(!wanted->at || (count == wanted->length && !memcmp(received, wanted->at, count)), "other frames were received");
     expect(slips <= totals.slips && (config->phase == 2 || totals.slips == 0), "other slips at the end");
-    expect(!memcmp(&phase, &decoder_phase, sizeof phase) || config->inner == 0, "the phases differ");
-    expect(tmchan_close(&receiver) == TMCHAN_CLOSED && tmchan_close(&decoder) == TMCHAN_CLOSED, "one is open after its finish");
-    free(received);
+    expect(tmchan_close(&receiver) == TMCHAN_CLOSED, "the receiver is open after its finish");
+    fclose(items);
+    say_phase(lines, &phase);
+    fputs(items_at, lines);
+    if (config->phase == 2) fprintf(lines, "slips %" PRIu64 "\n", totals.slips);
+    fprintf(lines, "frames %zu bad %zu fixed %zu bits %" PRIu64 "\n", frames_found, bad, fixed, totals.bits);
+    fclose(lines);
+    expect(lines_length == notes->length && !memcmp(lines_at, notes->at, lines_length), "other reports, totals or phase");
+    free(received), free(lines_at), free(items_at);
+}
+
+static void decode(const tmchan_config *config, const struct octets *fields, size_t piece) {
+    const struct octets *given = &fields[0], *wanted = &fields[1], *notes = &fields[2];
+    tmchan_stream decoder = {0};
+    tmchan_phase phase = {0};
+    uint8_t *decoded = room(wanted->length);
+    size_t count = 0, lines_length;
+    char *lines_at;
+    FILE *lines = open_memstream(&lines_at, &lines_length);
+    expect(tmchan_decoder_open(&decoder, config) == 0, "the decoder does not open");
+    for (size_t at = 0; at <= given->length; at += piece) {
+        size_t length = given->length - at < piece ? given->length - at : piece;
+        int last = at + piece > given->length;
+        uint8_t *octets = room(length);
+        memcpy(octets, given->at + at, length);
+        for (int ending = 0; ending <= last; ending++) {
+            int64_t needed = tmchan_decoder_room(config, ending ? 0 : length);
+            uint8_t *bits = room(needed);
+            int64_t answer = ending ? tmchan_decoder_finish(&decoder, bits, needed, &phase) : tmchan_decoder_push(&decoder, octets, length, bits, needed);
+            expect(answer >= 0 && answer <= needed, "the decoder refuses");
+            for (int64_t i = 0; i < answer; i++, count++) {
+                expect(bits[i] <= 1, "no bit");
+                if (wanted->at && count < 8 * wanted->length) decoded[count / 8] |= bits[i] << (7 - count % 8);
+            }
+            free(bits);
+        }
+        free(octets);
+    }
+    say_phase(lines, &phase);
+    fprintf(lines, "bits %zu\n", count);
+    fclose(lines);
+    expect(!wanted->at || !memcmp(decoded, wanted->at, wanted->length), "other bits were decoded");
+    expect(lines_length == notes->length && !memcmp(lines_at, notes->at, lines_length), "another phase, or another number of bits");
+    expect(tmchan_close(&decoder) == TMCHAN_CLOSED, "the decoder is open after its finish");
+    free(decoded), free(lines_at);
 }
 
 static void make_row(char *line) {
@@ -130,12 +193,13 @@ static void make_row(char *line) {
         return;
     }
     expect(tmchan_config_check(&config) == 0, "the check refuses");
-    size_t given_length, wanted_length;
-    uint8_t *given = octets(strtok(NULL, " \n"), &given_length), *wanted = octets(strtok(NULL, " \n"), &wanted_length);
+    struct octets fields[3] = {{NULL, 0}};
+    size_t count = 0;
+    for (const char *word; count < 3 && (word = strtok(NULL, " \n")); count++) fields[count] = octets(word);
+    expect(count == (*call == 's' ? 2 : 3), "no such row");
     const size_t pieces[] = {1, 17, 4096, 1 << 20};
-    for (int k = given_length > 20000; k < 4; k++)
-        (*call == 's' ? send : receive)(&config, given, given_length, wanted, wanted_length, pieces[k]);
-    free(given), free(wanted);
+    for (int k = fields[0].length > 20000; k < 4; k++) (*call == 's' ? send : *call == 'b' ? decode : receive)(&config, fields, pieces[k]);
+    for (size_t k = 0; k < 3; k++) free(fields[k].at);
 }
 
 /* Twelve frames at rate 1/2, and a symbol of the fifth is lost: where the phase is found once the codeblocks after it are lost as well, and where
@@ -178,7 +242,7 @@ static void make_refusals(void) {
     tmchan_phase phase;
     tmchan_totals totals;
     uint64_t bits, at = 0;
-    uint8_t some[64] = {0};
+    uint8_t some[64] = {0}, out[64];
     tmchan_report reports[1];
     tmchan_config_defaults(&config);
     line_number = 0;
@@ -194,15 +258,15 @@ static void make_refusals(void) {
     expect(tmchan_receiver_room(&config, 1000, &bits) == 35 && tmchan_receiver_room(&config, 0, &bits) == 32 && bits == 32 * 223, "with no inner code");
     config.inner = 12;
     for (int round = 0; round < 2; round++) {
-        expect(tmchan_sender_push(&s, some, 1, some, 64) == TMCHAN_CLOSED && tmchan_sender_finish(&s) == TMCHAN_CLOSED, "a closed sender");
-        expect(tmchan_decoder_push(&s, some, 1, some, 64) == TMCHAN_CLOSED && tmchan_decoder_finish(&s, some, 64, &phase) == TMCHAN_CLOSED, "a closed decoder");
+        expect(tmchan_sender_push(&s, some, 1, out, 64) == TMCHAN_CLOSED && tmchan_sender_finish(&s) == TMCHAN_CLOSED, "a closed sender");
+        expect(tmchan_decoder_push(&s, some, 1, out, 64) == TMCHAN_CLOSED && tmchan_decoder_finish(&s, out, 64, &phase) == TMCHAN_CLOSED, "a closed decoder");
         expect(tmchan_decoder_phase(&s, &phase) == TMCHAN_CLOSED && tmchan_receiver_phase(&s, &phase) == TMCHAN_CLOSED, "a closed phase");
         expect(tmchan_receiver_slips(&s, &bits) == TMCHAN_CLOSED, "closed slips");
-        expect(tmchan_receiver_push(&s, some, 1, some, 64, reports, 1) == TMCHAN_CLOSED, "a closed receiver");
-        expect(tmchan_receiver_finish(&s, some, 64, reports, 1, &totals, &phase) == TMCHAN_CLOSED && tmchan_close(&s) == TMCHAN_CLOSED, "closed");
+        expect(tmchan_receiver_push(&s, some, 1, out, 64, reports, 1) == TMCHAN_CLOSED, "a closed receiver");
+        expect(tmchan_receiver_finish(&s, out, 64, reports, 1, &totals, &phase) == TMCHAN_CLOSED && tmchan_close(&s) == TMCHAN_CLOSED, "closed");
         expect(tmchan_sender_open(&s, &config) == 0 && tmchan_receiver_open(&s, &config) == TMCHAN_OPEN, "open");
         expect(tmchan_sender_open(&s, &config) == TMCHAN_OPEN && tmchan_decoder_open(&s, &config) == TMCHAN_OPEN, "open already");
-        expect(tmchan_receiver_push(&s, some, 1, some, 64, reports, 1) == TMCHAN_CLOSED && tmchan_decoder_push(&s, some, 1, some, 64) == TMCHAN_CLOSED, "another kind");
+        expect(tmchan_receiver_push(&s, some, 1, out, 64, reports, 1) == TMCHAN_CLOSED && tmchan_decoder_push(&s, some, 1, out, 64) == TMCHAN_CLOSED, "another kind");
         int64_t needed = tmchan_sender_room(&config, 64);
         uint8_t *symbols = room(needed);
         expect(tmchan_sender_push(&s, some, 64, symbols, needed - 1) == TMCHAN_ROOM && tmchan_sender_push(&s, some, 0, symbols, 0) == TMCHAN_ROOM, "no room");
@@ -212,7 +276,7 @@ static void make_refusals(void) {
         expect(tmchan_close(&s) == 0, "close");
     }
     expect(tmchan_decoder_open(&s, &config) == 0, "open");
-    expect(tmchan_decoder_push(&s, some, 64, some, 64) == TMCHAN_ROOM && tmchan_decoder_finish(&s, some, 64, &phase) == TMCHAN_ROOM, "no room for bits");
+    expect(tmchan_decoder_push(&s, some, 64, out, 64) == TMCHAN_ROOM && tmchan_decoder_finish(&s, out, 64, &phase) == TMCHAN_ROOM, "no room for bits");
     expect(tmchan_decoder_phase(&s, &phase) == 0 && phase.is_chosen == 0 && tmchan_close(&s) == 0, "still open");
     tmchan_search search = {0};
     tmchan_place place;
@@ -285,6 +349,7 @@ int main(void) {
         make_row(line);
     }
     free(line);
+    expect(line_number > 0, "no row");
     lose_a_symbol();
     make_refusals();
     make_searches();

@@ -1,6 +1,7 @@
 #!/usr/bin/env python3
 """Makes the calls of the streams of each row on standard input (tests/stream_rows.py writes them) by ctypes, and those of the decoder and of the
-search over what each row receives: their places are to be those of the receiver.
+search over what each row receives: their places are to be those of the receiver. Reports, totals and phases are written as the program's lines,
+and compared with those.
 
     tests/c/streams.py out/libtmchan.so < rows.txt
 """
@@ -20,6 +21,25 @@ def call(name, *arguments):
     return getattr(LIBRARY, "tmchan_" + name)(*arguments)
 
 
+class Report(ctypes.Structure):
+    _fields_ = ([("place", COUNT), ("frame_length", COUNT)] + [(name, ctypes.c_uint8) for name in ("distance", "bridged", "inverted", "columns")]
+                + [("repaired", ctypes.c_uint8 * 8)])
+
+    def counts(self):
+        return ["x" if count == 255 else count for count in self.repaired[:self.columns]]
+
+    def line(self, number):
+        words = " ".join(["words", *map(str, self.counts())]) if self.columns else "uncoded"
+        return f"frame {number} at {self.place} {'bridged' if self.bridged else 'marker'} {self.distance}{' inverted' * self.inverted} {words}"
+
+
+class Phase(ctypes.Structure):
+    _fields_ = [("is_chosen", ctypes.c_uint32), ("skip", ctypes.c_uint32), ("cost", COUNT)]
+
+    def lines(self):
+        return [f"phase {self.skip} cost {self.cost}"] if self.is_chosen else []
+
+
 def pieces(octets):
     return [octets[at:at + PIECE] for at in range(0, len(octets), PIECE)]
 
@@ -37,37 +57,41 @@ def send(config, given):
 
 
 def receive(config, given):
-    """The frames, the place of each with what is said of its marker, the number of bits, and the phase."""
-    stream, received, places, octets, slips, totals, phase = NUMBERS(), b"", [], COUNT(), COUNT(), NUMBERS(), NUMBERS()
+    """The frames, the reports, the number of bits, and the lines."""
+    stream, received, found, octets, slips, totals, phase = NUMBERS(), b"", [], COUNT(), COUNT(), (COUNT * 2)(), Phase()
     assert call("receiver_open", stream, config) == 0
     for piece in pieces(given) + [None]:
         room = call("receiver_room", config, SIZE(len(piece or b"")), ctypes.byref(octets))
-        frames, reports = ctypes.create_string_buffer(octets.value), (ctypes.c_uint64 * 4 * room)()
+        frames, reports = ctypes.create_string_buffer(octets.value), (Report * room)()
         arrays = frames, SIZE(octets.value), reports, SIZE(room)
         count = (call("receiver_push", stream, piece, SIZE(len(piece)), *arrays) if piece is not None
-                 else call("receiver_finish", stream, *arrays, totals, phase))
+                 else call("receiver_finish", stream, *arrays, totals, ctypes.byref(phase)))
         assert count >= 0
-        received += frames.raw[:sum(report[1] for report in reports[:count])]
-        places += [(report[0], report[2] & 0xFFFFFF) for report in reports[:count]]
+        received += frames.raw[:sum(report.frame_length for report in reports[:count])]
+        found += reports[:count]
         if piece is not None:
-            assert call("receiver_phase", stream, phase) == call("receiver_slips", stream, ctypes.byref(slips)) == 0
+            assert call("receiver_phase", stream, ctypes.byref(phase)) == call("receiver_slips", stream, ctypes.byref(slips)) == 0
     assert slips.value <= totals[1] and (config[PHASE] == 2 or totals[1] == 0)
     assert call("receiver_slips", stream, ctypes.byref(slips)) == CLOSED
-    return received, places, totals[0], list(phase[:2])
+    bad = sum("x" in report.counts() for report in found)
+    assert sum(report.frame_length == 0 for report in found) == bad
+    fixed = sum(count for report in found for count in report.counts() if count != "x")
+    lines = phase.lines() + [report.line(number) for number, report in enumerate(found)] + [f"slips {totals[1]}"] * (config[PHASE] == 2)
+    return received, found, totals[0], lines + [f"frames {len(found) - bad} bad {bad} fixed {fixed} bits {totals[0]}"]
 
 
 def decode(config, given):
-    """The bits, and the phase."""
-    stream, bits, phase = NUMBERS(), b"", NUMBERS()
+    """The bits, and the lines of the phase."""
+    stream, bits, phase = NUMBERS(), b"", Phase()
     assert call("decoder_open", stream, config) == 0
     for piece in pieces(given) + [None]:
         room = call("decoder_room", config, SIZE(len(piece or b"")))
         made = ctypes.create_string_buffer(room)
         count = (call("decoder_push", stream, piece, SIZE(len(piece)), made, SIZE(room)) if piece is not None
-                 else call("decoder_finish", stream, made, SIZE(room), phase))
-        assert count >= 0 and (piece is None or call("decoder_phase", stream, phase) == 0)
+                 else call("decoder_finish", stream, made, SIZE(room), ctypes.byref(phase)))
+        assert count >= 0 and (piece is None or call("decoder_phase", stream, ctypes.byref(phase)) == 0)
         bits += made.raw[:count]
-    return bits, list(phase[:2])
+    return bits, phase.lines()
 
 
 def plain_bits(config, given):
@@ -87,14 +111,28 @@ def search(config, name, array):
     return found
 
 
-def receives(config, given, wanted):
-    frames, places, count, phase = receive(config, given)
-    bits, decoded_phase = decode(config, given)
+def octets_of(bits):
+    return bytes(int("".join(map(str, bits[at:at + 8])), 2) for at in range(0, len(bits), 8))
+
+
+def receives(config, given, wanted, notes):
+    frames, found, count, lines = receive(config, given)
+    places = [(report.place, report.distance | report.bridged << 8 | report.inverted << 16) for report in found]
+    bits, phase = decode(config, given)
     bits = bits if config[INNER] else plain_bits(config, given)
     whole = bits[:len(bits) // 8 * 8]
-    octets = bytes(int("".join(map(str, whole[at:at + 8])), 2) for at in range(0, len(whole), 8))
-    return (frames == wanted and len(bits) == count and decoded_phase == phase and search(config, "search_bits", bits) == places
-            and search(config, "search_octets", octets) == search(config, "search_bits", whole))
+    return (wanted in (frames, None) and lines == notes and len(bits) == count and phase == [line for line in lines if line.startswith("phase")]
+            and search(config, "search_bits", bits) == places
+            and search(config, "search_octets", octets_of(whole)) == search(config, "search_bits", whole))
+
+
+def decodes(config, given, wanted, notes):
+    bits, lines = decode(config, given)
+    return wanted in (octets_of(bits + bytes(-len(bits) % 8)), None) and lines + [f"bits {len(bits)}"] == notes
+
+
+def octets(digits):
+    return None if digits == "*" else b"" if digits == "-" else bytes.fromhex(digits)
 
 
 def has_defaults():
@@ -106,12 +144,16 @@ def has_defaults():
 
 
 rows = [line.split() for line in sys.stdin]
-wrong = [] if has_defaults() else [0]
+wrong = [] if has_defaults() and rows else [0]
 for number, (kind, *words) in enumerate(rows, 1):
     config = NUMBERS(*map(int, words[:22]))
-    given = [b"" if digits == "-" else bytes.fromhex(digits) for digits in words[22:]] if kind != "check" else None
-    right = (call("config_check", config) == int(words[22]) if kind == "check"
-             else send(config, given[0]) == given[1] if kind == "send" else receives(config, *given))
+    if kind == "check":
+        right = call("config_check", config) == int(words[22])
+    elif kind == "send":
+        right = send(config, octets(words[22])) == octets(words[23])
+    else:
+        given, wanted, notes = map(octets, words[22:])
+        right = (receives if kind == "receive" else decodes)(config, given, wanted, notes.decode().splitlines())
     wrong += [] if right else [number]
 print(f"{len(rows)} rows of streams by ctypes, {len(wrong)} differ", *wrong[:9])
 sys.exit(bool(wrong))
