@@ -72,11 +72,15 @@ pub fn to_open(handle: &Handle, options: &Options) -> Result<Config, Refusal>
         × (handle.now.kept.value ≡ None)) }
     ensures err { IfErr result (λ refusal. open_refusal (is_some handle.now.kept.value) options.now ≡ Some refusal) }
 {
+    is_send(handle);
     if is_open(handle) {
         return Err(Refusal::Open);
     }
     checked(&raw(options))
 }
+
+// So that it is proved that a handle may go to another thread: where a part of a stream may not, no call of this is.
+fn is_send<T: Send>(_value: &T) {}
 
 // Whether a handle is open.
 fn is_open(handle: &Handle) -> bool

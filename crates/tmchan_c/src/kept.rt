@@ -22,6 +22,9 @@ impl Model for Kept {
     ghost also_owns = { λ k. kept_owns k.alloc k.ptr k.value };
 }
 
+// It may go to another thread, as the box of a stream may.
+unsafe impl Send for Kept {}
+
 impl Kept {
     pub fn of(parts: Parts<Stream, Global>) -> Kept
         ensures { result.value ≡ Some parts.value }
