@@ -1,9 +1,10 @@
 -- One item after another, in arrays.
-use Rattle.std.proofs.Common.{◌≡◌, ◌⊎◌, inl, inr, ◌≤◌, ◌<◌, ◌+◌, ◌*◌, ◌/◌, ◌^◌, nat_le, ℕ, Bool, true, false, List, [], ◌∷◌, ◌++◌, length, take, refl, sym, ap, ◌∙◌, subst, arith, append_assoc, length-append, length-take, mul-le-mul_right, min, suc, if◌then◌else◌, true≢false, Option, Some, None}
+use Rattle.std.proofs.Common.{◌≡◌, ◌⊎◌, inl, inr, ◌≤◌, ◌<◌, ◌+◌, ◌*◌, ◌/◌, ◌^◌, ◌==◌, nat_le, ℕ, zero, suc, Bool, true, false, List, [], ◌∷◌, ◌++◌, length, take, drop, refl, sym, ap, ◌∙◌, subst, arith, append_assoc, length-append, length-drop, length-take, mul-le-mul_right, min, if◌then◌else◌, true≢false, Option, Some, None}
 use Rattle.std.proofs.Math.Nat.{div-mul-le_self}
 use Rattle.std.proofs.lemmas.Nat.{le-div}
-use Rattle.std.proofs.lemmas.List.{append-nil}
+use Rattle.std.proofs.lemmas.List.{append-nil, drop-drop, take-append-drop}
 use Rattle.std.proofs.lemmas.Bool.{cases_lt}
+use Rattle.std.proofs.lemmas.Bool.Decides.{eqb_tells}
 use Rattle.tm_base.specs.Handed.{Handed, Phase, Item, items_of, on_handed}
 use Rattle.tm_base.specs.Takers.{HandedOver}
 use Rattle.tm_config.specs.Configuration.{Configuration}
@@ -11,62 +12,138 @@ use Rattle.tm_conv.specs.declared.rates.Rate.{Rate}
 use Rattle.tm_codeblock.specs.ReceivedCodeblock.{rules_of}
 use Rattle.tm_channel.specs.Items.{ItemValue, frames_of}
 use Rattle.tm_channel.specs.Most.{AreFew, most_bits, most_bits_at, most_items}
+use Rattle.tm_buffers.specs.Buffer.{over}
 use Rattle.tm_buffers.specs.Reports.{AreReports}
 use Rattle.tm_buffers.specs.Items.{Collected, Collects, HasWritten, collected, none_yet}
 use Rattle.tm_buffers.specs.Receiving.{HasRoom, IsEnough}
 use Rattle.tm_buffers.specs.declared.items.BufferItems.{BufferItems}
 use Rattle.tm_buffers.specs.declared.items.Report.{Report}
 
--- all of these items were written, or one was dropped
+-- the first of these items were written: all, or those before the first that does not fit
+pub record Wrote (a b : Collected) (items : List ItemValue) : Type 0 where
+  pub written : ℕ
+  pub within : written ≤ length items
+  pub said : List Report
+  pub are : AreReports (take written items) said
+  pub room : length said ≤ length a.reports_behind
+  pub reports : b.reports ≡ a.reports ++ said
+  pub reports_behind : b.reports_behind ≡ drop (length said) a.reports_behind
+  pub frames : b.frames ≡ a.frames ++ frames_of (take written items)
+  pub frames_behind : b.frames_behind ≡ drop (length (frames_of (take written items))) a.frames_behind
+  pub all : b.is_short ≡ false → written ≡ length items
+  pub full : b.is_short ≡ true → (written < length items) × ((length a.reports_behind ≤ written)
+      ⊎ (length a.frames_behind < length (frames_of (take (suc written) items))))
+
+-- the same, and nothing comes of them where one was dropped before
 pub record All (a b : Collected) (items : List ItemValue) : Type 0 where
-  pub frame_room : b.frame_room ≡ a.frame_room
-  pub report_room : b.report_room ≡ a.report_room
-  pub kept : b.is_short ≡ false → (a.is_short ≡ false) × ((reports : List Report) × AreReports items reports
-      × (b.reports ≡ a.reports ++ reports))
-      × (b.frames ≡ a.frames ++ frames_of items)
-  pub enough : a.is_short ≡ false → length a.reports + length items ≤ a.report_room
-      → length a.frames + length (frames_of items) ≤ a.frame_room → b.is_short ≡ false
+  pub stays : a.is_short ≡ true → b ≡ a
+  pub wrote : a.is_short ≡ false → Wrote a b items
 
 all-none : (a b : Collected) → a ≡ b → All a b []
-all-none a b same = subst (λ (x : Collected). All a x []) same (record {
-  frame_room = refl;
-  report_room = refl;
-  kept = λ long. (long, ([], tt, sym (append-nil a.reports)), sym (append-nil a.frames));
-  enough = λ long r f. long;
-})
+all-none a b same = record {
+  stays = λ short. sym same;
+  wrote = λ going. subst (λ (x : Collected). Wrote a x []) same (record {
+    written = 0;
+    within = omega arith;
+    said = [];
+    are = tt;
+    room = omega arith;
+    reports = sym (append-nil a.reports);
+    reports_behind = refl;
+    frames = sym (append-nil a.frames);
+    frames_behind = refl;
+    all = λ long. refl;
+    full = λ short. absurd (true≢false (sym short ∙ going));
+  });
+}
+
+-- an item was dropped, and so are all others
+none-more : (a m : Collected) (item : ItemValue) (items : List ItemValue) → Collects a item m → a.is_short ≡ false
+    → m.is_short ≡ true → Wrote a (record a { is_short = true }) (item ∷ items)
+none-more a m item items one going short = record {
+  written = 0;
+  within = omega arith;
+  said = [];
+  are = tt;
+  room = omega arith;
+  reports = sym (append-nil a.reports);
+  reports_behind = refl;
+  frames = sym (append-nil a.frames);
+  frames_behind = refl;
+  all = λ long. absurd (true≢false long);
+  full = λ _. (
+    omega arith,
+    elim (cases_lt 0 (length a.reports_behind)) as (λ _. (length a.reports_behind ≤ 0)
+        ⊎ (length a.frames_behind < length (item.frame ++ []))) [
+          | inr none ↦ inl none
+          | inl some ↦ elim (cases_lt (length a.frames_behind) (length item.frame)) as
+              (λ _. (length a.reports_behind ≤ 0) ⊎ (length a.frames_behind < length (item.frame ++ []))) [
+                | inl less ↦ inr (omega (arith, less, ap length (append-nil item.frame)))
+                | inr least ↦ absurd (true≢false (sym short ∙ one.fits (going, some, least)))
+              ]
+        ],
+  );
+}
+
+-- an item was written, and others after it
+one-more : (a m b : Collected) (item : ItemValue) (items : List ItemValue) → Collects a item m → m.is_short ≡ false
+    → Wrote m b items → Wrote a b (item ∷ items)
+one-more a m b item items one going rest =
+    let k = one.kept going in
+    let report = k.1.0 in
+    let rests = frames_of (take rest.written items) in
+    let left = ap length k.2 ∙ length-drop 1 a.reports_behind in
+    let next : 1 + length rest.said ≡ suc (length rest.said) = omega arith in
+    let frames_left = ap length k.4 ∙ length-drop (length item.frame) a.frames_behind in
+    record {
+      written = suc rest.written;
+      within = omega (arith, rest.within);
+      said = report ∷ rest.said;
+      are = (k.1.1, rest.are);
+      room = omega (arith, rest.room, left, k.0.1);
+      reports =
+          rest.reports ∙ ap (λ l. l ++ rest.said) k.1.2 ∙ append_assoc a.reports (report ∷ []) rest.said;
+      reports_behind =
+          rest.reports_behind ∙ ap (drop (length rest.said)) k.2 ∙ drop-drop (length rest.said) 1 a.reports_behind
+          ∙ ap (λ n. drop n a.reports_behind) next;
+      frames = rest.frames ∙ ap (λ l. l ++ rests) k.3 ∙ append_assoc a.frames item.frame rests;
+      frames_behind =
+          rest.frames_behind ∙ ap (drop (length rests)) k.4
+          ∙ drop-drop (length rests) (length item.frame) a.frames_behind
+          ∙ ap (λ n. drop n a.frames_behind) (sym (length-append item.frame rests));
+      all = λ long. ap suc (rest.all long);
+      full = λ short.
+          let f = rest.full short in (
+            omega (arith, f.0),
+            elim f.1 as (λ _. (length a.reports_behind ≤ suc rest.written)
+                ⊎ (length a.frames_behind < length (item.frame ++ frames_of (take (suc rest.written) items)))) [
+                  | inl many ↦ inl (omega (arith, many, left))
+                  | inr many ↦ inr (omega (
+                    arith,
+                    many,
+                    frames_left,
+                    length-append item.frame (frames_of (take (suc rest.written) items)),
+                  ))
+                ],
+          );
+    }
 
 all-more : (a m b : Collected) (item : ItemValue) (items : List ItemValue) → Collects a item m → All m b items
     → All a b (item ∷ items)
-all-more a m b item items one rest = record {
-  frame_room = rest.frame_room ∙ one.frame_room;
-  report_room = rest.report_room ∙ one.report_room;
-  kept = λ long.
-      let back = rest.kept long in
-      let prefix = one.kept back.0 in
-      let report = prefix.1.0 in
-      let reports = back.1.0 in (
-        prefix.0,
-        (
-          report ∷ reports,
-          (prefix.1.1, back.1.1),
-          back.1.2 ∙ ap (λ l. l ++ reports) prefix.1.2
-              ∙ append_assoc a.reports (report ∷ []) reports,
-        ),
-        back.2 ∙ ap (λ l. l ++ frames_of items) prefix.2 ∙ append_assoc a.frames item.frame (frames_of items),
-      );
-  enough = λ long r f.
-      let here = one.enough long (omega (arith, r)) (omega (arith, f, length-append item.frame (frames_of items))) in
-      let k = one.kept here in
-      rest.enough here (omega (arith, r, ap length k.1.2, length-append a.reports (k.1.0 ∷ []), one.report_room))
-      (omega (
-        arith,
-        f,
-        ap length k.2,
-        length-append a.frames item.frame,
-        length-append item.frame (frames_of items),
-        one.frame_room,
-      ));
-}
+all-more a m b item items one rest = by_short m.is_short refl
+  where
+    by_short : (short : Bool) → short ≡ m.is_short → All a b (item ∷ items)
+    by_short false is = record {
+      stays = λ short. absurd (true≢false (sym short ∙ (one.kept (sym is)).0.0));
+      wrote = λ going. one-more a m b item items one (sym is) (rest.wrote (sym is));
+    }
+    by_short true is =
+        let same = rest.stays (sym is) ∙ one.dropped (sym is) in record {
+          stays = λ short. same ∙ ap (λ (s : Bool). record a { is_short = s }) (sym short);
+          wrote =
+              λ going. subst (λ (x : Collected). Wrote a x (item ∷ items)) (sym same)
+              (none-more a m item items one going (sym is));
+        }
 
 same-length : (items : List ItemValue) (reports : List Report) → AreReports items reports
     → length reports ≡ length items
@@ -110,40 +187,67 @@ module _ {T : Type 0} (frames reports : T → ℕ) (state : T → Collected) whe
         all = all-more (state a) (state handed.0) (state b) item (items_of more) handed.1.2 rest.all;
       }
 
--- what a taker over whole buffers has written
-pub has-written : (frames : List ℕ) (reports : List Report) (b : BufferItems) (items : List ItemValue)
-    → All (none_yet (length frames) (length reports)) (collected b) items
-    → HasWritten (if b.is_short then None else Some (min b.count (length reports))) b.frames.now b.reports.now items
-has-written frames reports b items all = by_short b.is_short refl
+-- an array whose start and rest are these
+held : {T : Type 0} (at : ℕ) (now : List T) (items array : List T) → take at now ≡ items
+    → drop at now ≡ drop (length items) array → now ≡ over items array
+held at now items array start behind =
+    sym (take-append-drop at now) ∙ ap (λ l. l ++ drop at now) start ∙ ap (λ l. items ++ l) behind
+
+answer-of : (short : Bool) (count written all : ℕ) → (short ≡ false → written ≡ all)
+    → (short ≡ true → written < all) → count ≡ written
+    → (if short then None else Some count) ≡ (if written == all then Some written else None)
+answer-of short count written all whole less is =
+    elim (eqb_tells written all) as (λ _. (if short then None else Some count)
+    ≡ (if written == all then Some written else None)) [
+      | inl same ↦ rw (same.0) (long short whole less same.1)
+      | inr other ↦ rw (other.0) (cut short whole less other.1)
+    ]
   where
-    by_short : (short : Bool) → short ≡ b.is_short → HasWritten
-        (if short then None else Some (min b.count (length reports))) b.frames.now b.reports.now items
-    by_short false is =
-        let k = all.kept (sym is) in
-        let count : min b.count (length reports) ≡ b.count = omega (arith, b.within, all.report_room) in
-        let written : take (min b.count (length reports)) b.reports.now ≡ k.1.0 = ap (λ n. take n b.reports.now) count
-        ∙ k.1.2 in
-        let size : b.count ≡ length items = omega (
-          arith,
-          ap length k.1.2,
-          length-take b.count b.reports.now,
-          b.within,
-          same-length items k.1.0 k.1.1,
-        ) in
-        let octets : b.octets ≡ length (frames_of items) = omega
-        (arith, ap length k.2, length-take b.octets b.frames.now, b.octets_within) in
-        (count ∙ size, subst (AreReports items) (sym written) k.1.1, ap (λ n. take n b.frames.now) (sym octets) ∙ k.2)
-    by_short true is =
-        elim (cases_lt (length b.reports.now) (length items)) as
-        (λ _. (length b.reports.now < length items) ⊎ (length b.frames.now < length (frames_of items))) [
-          | inl many ↦ inl many
-          | inr few ↦ elim (cases_lt (length b.frames.now) (length (frames_of items))) as
-              (λ _. (length b.reports.now < length items) ⊎ (length b.frames.now < length (frames_of items))) [
-                | inl many ↦ inr many
-                | inr short ↦ absurd (true≢false (is ∙ all.enough refl (omega (arith, few, all.report_room))
-                    (omega (arith, short, all.frame_room))))
-              ]
-        ]
+    long : (short : Bool) → (short ≡ false → written ≡ all) → (short ≡ true → written < all) → written ≡ all
+        → (if short then None else Some count) ≡ Some written
+    long true whole less same = absurd (omega (arith, less refl, same))
+    long false whole less same = ap Some is
+
+    cut : (short : Bool) → (short ≡ false → written ≡ all) → (short ≡ true → written < all) → (written ≡ all → ⊥)
+        → (if short then None else Some count) ≡ None
+    cut true whole less other = refl
+    cut false whole less other = absurd (other (whole refl))
+
+-- what a taker over whole arrays has written
+pub has-written : (frames : List ℕ) (reports : List Report) (b : BufferItems) (items : List ItemValue)
+    → All (none_yet frames reports) (collected b) items
+    → HasWritten (if b.is_short then None else Some (min b.count (length reports))) items frames b.frames.now reports
+    b.reports.now
+has-written frames reports b items all =
+    let w = all.wrote refl in
+    let size = same-length (take w.written items) w.said w.are in
+    let count : min b.count (length reports) ≡ w.written = omega (
+      arith,
+      w.within,
+      w.room,
+      b.within,
+      ap length w.reports,
+      length-take b.count b.reports.now,
+      size,
+      length-take w.written items,
+    ) in record {
+      written = w.written;
+      within = w.within;
+      answer =
+          answer-of b.is_short (min b.count (length reports)) w.written (length items) w.all
+          (λ short. (w.full short).0) count;
+      said = w.said;
+      are_reports = w.are;
+      reports_hold = held b.count b.reports.now w.said reports w.reports w.reports_behind;
+      frames_hold = held b.octets b.frames.now (frames_of (take w.written items)) frames w.frames w.frames_behind;
+      full = by_short b.is_short refl w;
+    }
+  where
+    by_short : (short : Bool) → short ≡ b.is_short → (w : Wrote (none_yet frames reports) (collected b) items)
+        → w.written < length items → (length reports ≤ w.written)
+        ⊎ (length frames < length (frames_of (take (suc w.written) items)))
+    by_short false is w less = absurd (omega (arith, less, w.all (sym is)))
+    by_short true is w less = (w.full (sym is)).1
 
 -- ---- room that is enough
 
@@ -169,17 +273,41 @@ items-more c m n more =
     (omega (arith, below, bits-more c.inner c m n more)) in
     omega (arith, whole)
 
+frames-first : (count : ℕ) (items : List ItemValue) → length (frames_of (take count items)) ≤ length (frames_of items)
+frames-first zero items = omega arith
+frames-first (suc count) [] = omega arith
+frames-first (suc count) (item ∷ items) =
+    omega (
+      arith,
+      frames-first count items,
+      length-append item.frame (frames_of (take count items)),
+      length-append item.frame (frames_of items),
+    )
+
+no-answer : (same : Bool) (written : ℕ) → None ≡ (if same then Some written else None) → same ≡ false
+no-answer true written is = absurd cc
+no-answer false written is = refl
+
 -- with the room that `items_room` gives all items were written
-pub enough : (c : Configuration) (octets : ℕ) (count : Option ℕ) (frames : List ℕ) (reports : List Report)
-    (items : List ItemValue) → AreFew c octets items → HasWritten count frames reports items
+pub enough : (c : Configuration) (octets : ℕ) (count : Option ℕ) (items : List ItemValue) (frames frames_now : List ℕ)
+    (reports reports_now : List Report) → AreFew c octets items
+    → HasWritten count items frames frames_now reports reports_now
     → IsEnough c octets count frames reports
-enough c octets (Some count) frames reports items few written most more room = refl
-enough c octets None frames reports items few written most more room =
+enough c octets (Some count) items frames frames_now reports reports_now few h most more room = refl
+enough c octets None items frames frames_now reports reports_now few h most more room =
     let is = has-room c (nat_le most (2 ^ 40)) (most_items c most) frames reports room in
     let items_few = items-more c octets most more in
     let frames_few = mul-le-mul_right c.frame_length items_few in
-    absurd (elim written as (λ _. ⊥) [
-      | inl many ↦ omega (arith, many, few.0, items_few, is.0)
+    let cut = no-answer (h.written == length items) h.written h.answer in
+    let less : h.written < length items = elim (eqb_tells h.written (length items)) [
+      | inl same ↦ absurd (true≢false (sym same.0 ∙ cut))
+      | inr other ↦ elim (cases_lt h.written (length items)) [
+        | inl less ↦ less
+        | inr least ↦ absurd (other.1 (omega (arith, least, h.within)))
+      ]
+    ] in
+    absurd (elim (h.full less) as (λ _. ⊥) [
+      | inl many ↦ omega (arith, many, less, few.0, items_few, is.0)
       | inr many ↦
-          omega (arith, many, few.1, frames_few, is.1)
+          omega (arith, many, frames-first (suc h.written) items, few.1, frames_few, is.1)
     ])

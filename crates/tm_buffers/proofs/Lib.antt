@@ -5,3 +5,4 @@ pub mod KeptBits
 pub mod Spans
 pub mod ItemsWithPhase
 pub mod Filled
+pub mod Behind

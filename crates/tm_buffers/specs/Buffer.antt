@@ -1,5 +1,5 @@
 -- What is written to the start of a buffer.
-use Rattle.std.specs.Prelude.{◌≡◌, ℕ, ◌^◌, Bool, false, nat_le, List, ◌∷◌, ◌++◌, [], length, take, Option, Some, None}
+use Rattle.std.specs.Prelude.{◌≡◌, ℕ, ◌^◌, Bool, false, nat_le, List, ◌∷◌, ◌++◌, [], length, take, drop, Option, Some, None}
 
 -- what a sink over a buffer says: which loan of a buffer it is, for how many octets that has room,
 -- and the octets that were written
@@ -15,6 +15,10 @@ has_room (Some needed) room = nat_le needed room
 abbrev pub Fills : {T : Type 0} → Option ℕ → List T → List T → Type 0
 Fills None buffer items = ⊥
 Fills (Some count) buffer items = (count ≡ length items) × (take count buffer ≡ items)
+
+-- an array to whose start these were written, and which is as it was behind them
+abbrev pub over : {T : Type 0} → List T → List T → List T
+over items array = items ++ drop (length items) array
 
 -- the most octets that are taken at a time
 abbrev pub most_taken : ℕ

@@ -1,52 +1,65 @@
 -- Items that are written to buffers.
-use Rattle.std.specs.Prelude.{◌≡◌, ◌⊎◌, ℕ, ◌+◌, ◌<◌, ◌≤◌, Bool, false, List, [], ◌∷◌, ◌++◌, length, take, Option, Some, None}
+use Rattle.std.specs.Prelude.{◌≡◌, ◌⊎◌, ℕ, suc, ◌<◌, ◌≤◌, ◌==◌, Bool, true, false, if◌then◌else◌, List, [], ◌∷◌, ◌++◌, length, take, drop, Option, Some, None}
 use Rattle.tm_channel.specs.Items.{ItemValue, frames_of}
+use Rattle.tm_buffers.specs.Buffer.{over}
 use Rattle.tm_buffers.specs.Reports.{AreReports, IsReport}
 use Rattle.tm_buffers.specs.declared.items.BufferItems.{BufferItems}
 use Rattle.tm_buffers.specs.declared.items.Report.{Report}
 
--- what was written, for how much there is room, and whether an item was dropped
+-- what was written, what stands behind it in the two arrays, and whether an item was dropped
 pub record Collected : Type 0 where
   pub frames : List ℕ
-  pub frame_room : ℕ
+  pub frames_behind : List ℕ
   pub reports : List Report
-  pub report_room : ℕ
+  pub reports_behind : List Report
   pub is_short : Bool
 
 abbrev pub collected : BufferItems → Collected
 collected b = record {
   frames = take b.octets b.frames.now;
-  frame_room = length b.frames.now;
+  frames_behind = drop b.octets b.frames.now;
   reports = take b.count b.reports.now;
-  report_room = length b.reports.now;
+  reports_behind = drop b.count b.reports.now;
   is_short = b.is_short;
 }
 
 -- nothing was written yet
-abbrev pub none_yet : ℕ → ℕ → Collected
-none_yet frame_room report_room = record {
+abbrev pub none_yet : List ℕ → List Report → Collected
+none_yet frames reports = record {
   frames = [];
-  frame_room = frame_room;
+  frames_behind = frames;
   reports = [];
-  report_room = report_room;
+  reports_behind = reports;
   is_short = false;
 }
 
--- one more item was written, or dropped where there is no room for it
-pub record Collects (before : Collected) (item : ItemValue) (now : Collected) : Type 0 where
-  pub frame_room : now.frame_room ≡ before.frame_room
-  pub report_room : now.report_room ≡ before.report_room
-  pub kept : now.is_short ≡ false → (before.is_short ≡ false)
-      × ((report : Report) × IsReport item report × (now.reports ≡ before.reports ++ report ∷ []))
-      × (now.frames ≡ before.frames ++ item.frame)
-  pub enough : before.is_short ≡ false → length before.reports < before.report_room
-      → length before.frames + length item.frame ≤ before.frame_room → now.is_short ≡ false
+-- none was dropped, and there is room for one more item
+abbrev pub Fits : Collected → ItemValue → Type 0
+Fits c item = (c.is_short ≡ false) × (0 < length c.reports_behind)
+    × (length item.frame ≤ length c.frames_behind)
 
--- a call has written the frames and the reports of these items to the start of two buffers, and
--- answers how many items they are; or there was no room for them all
-abbrev pub HasWritten : Option ℕ → List ℕ → List Report → List ItemValue → Type 0
-HasWritten None frames reports items = (length reports < length items) ⊎
-    (length frames < length (frames_of items))
-HasWritten (Some count) frames reports items =
-    (count ≡ length items) × AreReports items (take count reports)
-    × (take (length (frames_of items)) frames ≡ frames_of items)
+-- one more item was written where it fits, and else dropped, which leaves all as it was
+pub record Collects (before : Collected) (item : ItemValue) (now : Collected) : Type 0 where
+  pub fits : Fits before item → now.is_short ≡ false
+  pub kept : now.is_short ≡ false → Fits before item
+      × ((report : Report) × IsReport item report
+      × (now.reports ≡ before.reports ++ report ∷ []))
+      × (now.reports_behind ≡ drop 1 before.reports_behind)
+      × (now.frames ≡ before.frames ++ item.frame)
+      × (now.frames_behind ≡ drop (length item.frame) before.frames_behind)
+  pub dropped : now.is_short ≡ true → now ≡ record before { is_short = true }
+
+-- Of these items the first `written` ones were written: their reports and their frames, and no
+-- others, stand at the start of two arrays, which are as they were behind them. They are all, and
+-- the answer is how many they are; or there was no room for the next one, and there is no answer.
+pub record HasWritten (count : Option ℕ) (items : List ItemValue) (frames frames_now : List ℕ)
+    (reports reports_now : List Report) : Type 0 where
+  pub written : ℕ
+  pub within : written ≤ length items
+  pub answer : count ≡ (if written == length items then Some written else None)
+  pub said : List Report
+  pub are_reports : AreReports (take written items) said
+  pub reports_hold : reports_now ≡ over said reports
+  pub frames_hold : frames_now ≡ over (frames_of (take written items)) frames
+  pub full : written < length items → (length reports ≤ written)
+      ⊎ (length frames < length (frames_of (take (suc written) items)))

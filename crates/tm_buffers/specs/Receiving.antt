@@ -37,21 +37,21 @@ pub record IsReceiving (receiver : OctetReceiving) (given : List ℕ)
 -- given further octets, a receiver goes on, and what is due with them was written, all of it where
 -- there is the room that is said
 pub record Receives (receiver now : OctetReceiving) (given octets : List ℕ)
-    (done : List (Handed ItemValue)) (count : Option ℕ) (frames : List ℕ)
-    (reports : List Report) : Type 0 where
+    (done : List (Handed ItemValue)) (count : Option ℕ) (frames frames_now : List ℕ)
+    (reports reports_now : List Report) : Type 0 where
   pub more : List (Handed ItemValue)
   pub receiving : IsReceiving now (given ++ octets) (done ++ more)
   pub due : AreReceivedDue receiver.config (given ++ octets) (done ++ more)
-  pub written : HasWritten count frames reports (items_of more)
+  pub written : HasWritten count (items_of more) frames frames_now reports reports_now
   pub enough : IsEnough receiver.config (length octets) count frames reports
 
 -- at the end of its octets, which came to this, what is left was written in the same way, and the
 -- phase is chosen, where it is to be found
 pub record ReceivesLast (receiver now : OctetReceiving) (given : List ℕ)
-    (done : List (Handed ItemValue)) (count : Option ℕ) (totals : Totals) (frames : List ℕ)
-    (reports : List Report) : Type 0 where
+    (done : List (Handed ItemValue)) (count : Option ℕ) (totals : Totals)
+    (frames frames_now : List ℕ) (reports reports_now : List Report) : Type 0 where
   pub last : List (Handed ItemValue)
   pub all : AreReceived receiver.config given (done ++ last) totals
-  pub written : HasWritten count frames reports (items_of last)
+  pub written : HasWritten count (items_of last) frames frames_now reports reports_now
   pub enough : IsEnough receiver.config 0 count frames reports
   pub chosen : IsChosen receiver.config given now.stages.inner.phased.chosen

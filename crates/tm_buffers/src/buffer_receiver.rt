@@ -53,8 +53,8 @@ impl BufferReceiver {
 
     /// Takes the next octets, and writes the frames of the items that are due with them to the start of `frames`, one
     /// after the other, and what else is said of each to `reports`. Answers how many items these are; or None where
-    /// there was no room for all: from the first one on that did not fit they are lost. With the room that `items_room`
-    /// answers there is room for all. What follows is left open.
+    /// there was no room for all: those before the first one that did not fit are written then, and it and all after it
+    /// are lost. With the room that `items_room` answers there is room for all. What follows is as it was.
     ///
     /// The octets given in all are to be below 2^60.
     pub fn feed(
@@ -68,7 +68,7 @@ impl BufferReceiver {
         ensures received { (given : List ℕ) (done : List (Handed ItemValue))
             → length given + length octets.now < stream_bound
             → IsReceiving self.old given done
-            → Receives self.old self.new given octets.now done result frames.new reports.new }
+            → Receives self.old self.new given octets.now done result frames.old frames.new reports.old reports.new }
     {
         let most = reports.len();
         let mut taker = BufferItems::over(frames, reports);
@@ -95,7 +95,8 @@ impl BufferReceiver {
         ensures config { self.new.config ≡ self.old.config }
         ensures within { IfSome result (λ count. count ≤ length reports.old) }
         ensures received { (given : List ℕ) (done : List (Handed ItemValue)) → IsReceiving self.old given done
-            → ReceivesLast self.old self.new given done result totals.new frames.new reports.new }
+            → ReceivesLast self.old self.new given done result totals.new frames.old frames.new reports.old
+            reports.new }
     {
         let most = reports.len();
         let mut taker = BufferItems::over(frames, reports);

@@ -42,14 +42,14 @@ pub struct BufferItems<'a, 'b> {
 }
 
 impl<'a, 'b> BufferItems<'a, 'b> {
-    ghost use Rattle.std.specs.Prelude.{◌≡◌, length};
+    ghost use Rattle.std.specs.Prelude.{◌≡◌};
     ghost use Rattle.tm_buffers.specs.Items.{collected, none_yet};
 
     /// No items yet.
     pub fn over(frames: &'a mut [u8], reports: &'b mut [Report]) -> BufferItems<'a, 'b>
         ensures frames_loan { result.frames.ghost_name ≡ frames.entry.ghost_name }
         ensures reports_loan { result.reports.ghost_name ≡ reports.entry.ghost_name }
-        ensures none { collected result ≡ none_yet (length frames.old) (length reports.old) }
+        ensures none { collected result ≡ none_yet frames.old reports.old }
     {
         BufferItems {
             frames,

@@ -68,7 +68,8 @@ pub extern "C" fn tmchan_receiver_open(alloc: Global, handle: &mut Handle, optio
 }
 
 /// Takes the next octets, and writes the frames of the items that are due with them to the start of `frames`, and what
-/// else is said of each to that of `reports`. Answers how many items these are, or why it is refused.
+/// else is said of each to that of `reports`. Answers how many items these are, or why it is refused; or that there was
+/// not the room for all: those before the first one that did not fit are written then, and C is not told how many.
 #[unsafe(no_mangle)]
 pub extern "C" fn tmchan_receiver_push(
     alloc: Global,
@@ -81,7 +82,8 @@ pub extern "C" fn tmchan_receiver_push(
         ((handle.new.kept.value ≡ handle.old.kept.value) × (frames.new ≡ frames.old) × (reports.new ≡ reports.old)) }
     ensures pushed { (c : Configuration) (given : List ℕ) (done : List (Handed ItemValue))
         → IsReceiver handle.old.kept.value c given done → length given + length octets.now < stream_bound
-        → ReceivesInto c given octets.now done handle.new.kept.value result frames.new reports.new }
+        → ReceivesInto c given octets.now done handle.new.kept.value result frames.old frames.new reports.old
+        reports.new }
 {
     let Some(mut stream) = take(alloc, handle) else {
         return Refusal::Closed.long_answer();
@@ -93,8 +95,8 @@ pub extern "C" fn tmchan_receiver_push(
     put(handle, stream, answer)
 }
 
-/// Writes what is left, gives what all octets came to and the symbol phase, and closes the receiver. Answers how many
-/// items were written, or why it is refused.
+/// Writes what is left, gives what all octets came to and the symbol phase, and closes the receiver. Answers as
+/// `tmchan_receiver_push` does.
 #[unsafe(no_mangle)]
 pub extern "C" fn tmchan_receiver_finish(
     alloc: Global,
@@ -109,7 +111,7 @@ pub extern "C" fn tmchan_receiver_finish(
         × (totals.new ≡ totals.old) × (phase.new ≡ phase.old)) }
     ensures finished { (c : Configuration) (given : List ℕ) (done : List (Handed ItemValue))
         → IsReceiver handle.old.kept.value c given done
-        → ReceivesLastInto c given done result frames.new reports.new totals.new phase.new
+        → ReceivesLastInto c given done result frames.old frames.new reports.old reports.new totals.new phase.new
         × (handle.new.kept.value ≡ None) }
 {
     let Some(mut stream) = take(alloc, handle) else {

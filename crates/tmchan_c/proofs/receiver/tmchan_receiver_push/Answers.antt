@@ -23,11 +23,14 @@ returns-clause-pushed c = λ config given done is few.
           ∙ c.put.ensures.answer ∙ reported in
           let receiver = subst (λ (o : Option Stream). IsReceiver o config given done) held is in
           let there = w.feed.ensures.received given done few receiver.1 in
-          let written : HasWritten w.feed.result c.match-deref_mut.frames
-          c.match-deref_mut.reports (items_of there.more) =
-          subst (λ reports. HasWritten w.feed.result c.match-deref_mut.frames reports (items_of there.more))
+          let items = items_of there.more in
+          let written : HasWritten w.feed.result items c.args.frames.now c.match-deref_mut.frames c.args.reports.now
+          c.match-deref_mut.reports =
+          subst (λ reports. HasWritten w.feed.result items c.args.frames.now c.match-deref_mut.frames
+          c.args.reports.now reports)
           (sym w.reports-is)
-          (subst (λ frames. HasWritten w.feed.result frames w.feed.new.reports (items_of there.more))
+          (subst (λ frames. HasWritten w.feed.result items c.args.frames.now frames c.args.reports.now
+          w.feed.new.reports)
           (sym w.frames-is) there.written) in
           record {
             more = there.more;

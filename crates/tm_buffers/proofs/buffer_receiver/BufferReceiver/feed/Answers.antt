@@ -38,8 +38,9 @@ returns-clause-received c = λ given done few is.
             receiving = record { going = on; stands = there.0 };
             due = due;
             written = search rules;
-            enough = enough c.args.self.now.config (length c.args.octets.now) _ _ _ (items_of h.0) few_items
-                (search rules);
+            enough =
+                enough c.args.self.now.config (length c.args.octets.now) _ (items_of h.0) _ taker.frames.now _
+                taker.reports.now few_items (search rules);
           }
       | in-Err w ↦ absurd (search rules)
     ]
