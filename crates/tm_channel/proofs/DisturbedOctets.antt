@@ -52,10 +52,11 @@ inner-bits = record { blocks = []; left = 0; are_blocks = (refl, refl); are_bits
 no-gap : (before : Option Before) (bits : List Bool) → HasNoMarker (rules_of link) before [] bits
 no-gap before bits q below = absurd (omega arith)
 
-inverted_entry : Entry
-inverted_entry = record { gap = true ∷ []; marker = complement marker_bits; block = replicate 136 true }
+inverted_entry : List Bool → Entry
+inverted_entry gap = record { gap = gap; marker = complement marker_bits; block = replicate 136 true }
 
-one-gap : (before : Before) → HasNoMarker (rules_of link) (Some before) (true ∷ []) (joined (inverted_entry ∷ []) last)
+one-gap : (before : Before) → HasNoMarker (rules_of link) (Some before) (true ∷ [])
+    (joined (inverted_entry (true ∷ []) ∷ inverted_entry [] ∷ []) last)
 unfolding inverted_entry match_of wrong_bits low_bits
 one-gap before zero below room = refl
 one-gap before (suc q) below room = absurd (omega (arith, below))
@@ -82,21 +83,41 @@ marked = record {
         block = refl;
         gap = λ q below. absurd (omega (arith, below));
         waits = tt;
-        bridged = (refl, omega arith);
+        bridged = tt;
         verified = refl;
       },
       (
         record {
           marker = refl;
           block = refl;
-          gap = one-gap _;
-          waits = inl (omega arith);
-          bridged = tt;
+          gap = λ q below. absurd (omega (arith, below));
+          waits = tt;
+          bridged = (refl, omega arith);
           verified = refl;
         },
         (
-          last-gap _,
-          inr (omega arith),
+          record {
+            marker = refl;
+            block = refl;
+            gap = one-gap _;
+            waits = inl (omega arith);
+            bridged = tt;
+            verified = refl;
+          },
+          (
+            record {
+              marker = refl;
+              block = refl;
+              gap = λ q below. absurd (omega (arith, below));
+              waits = tt;
+              bridged = tt;
+              verified = refl;
+            },
+            (
+              last-gap _,
+              inr (omega arith),
+            ),
+          ),
         ),
       ),
     ),
@@ -107,7 +128,7 @@ is-frame : IsFrame link frame
 is-frame = (refl, All-cons (λ octet. octet < 256) 0 [] (omega arith) (All-nil (λ octet. octet < 256)))
 
 pub units-sent : IsSent link (bits_of octets) units last
-units-sent = record { marked = marked; frames = (is-frame, (is-frame, (is-frame, tt))) }
+units-sent = record { marked = marked; frames = (is-frame, (is-frame, (is-frame, (is-frame, (is-frame, tt))))) }
 
 -- ---- the columns
 
@@ -144,8 +165,10 @@ near codeblock within = record {
 }
 
 pub places-are : unit_places link units ≡ record { place = 0; distance = 1; bridged = false; inverted = false }
-    ∷ record { place = 168; distance = 19; bridged = true; inverted = false }
-    ∷ record { place = 337; distance = 0; bridged = false; inverted = true } ∷ []
+    ∷ record { place = 168; distance = 0; bridged = false; inverted = false }
+    ∷ record { place = 336; distance = 19; bridged = true; inverted = false }
+    ∷ record { place = 505; distance = 0; bridged = false; inverted = true }
+    ∷ record { place = 673; distance = 0; bridged = false; inverted = true } ∷ []
 unfolding match_of wrong_bits low_bits
 places-are = refl
 
@@ -157,7 +180,13 @@ units-near = (
     near (replicate 17 0) (omega arith, tt),
     (
       near (replicate 17 0) (omega arith, tt),
-      tt,
+      (
+        near (replicate 17 0) (omega arith, tt),
+        (
+          near (replicate 17 0) (omega arith, tt),
+          tt,
+        ),
+      ),
     ),
   ),
 )

@@ -1,5 +1,5 @@
--- Octets in which disturbed units of a configuration stand, with a gap, a bridged marker and an
--- inverted unit.
+-- Octets in which disturbed units of a configuration stand, with markers that verify others, a gap,
+-- a bridged marker and inverted units.
 use Rattle.std.specs.Prelude.{ℕ, Bool, true, false, List, [], ◌∷◌, ◌++◌, None, replicate}
 use Rattle.tm_base.specs.Bits.{bits_of}
 use Rattle.tm_base.specs.Marker.{marker_size}
@@ -11,7 +11,8 @@ use Rattle.tm_sync.specs.Bits.{complement, marker_bits}
 use Rattle.tm_channel.specs.SentStream.{SentUnit}
 
 -- Frames of one octet, after which 16 check symbols stand: up to eight wrong symbols of a codeblock
--- are repaired. Markers with one wrong bit match, and inverted ones; one in a row is bridged.
+-- are repaired. Markers with one wrong bit match, and inverted ones; one in a row is bridged. A
+-- further marker verifies a place that is searched for.
 abbrev pub link : Configuration
 link = record (configuration_of default_raw) {
   code = Rs8;
@@ -21,18 +22,22 @@ link = record (configuration_of default_raw) {
   basis = Poly;
   tolerance = 1;
   repair = 8;
-  limit = 64;
+  limit = 106;
   fly = 1;
   keep = 64;
   ahead = 0;
   polarity = Find;
+  verify = 1;
 }
 
--- a unit with a wrong bit in its marker and one in its third symbol; one with zeros for its marker;
--- after a bit that is no part of a unit one that is inverted; and seven bits more
+-- a unit with a wrong bit in its marker and one in its third symbol; one that verifies it; one with
+-- zeros for its marker; after a bit that is no part of a unit one that is inverted; one that
+-- verifies that; and seven bits more
 abbrev pub octets : List ℕ
-octets = 0x1B ∷ 0xCF ∷ 0xFC ∷ 0x1D ∷ 0 ∷ 0 ∷ 1 ∷ replicate 35 0
-    ++ (0xF2 ∷ 0x98 ∷ 0x01 ∷ 0xF1 ∷ 0x7F ∷ replicate 17 0xFF)
+octets = 0x1B ∷ 0xCF ∷ 0xFC ∷ 0x1D ∷ 0 ∷ 0 ∷ 1 ∷ replicate 14 0
+    ++ (0x1A ∷ 0xCF ∷ 0xFC ∷ 0x1D ∷ replicate 38 0
+    ++ (0xF2 ∷ 0x98 ∷ 0x01 ∷ 0xF1 ∷ 0x7F ∷ replicate 16 0xFF
+    ++ (0xF2 ∷ 0x98 ∷ 0x01 ∷ 0xF1 ∷ 0x7F ∷ replicate 17 0xFF)))
 
 -- the frame of each, which is sent with check symbols that are 0 as well
 abbrev pub frame : List ℕ
@@ -49,6 +54,10 @@ units =
       frame = frame;
     }
     ∷ record {
+      received = record { gap = []; marker = marker_bits; block = replicate 136 false };
+      frame = frame;
+    }
+    ∷ record {
       received = record {
         gap = [];
         marker = replicate marker_size false;
@@ -59,6 +68,14 @@ units =
     ∷ record {
       received = record {
         gap = true ∷ [];
+        marker = complement marker_bits;
+        block = replicate 136 true;
+      };
+      frame = frame;
+    }
+    ∷ record {
+      received = record {
+        gap = [];
         marker = complement marker_bits;
         block = replicate 136 true;
       };

@@ -110,18 +110,22 @@ pub fn disturbed_law()
     inner_law();
 }
 
-/// There are octets of which `disturbed_law` speaks: of an accepted configuration with no inner code and a given phase.
-/// In them stands a unit with a wrong bit in its marker and a wrong symbol, right after it one whose marker is
-/// bridged, and after a gap an inverted one. No column is disturbed beyond the repair bound. It does nothing.
+/// There are octets of which `disturbed_law` speaks: of an accepted configuration with no inner code and a given phase,
+/// where a further marker verifies each place that is searched for. In them stands a unit with a wrong bit in its
+/// marker and a wrong symbol, right after it one that verifies it and one whose marker is bridged, and after a gap two
+/// inverted ones. No column is disturbed beyond the repair bound. It does nothing.
 pub fn disturbed_octets_law()
     ensures accepted { IsAccepted disturbed.link }
+    ensures verify { disturbed.link.verify ≡ 1 }
     ensures phase { IsChosen disturbed.link disturbed.octets None }
     ensures inner { Inner disturbed.link 0 disturbed.octets (bits_of disturbed.octets) }
     ensures sent { IsSent disturbed.link (bits_of disturbed.octets) disturbed.units disturbed.last }
     ensures places { unit_places disturbed.link disturbed.units
         ≡ record { place = 0; distance = 1; bridged = false; inverted = false }
-        ∷ record { place = 168; distance = 19; bridged = true; inverted = false }
-        ∷ record { place = 337; distance = 0; bridged = false; inverted = true } ∷ [] }
+        ∷ record { place = 168; distance = 0; bridged = false; inverted = false }
+        ∷ record { place = 336; distance = 19; bridged = true; inverted = false }
+        ∷ record { place = 505; distance = 0; bridged = false; inverted = true }
+        ∷ record { place = 673; distance = 0; bridged = false; inverted = true } ∷ [] }
     ensures wrong { AreWithin 0 (received_columns disturbed.link (0 ∷ 0 ∷ 1 ∷ replicate 14 0))
         (sent_columns disturbed.link disturbed.frame) → ⊥ }
     ensures near { AreNear disturbed.link (unit_places disturbed.link disturbed.units) disturbed.units }
