@@ -51,6 +51,15 @@ reads (Word text) = false
 reads (Soak seed frames hits) = false
 reads command = true
 
+-- the command has notes to write; all that the others write is output
+abbrev pub has_notes : Command → Bool
+has_notes Report = false
+has_notes Trace = false
+has_notes (Word text) = false
+has_notes (Soak seed frames hits) = false
+has_notes Certify = false
+has_notes command = true
+
 -- what it writes, and what of that is due when
 abbrev pub meaning_of : Command → Configuration → Meaning
 meaning_of Encode = encode_meaning

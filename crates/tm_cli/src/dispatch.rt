@@ -1,6 +1,6 @@
 // Does what a command asks for.
 ghost use Rattle.std.specs.Prelude.{◌≡◌, false, None, IfOk, OnErr};
-ghost use Rattle.tm_cli.specs.Commands.{command_of, meaning_of, reads};
+ghost use Rattle.tm_cli.specs.Commands.{command_of, has_notes, meaning_of, reads};
 ghost use Rattle.tm_cli.specs.Refusal.{refusal_of_command};
 ghost use Rattle.tm_driver.specs.Answered.{Answered};
 ghost use Rattle.tm_driver.specs.Courses.{StopsAtSink, sink_call, source_call};
@@ -35,7 +35,8 @@ pub fn dispatch<R: Threads + Sync, S: Source, O: Sink, N: Sink>(
         (sink_call O.taken O.faults O.is_last out.old out.new)
         (sink_call N.taken N.faults N.is_last notes.old notes.new)) }
     ensures memory { OnErr result ((source.new ≡ source.old) × (out.new ≡ out.old) × (notes.new ≡ notes.old)) }
-    ensures unread { reads (command_of job.now) ≡ false → (source.new ≡ source.old) × (notes.new ≡ notes.old) }
+    ensures unread { reads (command_of job.now) ≡ false → source.new ≡ source.old }
+    ensures unnoted { has_notes (command_of job.now) ≡ false → notes.new ≡ notes.old }
     ensures stops { job.now.kind ≡ JobKind.Encode → IfOk result (λ ending. ending ≡ Ending.SinkFault
         → StopsAtSink (source_call S.given S.left S.ended S.faults S.is_last source.old source.new)
         (sink_call O.taken O.faults O.is_last out.old out.new)

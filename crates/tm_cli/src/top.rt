@@ -2,7 +2,7 @@
 ghost use Rattle.std.specs.Prelude.{◌≡◌, ◌⊎◌, ◌≤◌, map, string_bytes, IsSome, false};
 ghost use Rattle.tm_config.specs.Configuration.{configuration_of};
 ghost use Rattle.tm_words.specs.declared.job.Job.{Job};
-ghost use Rattle.tm_cli.specs.Commands.{command_of, reads};
+ghost use Rattle.tm_cli.specs.Commands.{command_of, has_notes, reads};
 ghost use Rattle.tm_cli.specs.Refusal.{refusal_of, AreParsedAs};
 ghost use Rattle.tm_cli.specs.Run.{Answers, IsRefused, call_of};
 ghost use Rattle.tm_driver.specs.Courses.{sink_state, source_state};
@@ -19,13 +19,13 @@ use tm_path_commands::certificate_law;
 /// for. `JobKind` (tm_words) lists the commands: what each writes to `out`, its output, and to the notes, what is bad,
 /// and when the input is partial.
 ///
-/// A command that reads does so in turns of at most 4,096 octets, never more than one octet past the limit, and nothing
-/// after the end of the input or a fault. Windows are decoded and words repaired by so many workers as are asked for.
-/// Answers the exit status, of 3, 4 and 7 the one that occurs first:
+/// A command that reads takes never more than one octet past the limit, and nothing after the end of the input or a
+/// fault. Windows are decoded and words repaired by so many workers as are asked for. Answers the exit status, of 3, 4
+/// and 7 the one that occurs first:
 ///
 /// - 0: the source was read to its end by a command that reads, and the whole output is written.
-/// - 1: the same, and something is bad. Or the command reads nothing more after what is bad, and all that is to be
-///   written up to there is.
+/// - 1: the same, and something is bad. Or the command ends at what is bad, fewer than 4,096 octets were read after it,
+///   and all that is to be written up to there is.
 /// - 2: the words are refused. Nothing is read, and `out` stays as it was; the notes get the line `refused: ` with the
 ///   first reason, or a prefix of it where they fail.
 /// - 3: the source failed. What is due for the octets before is written, and nothing more.
@@ -65,7 +65,9 @@ pub fn run<R: Threads + Sync, S: Source, O: Sink, N: Sink>(
         (sink_state (N.taken notes.old) (N.faults notes.old))
         (sink_state (N.taken notes.new) (N.faults notes.new)) (N.is_last notes.new)) }
     ensures only_words { (job : Job) → AreParsedAs (map string_bytes words.now) job
-        → reads (command_of job) ≡ false → (source.new ≡ source.old) × (notes.new ≡ notes.old) }
+        → reads (command_of job) ≡ false → source.new ≡ source.old }
+    ensures only_output { (job : Job) → AreParsedAs (map string_bytes words.now) job
+        → has_notes (command_of job) ≡ false → notes.new ≡ notes.old }
 {
     link_law();
     certificate_law();

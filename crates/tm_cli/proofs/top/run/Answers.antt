@@ -6,7 +6,7 @@ use Rattle.tm_driver.specs.Courses.{sink_state, source_state}
 use Rattle.tm_driver.specs.Meaning.{Ends, taken_by}
 use Rattle.tm_driver.specs.declared.ending.Ending.TheVariants.{LeftOver, SourceFault, SinkFault}
 use Rattle.tm_words.specs.declared.job.Job.{Job}
-use Rattle.tm_cli.specs.Commands.{Command, command_of, meaning_of, reads}
+use Rattle.tm_cli.specs.Commands.{Command, command_of, has_notes, meaning_of, reads}
 use Rattle.tm_cli.specs.Commands.Command.{Decode, Check}
 use Rattle.tm_cli.specs.Refusal.{AreParsedAs}
 use Rattle.tm_cli.specs.Run.{Answers, Call, HasNoFault, call_of}
@@ -124,3 +124,10 @@ returns-in-Ok-clause-only_words g c = λ job asked none.
     let same : job ≡ c.in-Command.job = same-job (map string_bytes c.args.words.now) job c.in-Command.job asked read.0
     in
     c.in-Ok.ensures.unread (subst (λ (j : Job). reads (command_of j) ≡ false) same none)
+
+pub returns-in-Ok-clause-only_output : goal.returns-in-Ok-clause-only_output
+returns-in-Ok-clause-only_output g c = λ job asked none.
+    let read = c.in-Command.ensures.command c.in-Command.job c.in-Command.config refl in
+    let same : job ≡ c.in-Command.job = same-job (map string_bytes c.args.words.now) job c.in-Command.job asked read.0
+    in
+    c.in-Ok.ensures.unnoted (subst (λ (j : Job). has_notes (command_of j) ≡ false) same none)
