@@ -20,7 +20,9 @@ impl Outcome {
     // Whether it is what the row says.
     fn is_wanted(&self, row: &Row) -> bool {
         row.status == Some(self.status)
-            && row.reads.is_none_or(|reads| reads == self.reads)
+            && is_count(row.reads, self.reads)
+            && is_count(row.out_writes, self.out.calls())
+            && is_count(row.notes_writes, self.notes.calls())
             && self.out.octets() == row.out.as_slice()
             && self.notes.octets() == row.notes.as_slice()
     }
@@ -28,10 +30,19 @@ impl Outcome {
     fn shown(&self, alloc: Global) -> Result<String> {
         let status = self.status;
         let reads = self.reads;
+        let to_out = self.out.calls();
+        let to_notes = self.notes.calls();
         let out = hex::encode(alloc, self.out.octets())?;
         let notes = str::from_utf8(self.notes.octets()).unwrap_or("no text");
-        Ok(format!(in alloc; "status {status}, reads {reads}, out {out}, notes {notes:?}")?)
+        Ok(format!(in alloc;
+            "status {status}, reads {reads}, writes {to_out} {to_notes}, out {out}, notes {notes:?}"
+        )?)
     }
+}
+
+// Whether it is the count that a row says, if it says one.
+fn is_count(said: Option<u64>, count: u64) -> bool {
+    said.is_none_or(|said| said == count)
 }
 
 /// What comes of a row's call over octets that are given so many at a time, where it differs from what the row says.

@@ -35,6 +35,10 @@ pub struct Row {
     pub notes: Vec<u8>,
     /// How often the source is read, where the row says it.
     pub reads: Option<u64>,
+    /// How often out is written to, where the row says it.
+    pub out_writes: Option<u64>,
+    /// How often the notes are written to, where the row says it.
+    pub notes_writes: Option<u64>,
 }
 
 impl Row {
@@ -50,6 +54,8 @@ impl Row {
             out: Vec::new(alloc),
             notes: Vec::new(alloc),
             reads: None,
+            out_writes: None,
+            notes_writes: None,
         }
     }
 
@@ -76,6 +82,8 @@ impl Row {
             "out" => values.append(alloc, text, &mut self.out),
             "notes" => values.append(alloc, text, &mut self.notes),
             "reads" => once(&mut self.reads, text.parse()?),
+            "writes to out" => once(&mut self.out_writes, text.parse()?),
+            "writes to notes" => once(&mut self.notes_writes, text.parse()?),
             "refused" => self.refuse(text),
             _ => bail!("no field has this name"),
         }
