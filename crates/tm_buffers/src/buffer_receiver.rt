@@ -128,7 +128,7 @@ impl BufferReceiver {
     /// where the symbol phase is not followed.
     pub fn slips(&self) -> u64
         ensures { (given : List ℕ) (done : List (Handed ItemValue)) → IsReceiving self.now given done
-            → AreSlipsSoFar self.now.config given result }
+            → AreSlipsSoFar self.now.config given done result }
     {
         self.receiver.slips()
     }

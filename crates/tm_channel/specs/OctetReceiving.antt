@@ -91,13 +91,13 @@ pub record OctetReceiving : Type 0 where
 abbrev pub ReceiverStandsFor : OctetReceiving → List ℕ → List (Handed ItemValue) → Type 0
 ReceiverStandsFor r = StagesFor r.stages
 
--- octets were dropped before so many of the windows whose bits were searched; others that are due
--- may wait only while their bits are no more than may wait, none with one worker
-abbrev pub AreSlipsSoFar : Configuration → List ℕ → ℕ → Type 0
-AreSlipsSoFar c octets slips = (handed : List (Handed WindowBlock)) × (waiting : List WindowBlock)
-    × AreHandedDue c octets (handed ++ map Item waiting)
-    × (length (kept_bits waiting) ≤ waiting_bits c c.batch)
-    × (slips ≡ slips_of (items_of handed))
+-- Stages that were given these octets have handed over this, and octets were dropped before so many
+-- of the windows whose bits were searched. So these windows are all that are due but for those that
+-- wait, none with one worker, and the items of just their bits were handed over.
+abbrev pub AreSlipsSoFar : Configuration → (given : List ℕ) → (done : List (Handed ItemValue)) → ℕ
+    → Type 0
+AreSlipsSoFar c given done slips = (s : Stages) × (s.inner.config ≡ c)
+    × (stands : StagesFor s given done) × (slips ≡ slips_of (items_of stands.handed))
 
 -- ---- what a call of a receiver hands over
 

@@ -281,7 +281,7 @@ impl Receiver {
     /// where the symbol phase is not followed.
     pub fn slips(&self) -> u64
         ensures { (given : List ℕ) (done : List (Handed ItemValue)) → ReceiverStandsFor self.now given done
-            → AreSlipsSoFar self.now.config given result }
+            → AreSlipsSoFar self.now.config given done result }
     {
         self.inner.slips()
     }

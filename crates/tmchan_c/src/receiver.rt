@@ -166,7 +166,7 @@ pub extern "C" fn tmchan_receiver_slips(alloc: Global, handle: &mut Handle, coun
     ensures refused { Refuses (closed_refusal (receiver_in handle.old.kept.value)) result (count.new ≡ count.old) }
     ensures reported { (c : Configuration) (given : List ℕ) (done : List (Handed ItemValue))
         → IsReceiver handle.old.kept.value c given done
-        → (result ≡ pos 0) × AreSlipsSoFar c given count.new }
+        → (result ≡ pos 0) × AreSlipsSoFar c given done count.new }
 {
     let Some(stream) = take(alloc, handle) else {
         return Refusal::Closed.answer();

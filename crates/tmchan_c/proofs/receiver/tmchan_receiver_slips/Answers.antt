@@ -11,6 +11,6 @@ returns-in-Receiver-clause-reported c = λ config given done is.
     let held : c.args.handle.now.kept.value ≡ Some (Receiver c.in-Receiver.receiver) = search rules in
     let receiver = subst (λ (o : Option Stream). IsReceiver o config given done) held is in (
       search rules,
-      subst (λ (k : Configuration). AreSlipsSoFar k given c.slips.result)
+      subst (λ (k : Configuration). AreSlipsSoFar k given done c.slips.result)
           receiver.0 (c.slips.ensures given done receiver.1),
     )
