@@ -25,9 +25,10 @@ FISH_COMPLETIONS = share/fish/vendor_completions.d
 
 lib: $(LIBRARIES)
 
-# rt tells by itself what has changed.
+# rt tells by itself what has changed. (The gate of a kit that keeps nothing has another way, for its tests alone.)
+RT_LIB ?= cd crates/tmchan_c && rt lib
 proved:
-	cd crates/tmchan_c && rt lib
+	$(RT_LIB)
 	mkdir -p out
 
 # The calls that open a stream take memory by malloc, through an object of the kit.
