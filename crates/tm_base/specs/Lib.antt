@@ -11,4 +11,5 @@ pub mod Count
 pub mod SourceInMemory
 pub mod SinkInMemory
 pub mod SureState
+pub mod Standard
 pub mod HeldOctets
