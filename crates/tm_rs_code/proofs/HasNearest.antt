@@ -1,12 +1,16 @@
 -- A word has a nearest codeword within a bound, or none, with erased places and without.
-use Rattle.std.proofs.Common.{◌+◌, ◌*◌, ◌&&◌, ℕ, Bool, leb, List, length, refl, inl, inr}
+use Rattle.std.proofs.Common.{◌≡◌, ◌∙◌, ◌≤◌, ◌+◌, ◌*◌, ◌&&◌, ℕ, Bool, true, leb, nat_le, List, [], length, refl, sym, ap, arith, inl, inr}
+use Rattle.std.specs.Prelude.{find, unwrap_or}
+use Rattle.std.specs.List.{list_any}
+use Rattle.std.proofs.lemmas.Bool.{cases_Bool}
+use Rattle.std.proofs.lemmas.Bool.Decides.{nat_tests}
 use Rattle.std.proofs.lemmas.Bool.{cases_lt, and_parts, and_from, leb-true, le-leb}
-use Rattle.tm_rs_code.specs.Code.{distance, is_codeword}
-use Rattle.tm_rs_code.specs.Nearest.{IsNearest, Nearest}
+use Rattle.tm_rs_code.specs.Code.{all_words, distance, is_codeword}
+use Rattle.tm_rs_code.specs.Nearest.{IsNearest, Nearest, is_correctable, is_fixed}
 use Rattle.tm_rs_code.specs.Nearest.Nearest.{Fixed, Beyond}
 use Rattle.tm_rs_code.specs.Erasures.{IsNearestErased, NearestErased, count_erased, outside, inside}
 use Rattle.tm_rs_code.specs.Erasures.NearestErased.{Fixed as FixedErased, Beyond as BeyondErased}
-use Rattle.tm_rs_code.proofs.Systematic.{PassesOrNone, search_words, codeword_by_test, is_codeword_holds}
+use Rattle.tm_rs_code.proofs.Systematic.{AreWords, Each-all_words, PassesOrNone, any-all_words, find_passes, search_words, codeword_by_test, is_codeword_holds}
 
 -- whether a word is a codeword within the bound
 abbrev is_near : ℕ → ℕ → List ℕ → List ℕ → Bool
@@ -34,6 +38,29 @@ nearest_of e bound w (inr none) = (
 
 pub has_nearest : (e bound : ℕ) (w : List ℕ) → (a : Nearest) × IsNearest e bound w a
 has_nearest e bound w = nearest_of e bound w (search_words (length w) (is_near e bound w))
+
+-- it tells whether a codeword lies within the bound
+pub correctable-is : (e bound : ℕ) (w : List ℕ) (a : Nearest) → IsNearest e bound w a
+    → is_correctable e bound w ≡ is_fixed a
+unfolding is_correctable
+correctable-is e bound w (Fixed c d) (code, at, near) =
+    let le : nat_le (distance c w) bound ≡ true = grind (arith, nat_tests) in
+    let passes : (is_codeword e c && nat_le (distance c w) bound) ≡ true =
+    and_from (is_codeword e c) (nat_le (distance c w) bound) (is_codeword_holds e c code.codeword) le in
+    ap (λ (n : ℕ). list_any (λ c. is_codeword e c && nat_le (distance c w) bound) (all_words n)) (sym code.size)
+    ∙ any-all_words c (λ c. is_codeword e c && nat_le (distance c w) bound) code.elements passes
+correctable-is e bound w Beyond far =
+    elim (cases_Bool (list_any (λ c. is_codeword e c && nat_le (distance c w) bound) (all_words (length w)))) [
+      | inl some ↦ absurd (
+          let test : List ℕ → Bool = λ c. is_codeword e c && nat_le (distance c w) bound in
+          let c : List ℕ = unwrap_or (find test (all_words (length w))) [] in
+          let h = find_passes (AreWords (length w)) test (all_words (length w)) (Each-all_words (length w)) some in
+          let both = and_parts (is_codeword e c) (nat_le (distance c w) bound) h.1 in
+          let least = far c record { size = h.0.0; elements = h.0.1; codeword = codeword_by_test e c both.0 } in
+          let most : distance c w ≤ bound = grind (arith, nat_tests, both.1) in
+          omega (arith, least, most))
+      | inr none ↦ none
+    ]
 
 -- ---- erased places
 

@@ -73,7 +73,7 @@ is_codeword_holds e w h =
 -- ---- all words of a length
 
 -- P holds of each word
-abbrev Each : (List ℕ → Type 0) → List (List ℕ) → Type 0
+abbrev pub Each : (List ℕ → Type 0) → List (List ℕ) → Type 0
 Each P [] = Unit {0}
 Each P (w ∷ ws) = P w × Each P ws
 
@@ -81,7 +81,7 @@ Each-append : (P : List ℕ → Type 0) (vs ws : List (List ℕ)) → Each P vs 
 Each-append P [] ws h l = l
 Each-append P (v ∷ vs) ws h l = (h.0, Each-append P vs ws h.1 l)
 
-abbrev AreWords : ℕ → List ℕ → Type 0
+abbrev pub AreWords : ℕ → List ℕ → Type 0
 AreWords n w = (length w ≡ n) × AreElements w
 
 Each-put : (n v : ℕ) (ws : List (List ℕ)) → v < 256 → Each (AreWords n) ws
@@ -97,7 +97,7 @@ Each-spread n a (suc k) ws le h =
     (flat_map (λ first. map (λ rest. first ∷ rest) ws) (range_with_len (a + 1) k))
     (Each-put n a ws (omega arith) h) (Each-spread n (a + 1) k ws (omega arith) h)
 
-Each-all_words : (n : ℕ) → Each (AreWords n) (all_words n)
+pub Each-all_words : (n : ℕ) → Each (AreWords n) (all_words n)
 unfolding all_words
 Each-all_words zero = ((refl, tt), tt)
 Each-all_words (suc n) = Each-spread n 0 256 (all_words n) (omega arith) (Each-all_words n)
@@ -129,7 +129,7 @@ any-spread test v a (suc k) ws le lt h =
     ]
 
 -- a word that passes is among all words of its length
-any-all_words : (w : List ℕ) (test : List ℕ → Bool) → AreElements w → test w ≡ true
+pub any-all_words : (w : List ℕ) (test : List ℕ → Bool) → AreElements w → test w ≡ true
     → list_any test (all_words (length w)) ≡ true
 unfolding all_words
 any-all_words [] test h e = either_left (test []) false e
@@ -138,7 +138,7 @@ any-all_words (c ∷ cs) test h e =
     (any-all_words cs (λ rest. test (c ∷ rest)) h.1 e)
 
 -- what a search finds passes, and is one of the list
-find_passes : (P : List ℕ → Type 0) (test : List ℕ → Bool) (ws : List (List ℕ)) → Each P ws → list_any test ws ≡ true
+pub find_passes : (P : List ℕ → Type 0) (test : List ℕ → Bool) (ws : List (List ℕ)) → Each P ws → list_any test ws ≡ true
     → P (unwrap_or (find test ws) []) × (test (unwrap_or (find test ws) []) ≡ true)
 find_passes P test [] h e = absurd cc
 find_passes P test (w ∷ ws) h e =

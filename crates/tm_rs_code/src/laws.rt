@@ -2,7 +2,7 @@
 ghost use Rattle.std.specs.Prelude.{◌≡◌, ◌≢◌, ◌≤◌, ◌+◌, ◌*◌, ℕ, Bool, List, length};
 ghost use Rattle.tm_rs_code.specs.Code.{AreElements, IsCodeword, IsSystematic, distance, encode_word, longest_word};
 ghost use Rattle.tm_rs_code.specs.Erasures.{IsErasedPattern, IsNearestErased, NearestErased};
-ghost use Rattle.tm_rs_code.specs.Nearest.{IsNearest, Nearest};
+ghost use Rattle.tm_rs_code.specs.Nearest.{IsNearest, Nearest, is_correctable, is_fixed};
 ghost use Rattle.tm_rs_code.specs.Pattern.{IsPattern};
 
 /// The distance law: two different codewords of one length differ in at least 2e + 1 places.
@@ -20,11 +20,13 @@ pub fn systematic_codeword_law()
         → IsSystematic e info c → c ≡ encode_word e info }
 {}
 
-/// A word has just one nearest codeword within a bound of at most e, or none.
+/// A word has just one nearest codeword within a bound of at most e, or none; and it tells whether there is one.
 pub fn nearest_law()
     ensures exists { (e bound : ℕ) (w : List ℕ) → (a : Nearest) × IsNearest e bound w a }
     ensures one { (e bound : ℕ) (w : List ℕ) (a b : Nearest) → bound ≤ e → length w ≤ longest_word
         → IsNearest e bound w a → IsNearest e bound w b → a ≡ b }
+    ensures tells { (e bound : ℕ) (w : List ℕ) (a : Nearest) → IsNearest e bound w a
+        → is_correctable e bound w ≡ is_fixed a }
 {}
 
 /// A word with erased places has just one nearest codeword within the bounds, or none.
