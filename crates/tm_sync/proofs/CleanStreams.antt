@@ -14,14 +14,14 @@ use Rattle.tm_sync.proofs.Steps.{match_of-append, are_verified-zero, are_verifie
 use Rattle.tm_sync.proofs.MarkedStreams.{places-marked}
 
 -- each block has the size of a codeblock
-abbrev AreSized : Rules → List (List Bool) → Type 0
+abbrev pub AreSized : Rules → List (List Bool) → Type 0
 AreSized rules blocks = AllByRecursion (λ block. length block ≡ rules.block_bits) blocks
 
-no_wrong_bits : wrong_bits false marker_bits ≡ 0
+pub no_wrong_bits : wrong_bits false marker_bits ≡ 0
 unfolding wrong_bits low_bits
 no_wrong_bits = refl
 
-marker-matches : (rules : Rules) → match_of rules marker_bits ≡ Some false
+pub marker-matches : (rules : Rules) → match_of rules marker_bits ≡ Some false
 unfolding match_of
 marker-matches rules =
     let test : nat_le (wrong_bits false marker_bits) rules.tolerance ≡ true = grind (arith, nat_tests, no_wrong_bits) in
@@ -29,10 +29,10 @@ marker-matches rules =
     (Some true) None)) test
 
 -- the bits of the codeblocks with their markers
-abbrev sent : List (List Bool) → List Bool
+abbrev pub sent : List (List Bool) → List Bool
 sent blocks = joined (clean_entries blocks) []
 
-length-sent : (rules : Rules) (blocks : List (List Bool)) → AreSized rules blocks
+pub length-sent : (rules : Rules) (blocks : List (List Bool)) → AreSized rules blocks
     → length (sent blocks) ≡ length blocks * (32 + rules.block_bits)
 length-sent rules [] sized = omega arith
 length-sent rules (block ∷ blocks) sized =
@@ -44,8 +44,17 @@ length-sent rules (block ∷ blocks) sized =
     (length-append block (sent blocks)) in
     omega arith
 
+-- after each codeblock stand the others
+pub after-sent : (rules : Rules) (block : List Bool) (blocks : List (List Bool)) → length block ≡ rules.block_bits
+    → drop (32 + rules.block_bits) (sent (block ∷ blocks)) ≡ sent blocks
+after-sent rules block blocks sized =
+    let marker = length-marker_bits in
+    ap (drop (32 + rules.block_bits)) (sym (append_assoc marker_bits block (sent blocks)))
+    ∙ drop_at (marker_bits ++ block) (sent blocks) (32 + rules.block_bits)
+    (length-append marker_bits block ∙ omega arith)
+
 -- each marker verifies those before it
-match-sent : (rules : Rules) (block : List Bool) (blocks : List (List Bool))
+pub match-sent : (rules : Rules) (block : List Bool) (blocks : List (List Bool))
     → match_of rules (sent (block ∷ blocks)) ≡ Some false
 match-sent rules block blocks =
     let marker = length-marker_bits in match_of-append rules marker_bits (block ++ sent blocks) (omega arith)
@@ -58,12 +67,7 @@ verified-sent rules zero block blocks sized fewer = are_verified-zero rules fals
 verified-sent rules (suc count) block [] sized fewer = absurd (omega arith)
 verified-sent rules (suc count) block (block' ∷ blocks) sized fewer =
     let size = length-sent rules (block ∷ block' ∷ blocks) sized in
-    let marker = length-marker_bits in
-    let one : length block ≡ rules.block_bits = sized.0 in
-    let next : drop (32 + rules.block_bits) (sent (block ∷ block' ∷ blocks)) ≡ sent (block' ∷ blocks) =
-    ap (drop (32 + rules.block_bits)) (sym (append_assoc marker_bits block (sent (block' ∷ blocks))))
-    ∙ drop_at (marker_bits ++ block) (sent (block' ∷ blocks)) (32 + rules.block_bits)
-    (length-append marker_bits block ∙ omega arith) in
+    let next = after-sent rules block (block' ∷ blocks) sized.0 in
     are_verified-more rules false count (sent (block ∷ block' ∷ blocks)) (omega arith)
     ∙ (λ i. matches_in (match_of rules (next i)) false && are_verified rules false count (next i))
     ∙ (λ i. matches_in (match-sent rules block' blocks i) false && verified-sent rules count block' blocks sized.1
@@ -110,7 +114,7 @@ pub clean-marked : (rules : Rules) (blocks : List (List Bool)) → AreSized rule
 clean-marked rules blocks sized enough =
     record { parts = refl; are_entries = are_entries rules 0 None blocks sized enough }
 
-places_of-clean : (rules : Rules) (at : ℕ) (before : Option Before) (blocks : List (List Bool))
+pub places_of-clean : (rules : Rules) (at : ℕ) (before : Option Before) (blocks : List (List Bool))
     → places_of rules at before (clean_entries blocks) ≡ clean_places rules.block_bits at blocks
 places_of-clean rules at before [] = refl
 places_of-clean rules at before (block ∷ blocks) =

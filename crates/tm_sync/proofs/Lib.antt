@@ -11,3 +11,13 @@ pub mod Recent
 pub mod Ends
 pub mod Looks
 pub mod Given
+pub mod Rescanned
+pub mod Prefixes
+pub mod Passing
+pub mod Ahead
+pub mod FoundInside
+pub mod FewInside
+pub mod MarkedInside
+pub mod Differing
+pub mod PackedBits
+pub mod NoneMatch

@@ -28,11 +28,11 @@ place_by-append rules at (Some before) bits more None long =
     })) None
 
 -- the bits that settle whether a place with its codeblock stands at their start
-abbrev room_of : Rules → Option Before → ℕ
+abbrev pub room_of : Rules → Option Before → ℕ
 room_of rules None = settled_by rules.verify rules.block_bits
 room_of rules (Some before) = 32 + rules.block_bits
 
-place_at-append : (rules : Rules) (at : ℕ) (before : Option Before) (bits more : List Bool)
+pub place_at-append : (rules : Rules) (at : ℕ) (before : Option Before) (bits more : List Bool)
     → room_of rules before ≤ length bits
     → place_at rules at before (bits ++ more) ≡ place_at rules at before bits
 place_at-append rules at None bits more room =
@@ -88,20 +88,20 @@ place_at-stands rules at before bits f e = go (cases_lt (length bits) (32 + rule
           room = room;
         }
 
-later : (at : ℕ) (fs : List Found) → AllByRecursion (λ f. at + 1 ≤ f.place) fs → AllByRecursion (λ f. at ≤ f.place) fs
+pub later : (at : ℕ) (fs : List Found) → AllByRecursion (λ f. at + 1 ≤ f.place) fs → AllByRecursion (λ f. at ≤ f.place) fs
 later at [] all = tt
 later at (f ∷ fs) all = (let one = all.0 in omega arith, later at fs all.1)
 
 -- these places, where they are searched for, are not settled in the bits up to `end`
-abbrev AreAfter : Rules → ℕ → List Found → Type 0
+abbrev pub AreAfter : Rules → ℕ → List Found → Type 0
 AreAfter rules end = AllByRecursion (λ f. end < f.place + settled_by rules.verify rules.block_bits)
 
-past-of : (rules : Rules) (end at : ℕ) (fs : List Found) → end < at + settled_by rules.verify rules.block_bits
+pub past-of : (rules : Rules) (end at : ℕ) (fs : List Found) → end < at + settled_by rules.verify rules.block_bits
     → AllByRecursion (λ f. at ≤ f.place) fs → AreAfter rules end fs
 past-of rules end at [] short all = tt
 past-of rules end at (f ∷ fs) short all = (let one = all.0 in omega arith, past-of rules end at fs short all.1)
 
-past-same : (rules : Rules) (end end' : ℕ) (fs : List Found) → end ≡ end' → AreAfter rules end fs
+pub past-same : (rules : Rules) (end end' : ℕ) (fs : List Found) → end ≡ end' → AreAfter rules end fs
     → AreAfter rules end' fs
 past-same rules end end' fs same all = subst (λ (n : ℕ). AreAfter rules n fs) same all
 

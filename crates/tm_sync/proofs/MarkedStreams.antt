@@ -9,7 +9,7 @@ use Rattle.tm_sync.proofs.Steps.{places_from-nil, places_from-miss, places_from-
 use Rattle.tm_sync.specs.Marked.{Entry, joined, ready, HasNoMarker, MayGap, MayBridge, place_by_marker, place_of, places_of, AreEntries, IsMarked}
 
 -- no place stands where no marker matches and none may be bridged
-none_at : (rules : Rules) (at : ℕ) (before : Option Before) (b : Bool) (bits gap : List Bool)
+pub none_at : (rules : Rules) (at : ℕ) (before : Option Before) (b : Bool) (bits gap : List Bool)
     → HasNoMarker rules before (b ∷ gap) (b ∷ bits) → MayGap rules before (b ∷ gap) (b ∷ bits)
     → place_at rules at before (b ∷ bits) ≡ None
 none_at rules at before b bits gap none waits =
@@ -50,7 +50,7 @@ places_from-gap rules at before (b ∷ gap) rest none waits =
     unguarded (c ∷ gap) = tt
 
 -- the place that an entry's marker and block are
-place_of-is : (rules : Rules) (at : ℕ) (before : Option Before) (e : Entry) (rest : List Bool) → length e.marker ≡ 32
+pub place_of-is : (rules : Rules) (at : ℕ) (before : Option Before) (e : Entry) (rest : List Bool) → length e.marker ≡ 32
     → length e.block ≡ rules.block_bits
     → MayBridge rules before e (match_of rules e.marker) → place_polarity rules (ready e.gap before)
     (e.marker ++ (e.block ++ rest)) ≡ match_of rules e.marker
@@ -101,7 +101,7 @@ pub place_of-place : (rules : Rules) (at : ℕ) (before : Option Before) (e : En
 place_of-place rules at before e = place_is (at + length e.gap) before e (match_of rules e.marker)
 
 -- the gap before a marker that matches says nothing of what follows the codeblock
-after-ready : (rules : Rules) (at : ℕ) (before : Option Before) (e : Entry)
+pub after-ready : (rules : Rules) (at : ℕ) (before : Option Before) (e : Entry)
     → MayBridge rules before e (match_of rules e.marker)
     → before_next (ready e.gap before) (place_of rules at before e) ≡ before_next before (place_of rules at before e)
 after-ready rules at before e may = go before e.gap (match_of rules e.marker) may

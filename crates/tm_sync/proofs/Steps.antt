@@ -283,7 +283,7 @@ settled-few rules = go rules.verify
     go (suc count) = omega arith
 
 -- where it is not settled, nothing that is searched for is a place
-place_at-unsettled : (rules : Rules) (at : ℕ) (bits : List Bool)
+pub place_at-unsettled : (rules : Rules) (at : ℕ) (bits : List Bool)
     → length bits < settled_by rules.verify rules.block_bits → place_at rules at None bits ≡ None
 place_at-unsettled rules at bits few = go (cases_lt (length bits) (32 + rules.block_bits)) rules.verify refl few
   where

@@ -30,6 +30,15 @@ pub struct Before {
     pub bridged: u8,
 }
 
+/// What a search that looks inside codeblocks knows of their columns.
+#[derive(Clone, Copy)]
+pub struct Columns {
+    /// The bits from each symbol of a column to the next one.
+    pub stride: u32,
+    /// How many wrong symbols of a column the code corrects.
+    pub strength: u32,
+}
+
 /// A place whose codeblock is not whole yet.
 #[derive(Clone, Copy, Debug, PartialEq, Eq)]
 pub struct Awaited {

@@ -5,13 +5,17 @@
 //! stands on the marker of tm_base.
 #![tactic(auto)]
 
+mod finder;
 mod found;
 mod laws;
+mod recent_bits;
 mod search;
 
-pub use found::{Awaited, Before, Found, NO_PLACE, Paused};
+pub use finder::Finder;
+pub use found::{Awaited, Before, Columns, Found, NO_PLACE, Paused};
 pub use laws::{
-    clean_law, few_places_law, longer_law, marked_law, no_verify_law, one_polarity_law,
-    polarity_law,
+    clean_law, difference_law, few_places_law, found_law, longer_law, marked_inside_law,
+    marked_law, no_verify_law, one_polarity_law, polarity_law, rescan_law,
 };
+pub use recent_bits::RecentBits;
 pub use search::Search;
