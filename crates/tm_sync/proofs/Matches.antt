@@ -1,7 +1,8 @@
 -- How the last 32 bits match.
-use Rattle.std.proofs.Common.{◌≡◌, ℕ, ◌+◌, ◌-◌, ◌<◌, ◌≤◌, ◌^◌, Bool, true, false, cond, ◌&&◌, nat_le, List, [], ◌∷◌, length, refl, sym, ap, ◌∙◌, arith, bit_xor, count_ones, Some, None, take}
+use Rattle.std.proofs.Common.{◌≡◌, ℕ, ◌+◌, ◌-◌, ◌<◌, ◌≤◌, ◌^◌, Bool, true, false, cond, ◌&&◌, nat_le, List, [], ◌∷◌, length, refl, sym, ap, ◌∙◌, arith, ⊎_elim, bit_xor, count_ones, Some, None, IsSome, is_some, take}
 use Rattle.std.proofs.lemmas.Nat.{ones-le, xor_of_32}
 use Rattle.std.proofs.lemmas.List.{take_all, length-take-le}
+use Rattle.std.proofs.lemmas.Bool.{cases_lt}
 use Rattle.std.proofs.lemmas.Bool.Decides.{nat_tests}
 use Rattle.tm_base.specs.Bits.{number_of}
 use Rattle.tm_sync.specs.Bits.{flip, complement, difference, differences, marker_bits}
@@ -95,3 +96,18 @@ match-far rules bits wrong most long is far below = go rules.either refl below
         → match_of rules bits ≡ None
     go true e below = match-none rules bits wrong (32 - wrong) is far (wrong-inverted wrong bits long is) (omega arith)
     go false e below = match-given rules bits wrong is far e
+
+-- others match
+pub match-near : (rules : Rules) (bits : List Bool) (wrong : ℕ) → rules.tolerance ≤ 8 → length bits ≡ 32
+    → wrong ≡ wrong_bits false bits
+    → (rules.tolerance < wrong → rules.tolerance + 1 + far_count rules.tolerance rules.either ≤ wrong)
+    → IsSome (match_of rules bits)
+match-near rules bits wrong most long is near =
+    ⊎_elim (λ many. far rules.either refl many (near many))
+    (λ few. ap is_some (match-upright rules bits wrong is few)) (cases_lt rules.tolerance wrong)
+  where
+    far : (either : Bool) → rules.either ≡ either → rules.tolerance < wrong
+        → rules.tolerance + 1 + far_count rules.tolerance either ≤ wrong → IsSome (match_of rules bits)
+    far true e many near = ap is_some (match-inverted rules bits wrong (32 - wrong) is many e
+        (wrong-inverted wrong bits long is) (omega arith))
+    far false e many near = absurd (omega (arith, wrong-both bits (omega arith)))

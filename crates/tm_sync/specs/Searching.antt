@@ -1,13 +1,13 @@
 -- What contracts see of a search, and for which bits, given so far, and places, found so far, it
 -- stands.
-use Rattle.std.specs.Prelude.{◌≡◌, ℕ, zero, suc, ◌+◌, ◌-◌, ◌*◌, ◌/◌, ◌%◌, ◌^◌, ◌<◌, ◌≤◌, Bool, true, false, ◌==◌, List, [], ◌∷◌, ◌++◌, length, take, drop, slice_index, slice_index_or, if◌then◌else◌, nat_le, Option, Some, None, unwrap_or, bit_or, ◌⊎◌}
+use Rattle.std.specs.Prelude.{◌≡◌, ℕ, zero, suc, ◌+◌, ◌-◌, ◌*◌, ◌/◌, ◌%◌, ◌^◌, ◌<◌, ◌≤◌, Bool, true, false, ◌==◌, List, [], ◌∷◌, ◌++◌, length, take, drop, slice_index, slice_index_or, if◌then◌else◌, nat_le, Option, Some, None, IsSome, unwrap_or, bit_or, ◌⊎◌}
 use Rattle.std.specs.Option.{option_map, option_map_or, option_or}
 use Rattle.tm_base.specs.Bits.{bit_number, number_of}
-use Rattle.tm_base.specs.Marker.{marker_size}
+use Rattle.tm_base.specs.Marker.{marker_size, most_tolerance}
 use Rattle.tm_sync.specs.declared.found.Found.{Found}
 use Rattle.tm_sync.specs.declared.found.Before.{Before}
 use Rattle.tm_sync.specs.declared.found.Awaited.{Awaited}
-use Rattle.tm_sync.specs.Places.{Rules, are_verified, place_polarity, verify_bits, place_by, before_next, places}
+use Rattle.tm_sync.specs.Places.{Rules, match_of, are_verified, place_polarity, verify_bits, place_by, before_next, places}
 
 -- what contracts see of a search
 pub record Searching : Type 0 where
@@ -177,3 +177,19 @@ is_right_after since (Some before) = since == marker_size
 abbrev pub far_count : ℕ → Bool → ℕ
 far_count tolerance either =
     if either then marker_size - 1 - 2 * tolerance else marker_size - tolerance
+
+-- by these rules 32 bits match in no way where so many of them, or up to `count` - 1 more, differ
+-- from the marker
+pub record TellFar (rules : Rules) (least count : ℕ) : Type 0 where
+  pub tolerance : rules.tolerance ≤ most_tolerance
+  pub least_is : least ≡ rules.tolerance + 1
+  pub count_is : count ≡ far_count rules.tolerance rules.either
+
+-- at none of so many of the next bits 32 bits match
+abbrev pub NoneMatch : Rules → ℕ → List Bool → Type 0
+NoneMatch rules count bits = (q : ℕ) → q < count → match_of rules (drop q bits) ≡ None
+
+-- the first of the next `most` bits at which 32 bits match, or `most`
+pub record IsFirstMatch (rules : Rules) (bits : List Bool) (most first : ℕ) : Type 0 where
+  pub none : NoneMatch rules first bits
+  pub some : first < most → IsSome (match_of rules (drop first bits))

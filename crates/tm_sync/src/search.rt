@@ -7,7 +7,7 @@ ghost use Rattle.tm_sync.specs.declared.found.Found.{Found};
 ghost use Rattle.tm_sync.specs.declared.found.Before.{Before};
 ghost use Rattle.tm_sync.specs.Places.{Rules, wrong_bits, match_of, are_verified, place_polarity, verify_bits, found_at, place_by, places};
 ghost use Rattle.tm_sync.specs.Paused.{is_resumable, resumed};
-ghost use Rattle.tm_sync.specs.Searching.{Counts, IsNewlyFound, Recalls, Remembers, Searching, SearchStandsFor, awaited_at, far_count, end_of, inside_ahead, inside_by, inside_next, inside_of, is_pending, is_right_after, most_inside, waiting_of};
+ghost use Rattle.tm_sync.specs.Searching.{Counts, IsNewlyFound, Recalls, Remembers, Searching, SearchStandsFor, TellFar, awaited_at, far_count, end_of, inside_ahead, inside_by, inside_next, inside_of, is_pending, is_right_after, most_inside, waiting_of};
 ghost use Rattle.tm_sync.specs.Bits.{bits_bound};
 
 use crate::found::{Awaited, Before, Found, Paused};
@@ -538,7 +538,7 @@ fn last_bits(received: u32, octets: &[u8]) -> u32
 }
 
 // Of these bits the last 32 but the last ones, so many.
-fn window(bits: u64, left: u32) -> u32
+pub fn window(bits: u64, left: u32) -> u32
     requires { left < 64 }
     ensures { result ≡ bits / 2 ^ left % 2 ^ marker_size }
 {
@@ -561,10 +561,11 @@ fn far_while(awaited: Option<Awaited>, start: u64, pushed: u64, tolerance: u8, e
 }
 
 // Whether the last 32 bits match in no way.
-fn is_far(received: u32, too_many: u8, far: u8) -> bool
-    ensures { IsTrue result → (0 < far) × ((rules : Rules) (bits : List Bool) → rules.tolerance ≤ most_tolerance
-        → too_many ≡ rules.tolerance + 1 → far ≡ far_count rules.tolerance rules.either → length bits ≡ marker_size
-        → received ≡ number_of bits → match_of rules bits ≡ None) }
+pub fn is_far(received: u32, too_many: u8, far: u8) -> bool
+    ensures far { IsTrue result → (0 < far) × ((rules : Rules) (bits : List Bool) → TellFar rules too_many far
+        → length bits ≡ marker_size → received ≡ number_of bits → match_of rules bits ≡ None) }
+    ensures near { result ≡ false → (rules : Rules) (bits : List Bool) → TellFar rules too_many far
+        → length bits ≡ marker_size → received ≡ number_of bits → IsSome (match_of rules bits) }
 {
     wrong_count(received).wrapping_sub(too_many) < far
 }
@@ -580,7 +581,7 @@ fn right_after(since: u64, before: Option<Before>) -> bool
 }
 
 // The number of the last 32 bits that differ from the marker.
-fn wrong_count(received: u32) -> u8
+pub fn wrong_count(received: u32) -> u8
     ensures few { result ≤ marker_size }
     ensures upright { (bits : List Bool) → length bits ≡ marker_size → received ≡ number_of bits
         → result ≡ wrong_bits false bits }
@@ -589,7 +590,7 @@ fn wrong_count(received: u32) -> u8
 }
 
 // The polarity in which 32 bits match of which `wrong` differ from the marker.
-fn polarity_of(wrong: u8, tolerance: u8, either: bool) -> Option<bool>
+pub fn polarity_of(wrong: u8, tolerance: u8, either: bool) -> Option<bool>
     requires { wrong ≤ marker_size }
     ensures { (rules : Rules) (bits : List Bool) → rules.tolerance ≡ tolerance → rules.either ≡ either
         → length bits ≡ marker_size → wrong ≡ wrong_bits false bits → result ≡ match_of rules bits }
@@ -607,7 +608,7 @@ fn polarity_of(wrong: u8, tolerance: u8, either: bool) -> Option<bool>
 }
 
 // The number of 32 bits that differ from the marker, or from the inverted one, where `wrong` differ from the marker.
-fn distance_of(wrong: u8, inverted: bool) -> u8
+pub fn distance_of(wrong: u8, inverted: bool) -> u8
     requires { wrong ≤ marker_size }
     ensures { (bits : List Bool) → length bits ≡ marker_size → wrong ≡ wrong_bits false bits
         → result ≡ wrong_bits inverted bits }

@@ -37,7 +37,7 @@ loop-left-preserved c =
     let some : 0 < left = c.loop-left-test.true in
     let was = c.loop-left.invariant.given in
     let bit = bit_of (left - 1) octet in
-    let far = c.is_far.ensures c.if-not-is_far.false in
+    let far = c.is_far.ensures.far c.if-not-is_far.false in
     let free = c.self.invariant.3 far.0 in
     let pushed : c.self.inside.pushed ≡ s.pushed = ap (λ (v : Searching). v.pushed) view in
     let start : c.self.inside.start ≡ s.start = ap (λ (v : Searching). v.start) view in
@@ -63,7 +63,8 @@ loop-left-preserved c =
             } record { sized = refl; recent = λ from recent i low within held. absurd (omega (arith, none)) }
             (free-of s c.requires.free) (free-of s c.requires.free) refl (omega arith)
             (λ l long is. ap (λ (v : Searching). match_of v.rules l) (sym view)
-            ∙ far.1 _ l c.self.invariant.1 c.self.invariant.2 free.0 long (received ∙ is))
+            ∙ far.1 _ l (record { tolerance = c.self.invariant.1; least_is = c.self.invariant.2; count_is = free.0 })
+            long (received ∙ is))
             (was.2 room bits found few h)),
       );
     }

@@ -25,7 +25,7 @@ returns-then-is_far-clause-stands c = λ bits found few h.
     let s = c.args.self.now in
     let small : s.pushed < 2 ^ 63 = omega (arith, (start-there s c.args.room.now bits found h).0) in
     let kept = held (goal.at.returns-then-is_far-clause-stands c).After-remember bits found h in
-    let far = c.is_far.ensures c.if-is_far.true in
+    let far = c.is_far.ensures.far c.if-is_far.true in
     let free = c.self.invariant.3 far.0 in
     let start : c.self.inside.start + 32 ≤ c.self.inside.pushed = free.2 in
     push_far s _ c.args.room.now c.remember.new.room c.args.bit bits found
@@ -34,7 +34,8 @@ returns-then-is_far-clause-stands c = λ bits found few h.
     (ap (λ (v : Searching). v.awaited) (sym c.self.view_is) ∙ free.1) free.1
     (ap (λ (v : Searching). v.after) c.self.view_is) (omega arith)
     (λ l long is. ap (λ (v : Searching). match_of v.rules l) (sym c.self.view_is)
-    ∙ far.1 _ l c.self.invariant.1 c.self.invariant.2 free.0 long is) h
+    ∙ far.1 _ l (record { tolerance = c.self.invariant.1; least_is = c.self.invariant.2; count_is = free.0 })
+    long is) h
 
 pub returns-clause-stands : goal.returns-clause-stands
 returns-clause-stands c = λ bits found few h.
