@@ -26,7 +26,7 @@ use Rattle.tm_sync.specs.Places.{places}
 use Rattle.tm_sync.proofs.Longer.{places-few}
 use Rattle.tm_codeblock.specs.ReceivedCodeblock.{rules_of, codeblock_at, data_octets, frame_of}
 use Rattle.tm_channel.specs.declared.totals.Totals.{Totals}
-use Rattle.tm_channel.specs.Items.{ItemValue, IsItem, AreItemsOf, are_fixed, frames_of}
+use Rattle.tm_channel.specs.Items.{ItemValue, IsItem, AreItemsOf, is_given, frames_of}
 use Rattle.tm_channel.specs.Due.{due}
 use Rattle.tm_channel.specs.Handing.{phase_of}
 use Rattle.tm_channel.specs.Most.{AreFew, most_bits, most_bits_at, most_items}
@@ -58,7 +58,7 @@ frame-few c codeblock words ok few =
 
 item-few : (c : Configuration) (bits : List Bool) (f : Found) (item : ItemValue) → IsAccepted c
     → IsItem c f (codeblock_at c bits f) item → length item.frame ≤ c.frame_length
-item-few c bits f item ok is = omega (arith, ap length is.frame, go (are_fixed item.answers))
+item-few c bits f item ok is = omega (arith, ap length is.frame, go (is_given c item.answers))
   where
     codeblock : length (codeblock_at c bits f) ≤ codeblock_length c
     codeblock =
@@ -70,7 +70,7 @@ item-few c bits f item ok is = omega (arith, ap length is.frame, go (are_fixed i
               (drop (f.place + 32) bits),
         )
 
-    go : (fixed : Bool) → length (cond fixed (frame_of c (codeblock_at c bits f) is.words) []) ≤ c.frame_length
+    go : (given : Bool) → length (cond given (frame_of c (codeblock_at c bits f) is.words) []) ≤ c.frame_length
     go true = frame-few c (codeblock_at c bits f) is.words ok codeblock
     go false = omega arith
 

@@ -1,5 +1,5 @@
 -- Received octets have items.
-use Rattle.std.proofs.Common.{ℕ, Bool, cond, List, [], ◌∷◌, refl}
+use Rattle.std.proofs.Common.{◌≡◌, ℕ, Bool, true, false, cond, List, [], ◌∷◌, refl, ap}
 use Rattle.tm_config.specs.Configuration.{Configuration, correctable}
 use Rattle.tm_config.specs.Accepted.{IsAccepted}
 use Rattle.tm_inner.specs.Inner.{Inner}
@@ -8,32 +8,41 @@ use Rattle.tm_rs_code.specs.Nearest.Nearest.{Fixed as FixedWord, Beyond as Beyon
 use Rattle.tm_rs_code.proofs.HasNearest.{has_nearest}
 use Rattle.tm_rs_solve.specs.declared.answers.Answer.{Answer}
 use Rattle.tm_rs_solve.specs.declared.answers.Answer.TheVariants.{Fixed, Beyond}
-use Rattle.tm_rs_solve.specs.Answers.{found}
 use Rattle.tm_sync.specs.declared.found.Found.{Found}
 use Rattle.tm_sync.specs.Places.{places}
 use Rattle.tm_codeblock.specs.ReceivedCodeblock.{rules_of, codeblock_at, received_columns, frame_of}
-use Rattle.tm_channel.specs.Items.{ItemValue, AreNearest, are_fixed, IsItem, AreItemsOf}
+use Rattle.tm_channel.specs.Items.{ItemValue, IsRepaired, AreNearest, is_given, IsItem, AreItemsOf}
 use Rattle.tm_channel.specs.Receive.{Receive}
 
+is_uncorrectable : Answer → Bool
+is_uncorrectable (Fixed d) = false
+is_uncorrectable Beyond = true
+
+-- a column that is repaired need not stay
+pub fixed-left : (d : ℕ) (column word : List ℕ) → Fixed d ≡ Beyond → word ≡ column
+unfolding is_uncorrectable
+fixed-left d column word same = absurd (let no : false ≡ true = ap is_uncorrectable same in cc)
+
 -- what is nearest, as an answer and a word
-as-answer : (e bound : ℕ) (column : List ℕ) (nearest : Nearest) → IsNearest e bound column nearest
-    → (answer : Answer) × (word : List ℕ) × IsNearest e bound column (found answer word)
-as-answer e bound column (FixedWord c d) is = (Fixed d, c, is)
-as-answer e bound column BeyondWord is = (Beyond, [], is)
+as-answer : (c : Configuration) (column : List ℕ) (nearest : Nearest)
+    → IsNearest (correctable c.code) c.repair column nearest
+    → (answer : Answer) × (word : List ℕ) × IsRepaired c column answer word
+as-answer c column (FixedWord word d) is = (Fixed d, word, record { nearest = is; left = fixed-left d column word })
+as-answer c column BeyondWord is = (Beyond, column, record { nearest = is; left = λ _. refl })
 
 has-answers : (c : Configuration) (columns : List (List ℕ)) → (answers : List Answer) × (words : List (List ℕ))
     × AreNearest c columns answers words
 has-answers c [] = ([], [], tt)
 has-answers c (column ∷ columns) =
     let nearest = has_nearest (correctable c.code) c.repair column in
-    let one = as-answer (correctable c.code) c.repair column nearest.0 nearest.1 in
+    let one = as-answer c column nearest.0 nearest.1 in
     let more = has-answers c columns in
     (one.0 ∷ more.0, one.1 ∷ more.1, (one.2, more.2))
 
 has-item : (c : Configuration) (f : Found) (codeblock : List ℕ) → (item : ItemValue) × IsItem c f codeblock item
 has-item c f codeblock =
     let h = has-answers c (received_columns c codeblock) in (
-      record { found = f; answers = h.0; frame = cond (are_fixed h.0) (frame_of c codeblock h.1) [] },
+      record { found = f; answers = h.0; frame = cond (is_given c h.0) (frame_of c codeblock h.1) [] },
       record { place = refl; words = h.1; nearest = h.2; frame = refl },
     )
 

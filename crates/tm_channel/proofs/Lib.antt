@@ -7,6 +7,7 @@ pub mod DisturbedOctets
 pub mod Polarity
 pub mod OnlyItems
 mod HasItems
+mod DroppedItems
 pub mod ReceivedOctets
 pub mod SentPhase
 pub mod ComplementedOctets

@@ -13,7 +13,7 @@ use Rattle.tm_sync.specs.declared.found.Found.{Found}
 use Rattle.tm_sync.specs.Places.{places}
 use Rattle.tm_sync.proofs.Longer.{places-end}
 use Rattle.tm_codeblock.specs.ReceivedCodeblock.{rules_of, codeblock_at, received_column, received_columns, frame_of}
-use Rattle.tm_channel.specs.Items.{ItemValue, AreNearest, are_fixed, IsItem, AreItemsOf, AreItems}
+use Rattle.tm_channel.specs.Items.{ItemValue, IsRepaired, AreNearest, is_given, IsItem, AreItemsOf, AreItems}
 use Rattle.tm_channel.proofs.SentCodeblocks.{coded, columns-coded, columns-uncoded, length-received, length-codeblock_in}
 use Rattle.tm_channel.proofs.Repairs.{found-fixed}
 
@@ -24,35 +24,25 @@ is_beyond : Nearest → Bool
 is_beyond (FixedWord c d) = false
 is_beyond BeyondWord = true
 
--- what is nearest shows the answer, and where that is not Beyond also the word
-found-same : (a b : Answer) (v w : List ℕ) → found a v ≡ found b w → (a ≡ b) × (are_fixed (a ∷ []) ≡ true → v ≡ w)
+-- what is nearest shows the answer and the word
+found-same : (c : Configuration) (column : List ℕ) (a b : Answer) (v w : List ℕ) → IsRepaired c column a v
+    → IsRepaired c column b w → found a v ≡ found b w → (a ≡ b) × (v ≡ w)
 unfolding is_beyond
-found-same (Fixed d) b v w same = let it = found-fixed b w v d (sym same) in (sym it.0, λ _. sym it.1)
-found-same Beyond (Fixed d) v w same = absurd (let no : true ≡ false = ap is_beyond same in cc)
-found-same Beyond Beyond v w same = (refl, λ fixed. absurd (let no : false ≡ true = fixed in cc))
-
-words-same : (a : Answer) (answers : List Answer) (v w : List ℕ) (vs ws : List (List ℕ))
-    → (are_fixed (a ∷ []) ≡ true → v ≡ w) → (are_fixed answers ≡ true → vs ≡ ws)
-    → are_fixed (a ∷ answers) ≡ true → (v ∷ vs) ≡ (w ∷ ws)
-words-same (Fixed d) answers v w vs ws first more fixed = (λ i. first refl i ∷ more fixed i)
-words-same Beyond answers v w vs ws first more fixed = absurd (let no : false ≡ true = fixed in cc)
+found-same c column (Fixed d) b v w one other same = let it = found-fixed b w v d (sym same) in (sym it.0, sym it.1)
+found-same c column Beyond (Fixed d) v w one other same = absurd (let no : true ≡ false = ap is_beyond same in cc)
+found-same c column Beyond Beyond v w one other same = (refl, one.left refl ∙ sym (other.left refl))
 
 answers-same : (c : Configuration) (columns : List (List ℕ)) (firsts seconds : List Answer) (vs ws : List (List ℕ))
     → IsAccepted c
     → AreShort columns → AreNearest c columns firsts vs → AreNearest c columns seconds ws → (firsts ≡ seconds)
-    × (are_fixed firsts ≡ true → vs ≡ ws)
-answers-same c [] [] [] [] [] ok short are others = (refl, λ _. refl)
+    × (vs ≡ ws)
+answers-same c [] [] [] [] [] ok short are others = (refl, refl)
 answers-same c (column ∷ columns) (a ∷ firsts) (b ∷ seconds) (v ∷ vs) (w ∷ ws) ok short are others =
-    let one = found-same a b v w (nearest_only (correctable c.code) c.repair column (found a v)
-    (found b w) ok.repair short.0 are.0 others.0) in
+    let one = found-same c column a b v w are.0 others.0 (nearest_only (correctable c.code) c.repair column (found a v)
+    (found b w) ok.repair short.0 are.0.nearest others.0.nearest) in
     let more = answers-same c columns firsts seconds vs ws ok short.1 are.1 others.1 in
-    ((λ i. one.0 i ∷ more.0 i), words-same a firsts v w vs ws one.1 more.1)
+    ((λ i. one.0 i ∷ more.0 i), (λ i. one.1 i ∷ more.1 i))
 answers-same c columns firsts seconds vs ws ok short are others = absurd (assumption)
-
-frame-same : (c : Configuration) (codeblock : List ℕ) (fixed : Bool) (vs ws : List (List ℕ)) → (fixed ≡ true → vs ≡ ws)
-    → cond fixed (frame_of c codeblock vs) [] ≡ cond fixed (frame_of c codeblock ws) []
-frame-same c codeblock true vs ws same = ap (frame_of c codeblock) (same refl)
-frame-same c codeblock false vs ws same = refl
 
 item-same : (c : Configuration) (f : Found) (codeblock : List ℕ) (item other : ItemValue) → IsAccepted c
     → AreShort (received_columns c codeblock) → IsItem c f codeblock item → IsItem c f codeblock other → item ≡ other
@@ -60,9 +50,7 @@ item-same c f codeblock item other ok short it that =
     let same = answers-same c (received_columns c codeblock) item.answers other.answers it.words that.words ok short
     it.nearest that.nearest in
     let frame : item.frame ≡ other.frame =
-    it.frame ∙ frame-same c codeblock (are_fixed item.answers) it.words that.words same.1
-    ∙ ap (λ (answers : List Answer). cond (are_fixed answers) (frame_of c codeblock that.words) []) same.0
-    ∙ sym that.frame in
+    it.frame ∙ (λ i. cond (is_given c (same.0 i)) (frame_of c codeblock (same.1 i)) []) ∙ sym that.frame in
     (λ i. record { found = (it.place ∙ sym that.place) i; answers = same.0 i; frame = frame i })
 
 -- ---- a word has at most 255 symbols

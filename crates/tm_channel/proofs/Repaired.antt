@@ -19,7 +19,7 @@ use Rattle.tm_workers.specs.Batch.{EachBecomes}
 use Rattle.tm_workers.specs.Words.{Decodes}
 use Rattle.tm_codeblock.specs.ReceivedCodeblock.{column_count, received_columns, frame_of}
 use Rattle.tm_channel.specs.ColumnWords.{symbols_of, all_symbols}
-use Rattle.tm_channel.specs.Items.{AreNearest, IsItem, are_fixed}
+use Rattle.tm_channel.specs.Items.{AreNearest, IsItem, is_given}
 use Rattle.tm_channel.specs.Receiving.{AreItemsFor, IsItemAt}
 use Rattle.tm_channel.specs.Storing.{AreDecoded, AreRead, IsDecoded, IsRead, answers_of, codeblock_in_slot, item_in, stored_in, words_at}
 use Rattle.tm_channel.specs.declared.slot.Slot.{Slot}
@@ -31,18 +31,27 @@ pub nearest-are : (c : Configuration) (code : Code) (words now : List Word) → 
 nearest-are c code [] [] e n become = tt
 nearest-are c code [] (w' ∷ now) e n become = absurd become
 nearest-are c code (w ∷ words) [] e n become = absurd become
-nearest-are c code (w ∷ words) (w' ∷ now) e n become = (one become.0, nearest-are c code words now e n become.1)
+nearest-are c code (w ∷ words) (w' ∷ now) e n become = (
+  record { nearest = one become.0; left = stays become.0 },
+  nearest-are c code words now e n become.1,
+)
   where
+    said : (d : Decodes code c.repair w w') → d.answer ≡ unwrap_or w'.answer Beyond
+    said d = sym (ap (λ (o : Option Answer). unwrap_or o Beyond) d.answered)
+
+    stays : Decodes code c.repair w w' → unwrap_or w'.answer Beyond ≡ Beyond → symbols_of c w' ≡ symbols_of c w
+    stays d beyond =
+        subst (λ (k : ℕ). numbers (take k w'.symbols) ≡ numbers (take k w.symbols)) n
+        (ap numbers (d.unchanged (said d ∙ beyond)))
+
     one : Decodes code c.repair w w'
         → IsNearest (correctable c.code) c.repair (symbols_of c w)
         (found (unwrap_or w'.answer Beyond) (symbols_of c w'))
     one d =
-        let said : d.answer ≡ unwrap_or w'.answer Beyond = sym
-        (ap (λ (o : Option Answer). unwrap_or o Beyond) d.answered) in
         subst (λ (k : ℕ). IsNearest (correctable c.code) c.repair (numbers (take k w.symbols))
         (found (unwrap_or w'.answer Beyond) (numbers (take k w'.symbols)))) n
         (subst (λ (a : Answer). IsNearest (correctable c.code) c.repair (numbers (take code.n w.symbols))
-        (found a (numbers (take code.n w'.symbols)))) said
+        (found a (numbers (take code.n w'.symbols)))) (said d)
         (subst (λ (k : ℕ). IsNearest k c.repair (numbers (take code.n w.symbols))
         (found d.answer (numbers (take code.n w'.symbols)))) e d.nearest))
 
@@ -145,7 +154,7 @@ item-is c slot answers frame octets words decoded written framed = record {
   nearest =
       subst (λ (l : List Answer). AreNearest c (received_columns c (take (codeblock_length c) octets)) l
       (all_symbols c words)) (sym written) decoded;
-  frame = ap (λ (l : List ℕ). if are_fixed (take (column_count c) answers) then l else []) framed;
+  frame = ap (λ (l : List ℕ). if is_given c (take (column_count c) answers) then l else []) framed;
 }
 
 -- the answers are written before others

@@ -1,5 +1,5 @@
 -- The items of units that were sent, however they were disturbed.
-use Rattle.std.proofs.Common.{◌≡◌, ◌≤◌, ◌+◌, ◌*◌, ℕ, Bool, true, false, cond, List, [], ◌∷◌, ◌++◌, length, take, drop, refl, sym, ap, ◌∙◌, subst, arith, Option, Some, None, append_assoc, length-append}
+use Rattle.std.proofs.Common.{◌≡◌, ◌≤◌, ◌+◌, ◌*◌, ◌||◌, ℕ, Bool, true, false, cond, List, [], ◌∷◌, ◌++◌, length, take, drop, refl, sym, ap, ◌∙◌, subst, arith, Option, Some, None, append_assoc, length-append}
 use Rattle.std.specs.List.{AllByRecursion}
 use Rattle.std.proofs.lemmas.List.{take_at, drop_at}
 use Rattle.tm_config.specs.Configuration.{Configuration, codeblock_length, correctable}
@@ -57,7 +57,7 @@ repaired : (c : Configuration) (columns others : List (List ℕ)) (answers : Lis
     → AreCodewords c columns others → AreNearest c columns answers words → AreRepaired c.repair columns others answers
 repaired c [] [] [] [] ok codes nearest = tt
 repaired c (column ∷ columns) (sent ∷ others) (answer ∷ answers) (word ∷ words) ok codes nearest = (
-  (λ within. (word-is c column sent word answer ok codes.0 codes.1 within nearest.0).0),
+  (λ within. (word-is c column sent word answer ok codes.0 codes.1 within nearest.0.nearest).0),
   repaired c columns others answers words ok codes.2 nearest.1,
 )
 repaired c columns others answers words ok codes nearest = absurd (assumption)
@@ -68,7 +68,7 @@ words-are : (c : Configuration) (columns others : List (List ℕ)) (answers : Li
     → (are_fixed answers ≡ true) × (words ≡ others)
 words-are c [] [] [] [] ok codes within nearest = (refl, refl)
 words-are c (column ∷ columns) (sent ∷ others) (answer ∷ answers) (word ∷ words) ok codes within nearest =
-    let one = word-is c column sent word answer ok codes.0 codes.1 within.0 nearest.0 in
+    let one = word-is c column sent word answer ok codes.0 codes.1 within.0 nearest.0.nearest in
     let more = words-are c columns others answers words ok codes.2 within.1 nearest.1 in
     (ap (λ a. are_fixed (a ∷ answers)) one.0 ∙ more.0, λ i. one.1 i ∷ more.1 i)
 words-are c columns others answers words ok codes within nearest = absurd (assumption)
@@ -131,7 +131,7 @@ as_sent-one c f u codeblock item ok is size same it =
       frame = λ near.
           let all = words-are c (received_columns c received)
           (sent_columns c u.frame) item.answers it.words ok codes near.columns nearest in
-          it.frame ∙ (λ i. cond (all.0 i) (frame_of c (same i) (all.1 i)) [])
+          it.frame ∙ (λ i. cond (all.0 i || c.pass_bad) (frame_of c (same i) (all.1 i)) [])
           ∙ frame-restored c u.frame received ok is near.uncoded;
     }
 

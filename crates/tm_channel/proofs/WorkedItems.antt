@@ -22,6 +22,7 @@ use Rattle.tm_rs_solve.specs.declared.answers.Answer.TheVariants.{Fixed, Beyond}
 use Rattle.tm_sync.specs.Places.{wrong_bits, match_of, are_verified, place_at, places_from}
 use Rattle.tm_codeblock.specs.ReceivedCodeblock.{codeblock_in, received_columns, frame_of}
 use Rattle.tm_channel.specs.Items.{AreItems}
+use Rattle.tm_channel.proofs.HasItems.{fixed-left}
 use Rattle.tm_channel.specs.SentStream.{IsSent}
 
 -- no outer code, frames of one octet, no randomizer, and one place bridged in a row
@@ -101,7 +102,18 @@ row_fixed : AreItems coded (bits_of (0x1A ∷ 0xCF ∷ 0xFC ∷ 0x1D ∷ 0x07 �
     } ∷ [])
 unfolding low_bits wrong_bits match_of are_verified place_at places_from codeblock_in received_columns frame_of
 row_fixed = (
-  record { place = refl; words = replicate 33 0 ∷ []; nearest = ((zeros, refl, omega arith), tt); frame = refl },
+  record {
+    place = refl;
+    words = replicate 33 0 ∷ [];
+    nearest = (
+      record {
+        nearest = (zeros, refl, omega arith);
+        left = fixed-left 1 (7 ∷ replicate 32 0) (replicate 33 0);
+      },
+      tt,
+    );
+    frame = refl;
+  },
   tt,
 )
 
@@ -132,7 +144,34 @@ row_beyond : AreItems (record coded { repair = 0 }) (bits_of (0x1A ∷ 0xCF ∷ 
       frame = [];
     } ∷ [])
 unfolding low_bits wrong_bits match_of are_verified place_at places_from codeblock_in received_columns frame_of off
-row_beyond = (record { place = refl; words = [] ∷ []; nearest = (off-beyond, tt); frame = refl }, tt)
+row_beyond = (
+  record {
+    place = refl;
+    words = off ∷ [];
+    nearest = (record { nearest = off-beyond; left = λ _. refl }, tt);
+    frame = refl;
+  },
+  tt,
+)
+
+-- where what is left of it is passed, its data stands in the frame as it was received
+row_passed : AreItems (record coded { repair = 0; pass_bad = true })
+    (bits_of (0x1A ∷ 0xCF ∷ 0xFC ∷ 0x1D ∷ replicate 32 0 ++ 7 ∷ []))
+    (record {
+      found = record { place = 0; distance = 0; bridged = false; inverted = false };
+      answers = Beyond ∷ [];
+      frame = 0 ∷ [];
+    } ∷ [])
+unfolding low_bits wrong_bits match_of are_verified place_at places_from codeblock_in received_columns frame_of off
+row_passed = (
+  record {
+    place = refl;
+    words = off ∷ [];
+    nearest = (record { nearest = off-beyond; left = λ _. refl }, tt);
+    frame = refl;
+  },
+  tt,
+)
 
 -- ---- columns and frames
 

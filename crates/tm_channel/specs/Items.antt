@@ -1,5 +1,5 @@
 -- What a receiver says of each codeblock that it finds in a list of bits.
-use Rattle.std.specs.Prelude.{◌≡◌, ℕ, Bool, true, false, if◌then◌else◌, List, [], ◌∷◌, ◌++◌}
+use Rattle.std.specs.Prelude.{◌≡◌, ℕ, Bool, true, false, ◌||◌, if◌then◌else◌, List, [], ◌∷◌, ◌++◌}
 use Rattle.tm_config.specs.Configuration.{Configuration, correctable}
 use Rattle.tm_rs_code.specs.Nearest.{IsNearest}
 use Rattle.tm_rs_solve.specs.declared.answers.Answer.{Answer}
@@ -15,13 +15,18 @@ pub record ItemValue : Type 0 where
   pub answers : List Answer
   pub frame : List ℕ
 
--- for each column its answer, and the codeword nearest to it within the repair bound; of a column
--- beyond it, any word
+-- the answer of a column, and the codeword nearest to it within the repair bound; of a column
+-- beyond it, the column as it was received
+pub record IsRepaired (c : Configuration) (column : List ℕ) (answer : Answer) (word : List ℕ)
+    : Type 0 where
+  pub nearest : IsNearest (correctable c.code) c.repair column (found answer word)
+  pub left : answer ≡ Beyond → word ≡ column
+
+-- so of each column
 abbrev pub AreNearest : Configuration → List (List ℕ) → List Answer → List (List ℕ) → Type 0
 AreNearest c [] [] [] = Unit {0}
 AreNearest c (column ∷ columns) (answer ∷ answers) (word ∷ words) =
-    IsNearest (correctable c.code) c.repair column (found answer word)
-    × AreNearest c columns answers words
+    IsRepaired c column answer word × AreNearest c columns answers words
 AreNearest c columns answers words = ⊥
 
 -- no answer is Beyond
@@ -30,13 +35,17 @@ are_fixed [] = true
 are_fixed (Fixed d ∷ answers) = are_fixed answers
 are_fixed (Beyond ∷ answers) = false
 
--- what is said of the codeblock of a place; there is a frame where every column is repaired
+-- whether a frame is given: where every column is repaired, or what is left of it is passed too
+abbrev pub is_given : Configuration → List Answer → Bool
+is_given c answers = are_fixed answers || c.pass_bad
+
+-- what is said of the codeblock of a place, and its frame where that is given
 pub record IsItem (c : Configuration) (f : Found) (codeblock : List ℕ)
     (item : ItemValue) : Type 0 where
   pub place : item.found ≡ f
   pub words : List (List ℕ)
   pub nearest : AreNearest c (received_columns c codeblock) item.answers words
-  pub frame : item.frame ≡ (if are_fixed item.answers then frame_of c codeblock words else [])
+  pub frame : item.frame ≡ (if is_given c item.answers then frame_of c codeblock words else [])
 
 -- an item for each of these places
 abbrev pub AreItemsOf : Configuration → List Bool → List Found → List ItemValue → Type 0
@@ -64,3 +73,11 @@ frames_of (item ∷ items) = item.frame ++ frames_of items
 -- the same item in the other polarity
 abbrev pub complemented_item : ItemValue → ItemValue
 complemented_item item = record item { found = complemented_place item.found }
+
+-- the same, but that what is left of frames with an uncorrectable column is dropped
+abbrev pub dropping : Configuration → Configuration
+dropping c = record c { pass_bad = false }
+
+-- the same item, with a frame only where every column is repaired
+abbrev pub dropped_item : ItemValue → ItemValue
+dropped_item item = record item { frame = if are_fixed item.answers then item.frame else [] }

@@ -6,7 +6,7 @@ use Rattle.tm_rs_solve.specs.declared.answers.Answer.TheVariants.{Beyond}
 use Rattle.tm_workers.specs.declared.words.Word.{Word}
 use Rattle.tm_codeblock.specs.ReceivedCodeblock.{column_count, received_columns}
 use Rattle.tm_channel.specs.ColumnWords.{all_symbols}
-use Rattle.tm_channel.specs.Items.{ItemValue, AreNearest, are_fixed}
+use Rattle.tm_channel.specs.Items.{ItemValue, AreNearest, is_given}
 use Rattle.tm_channel.specs.Receiving.{StoredCodeblock}
 use Rattle.tm_channel.specs.declared.slot.Slot.{Slot}
 
@@ -19,7 +19,7 @@ abbrev pub item_in : Configuration → Slot → ItemValue
 item_in c slot = record {
   found = slot.found;
   answers = take (column_count c) slot.answers;
-  frame = if are_fixed (take (column_count c) slot.answers) then take c.frame_length slot.frame
+  frame = if is_given c (take (column_count c) slot.answers) then take c.frame_length slot.frame
       else [];
 }
 

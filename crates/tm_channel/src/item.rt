@@ -21,7 +21,8 @@ pub struct Item<'a> {
     pub inverted: bool,
     /// What became of each column; none with no outer code.
     pub answers: &'a [Answer],
-    /// The octets of the transfer frame; none where a column is uncorrectable.
+    /// The octets of the transfer frame. Where a column is uncorrectable there are none, or where what is left of such a
+    /// frame is passed, that column's data octets stand in it as they were received.
     pub frame: &'a [u8],
 }
 

@@ -15,7 +15,7 @@ ghost use Rattle.tm_inner.specs.Phase.{IsChosen, with_phase};
 ghost use Rattle.tm_codeblock.specs.Frames.{whole_frames};
 ghost use Rattle.tm_codeblock.specs.ReceivedCodeblock.{received_columns};
 ghost use Rattle.tm_channel.specs.Sent.{cadus, sent, sent_phase};
-ghost use Rattle.tm_channel.specs.Items.{ItemValue, frames_of, complemented_item};
+ghost use Rattle.tm_channel.specs.Items.{ItemValue, frames_of, complemented_item, dropped_item, dropping};
 ghost use Rattle.tm_channel.specs.declared.totals.Totals.{Totals};
 ghost use Rattle.tm_channel.specs.Handing.{AreReceived, AreReceivedDue, AreReceivedFirst, AreReceivedPrefix, clean_totals};
 ghost use Rattle.tm_channel.specs.Receive.{Receive, ReceiveDue, ReceiveFirst, ReceivePrefix};
@@ -27,12 +27,15 @@ use tm_inner::{clean_inner_law, due_bits_law, inner_law};
 use tm_viterbi::complemented_blocks_law;
 use tm_windows::{closed_prefix_law, due_windows_law, phase_law, whole_window_law};
 
-/// Received octets come to one list of items. It does nothing.
+/// Received octets come to one list of items. Where what is left of frames with an uncorrectable column is passed too,
+/// these are the same items but for such frames. It does nothing.
 pub fn items_law()
     ensures exists { (c : Configuration) (phase : ℕ) (octets : List ℕ) → IsAccepted c
         → (items : List ItemValue) × Receive c phase octets items }
     ensures one { (c : Configuration) (phase : ℕ) (octets : List ℕ) (items others : List ItemValue) → IsAccepted c
         → Receive c phase octets items → Receive c phase octets others → items ≡ others }
+    ensures passed { (c : Configuration) (phase : ℕ) (octets : List ℕ) (items : List ItemValue)
+        → Receive c phase octets items → Receive (dropping c) phase octets (map dropped_item items) }
 {
     inner_law();
 }

@@ -59,7 +59,7 @@ impl Slot {
         ensures { result ≡ item_in config.now self.now }
     {
         let answers = &self.answers[..column_count(config)];
-        let size = if are_fixed(answers) {
+        let size = if are_fixed(answers) || config.values().pass_bad {
             config.length() as usize
         } else {
             0

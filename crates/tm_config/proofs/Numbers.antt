@@ -66,4 +66,5 @@ configuration-has raw none =
       phase = phase-has raw.phase pass.phase;
       polarity = numbered-has number_of_sought all_sought Given raw.polarity pass.polarity;
       pack = numbered-has number_of_switch all_switches false raw.pack pass.pack;
+      bad = numbered-has number_of_switch all_switches false raw.bad pass.bad;
     }

@@ -44,6 +44,7 @@ impl Config {
     /// - `Tolerance`: 0 to 8. `Repair`: `None`, or 0 to E. `Soft`, `Start`: 0 or 1. `Skip`: 0 to 15.
     /// - `Workers`: 1 to 64. `Limit`: 1 to 2^40. `Fly`: 0 to 15. `Keep`: 64 to 65,536. `Ahead`: 0 to 4,096.
     /// - `Phase`: 0 to 2. `Polarity`: 0 or 1. `Batch`: 1 to 32. `Pack`: 0 or 1. `Verify`: 0 to 7.
+    /// - `Bad`: 0 or 1.
     pub fn check(raw: &Raw) -> Result<Config, ConfigError>
         ensures ok { OnOk result (refusal_of_raw raw.now ≡ None) }
         ensures config { IfOk result (λ config. config ≡ configuration_of raw.now) }
@@ -276,6 +277,14 @@ impl Config {
         self.values.verify
     }
 
+    /// Whether what is left of a frame with an uncorrectable column is given: 1, or 0 where it is dropped.
+    pub fn bad(&self) -> u64
+        ensures value { result ≡ number_of_switch self.now.pass_bad }
+        ensures accepted { IsAccepted self.now }
+    {
+        number_of_switch(self.values.pass_bad)
+    }
+
     /// The same configuration, but that a phase which is to be found is not followed.
     pub fn unfollowed(&self) -> Config
         ensures value { result ≡ unfollowed self.now }
@@ -320,5 +329,6 @@ fn resolved(raw: &Raw) -> Values
         batch: raw.batch,
         pack: is_on(raw.pack),
         verify: raw.verify,
+        pass_bad: is_on(raw.bad),
     }
 }

@@ -29,6 +29,7 @@ pub enum ConfigError {
     Batch,
     Pack,
     Verify,
+    Bad,
 }
 
 impl ConfigError {
@@ -59,6 +60,7 @@ impl ConfigError {
             ConfigError::Batch => "batch",
             ConfigError::Pack => "pack",
             ConfigError::Verify => "verify",
+            ConfigError::Bad => "bad",
         }
     }
 

@@ -10,7 +10,7 @@ static EACH_OPTION: &str = "\
 tmchan encode --code rs8 --depth 4 --length 956 --inner 7/8 --invert off --randomize off \
 --basis poly --tolerance 8 --repair 7 --soft i8 --start any --skip 15 --workers 64 \
 --limit 1099511627776 --fly 14 --keep 65536 --ahead 4096 --phase find --polarity find --batch 7 \
---pack off --verify 6";
+--pack off --verify 6 --bad pass";
 
 static EACH_VALUE: Raw = Raw {
     code: 8,
@@ -35,10 +35,11 @@ static EACH_VALUE: Raw = Raw {
     batch: 7,
     pack: 0,
     verify: 6,
+    bad: 1,
 };
 
 // An option, a word for it, and the number that stands for that word.
-static OPTION_WORDS: [(&str, &str, u64); 26] = [
+static OPTION_WORDS: [(&str, &str, u64); 28] = [
     ("code", "rs16", 16),
     ("code", "rs8", 8),
     ("code", "none", 0),
@@ -65,6 +66,8 @@ static OPTION_WORDS: [(&str, &str, u64); 26] = [
     ("polarity", "find", 1),
     ("pack", "on", 1),
     ("pack", "off", 0),
+    ("bad", "drop", 0),
+    ("bad", "pass", 1),
 ];
 
 // The value of an option that has words.
@@ -80,6 +83,7 @@ fn value_of(raw: &Raw, option: &str) -> Option<u64> {
         "phase" => Some(raw.phase),
         "polarity" => Some(raw.polarity),
         "pack" => Some(raw.pack),
+        "bad" => Some(raw.bad),
         _ => None,
     }
 }

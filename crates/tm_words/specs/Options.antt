@@ -88,6 +88,10 @@ form_words = (codes "u8", number_of_form Unsigned) ∷ (codes "i8", number_of_fo
 abbrev pub start_words : List (Text × ℕ)
 start_words = (codes "zero", number_of_start Zero) ∷ (codes "any", number_of_start Any) ∷ []
 
+-- what becomes of a frame with an uncorrectable column
+abbrev pub bad_words : List (Text × ℕ)
+bad_words = (codes "drop", number_of_switch false) ∷ (codes "pass", number_of_switch true) ∷ []
+
 -- the options of every command
 abbrev pub options : List OptionRow
 options =
@@ -113,6 +117,7 @@ options =
     ∷ (codes "batch", [])
     ∷ (codes "pack", switch_words)
     ∷ (codes "verify", [])
+    ∷ (codes "bad", bad_words)
     ∷ []
 
 -- the options that `soak` has besides
@@ -160,4 +165,5 @@ raw_of rows = record {
   batch = unwrap_or (number_given (codes "batch") rows) default_raw.batch;
   pack = unwrap_or (number_given (codes "pack") rows) default_raw.pack;
   verify = unwrap_or (number_given (codes "verify") rows) default_raw.verify;
+  bad = unwrap_or (number_given (codes "bad") rows) default_raw.bad;
 }

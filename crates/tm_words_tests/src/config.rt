@@ -45,7 +45,8 @@ polarity=2 batch=0|polarity\n\
 batch=0|batch\n\
 batch=33 pack=2|batch\n\
 pack=2 verify=8|pack\n\
-verify=8|verify\n";
+verify=8 bad=2|verify\n\
+bad=2|bad\n";
 
 fn check_refused(rt: &impl Abort, alloc: Global) -> Result<(), AllocError> {
     for row in REFUSED.lines() {
@@ -64,7 +65,7 @@ fn check_refused(rt: &impl Abort, alloc: Global) -> Result<(), AllocError> {
 
 #[test]
 fn refuses_the_first_value_out_of_range(rt: HostRuntime) -> Result<(), Fail> {
-    assert!(rt; REFUSED.lines().count() == 32);
+    assert!(rt; REFUSED.lines().count() == 33);
     check_refused(&rt, rt.alloc())?;
     Ok(())
 }
@@ -144,6 +145,7 @@ fn answers_each_value(rt: HostRuntime) {
         batch: 31,
         pack: 0,
         verify: 7,
+        bad: 1,
     };
     match Config::check(&raw) {
         Ok(config) => check_values(&rt, &config),
@@ -152,7 +154,7 @@ fn answers_each_value(rt: HostRuntime) {
 }
 
 fn check_values(rt: &impl Abort, config: &Config) {
-    assert!(rt; frames_of(config) == [8, 2, 4, 0, 1, 7]);
+    assert!(rt; frames_of(config) == [8, 2, 4, 0, 1, 7, 1]);
     assert!(rt; config.invert() == Some(0));
     assert!(rt; symbols_of(config) == [78, 1, 1, 15, 2]);
     assert!(rt; search_of(config) == [8, 15, 7, 1, 0]);
@@ -160,7 +162,7 @@ fn check_values(rt: &impl Abort, config: &Config) {
 }
 
 // Of the frames and their code.
-fn frames_of(config: &Config) -> [u64; 6] {
+fn frames_of(config: &Config) -> [u64; 7] {
     [
         config.code(),
         config.depth(),
@@ -168,6 +170,7 @@ fn frames_of(config: &Config) -> [u64; 6] {
         config.randomize(),
         config.basis(),
         config.repair(),
+        config.bad(),
     ]
 }
 

@@ -1,3 +1,4 @@
+use Rattle.tm_channel.proofs.DroppedItems.{received-dropped}
 use Rattle.tm_channel.proofs.HasItems.{has-items}
 use Rattle.tm_channel.proofs.ReceivedOctets.{received-only}
 use Rattle.tm_channel.proofs.laws.items_law.Goals as goal
@@ -7,3 +8,6 @@ returns-clause-exists c = has-items c.inner_law.ensures.exists
 
 pub returns-clause-one : goal.returns-clause-one
 returns-clause-one c = received-only c.inner_law.ensures.one
+
+pub returns-clause-passed : goal.returns-clause-passed
+returns-clause-passed c = received-dropped

@@ -21,4 +21,5 @@ returns c = c.first_error.ensures ∙ (rw (
   c.is_choice-4.ensures,
   c.is_within-4.ensures,
   c.is_choice-5.ensures,
+  c.is_choice-6.ensures,
 ) refl)
