@@ -29,8 +29,9 @@ def decode(data, ended, c):
     found = found if ended else found[:len(found) // c.batch * c.batch]
     last = r.slips + [last_line(found, r.bits)] if ended else []
     shown = r.head + [line for _, line, _ in found] + last
-    frames = [frame for frame, _, _ in found if frame is not None]
-    return b"".join(frames), lines(shown), 1 if len(frames) < len(found) else 0
+    bad = ["x" in counts for _, _, counts in found]
+    frames = [frame for (frame, _, _), is_bad in zip(found, bad) if c.pass_bad or not is_bad]
+    return b"".join(frames), lines(shown), 1 if any(bad) else 0
 
 def report(data, ended, c):
     _, notes, status = decode(data, ended, c)

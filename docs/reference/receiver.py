@@ -26,16 +26,17 @@ def places(bits, c):
         at, follows = at + unit, True
 
 def repaired(block, c):
-    """The frame, None where a column is uncorrectable, and how many symbols were wrong in each."""
+    """The frame, with the octets of a column that is uncorrectable as they came, and how many
+    symbols were wrong in each."""
     if not c.E:
         return block, []
-    frame, counts = bytearray(c.length), []
+    frame, counts = bytearray(block[:c.length]), []
     for i in range(c.depth):
         nearest = nearest_codeword(elements(block[i::c.depth], c), [], c.E, c.repair)
         counts.append(nearest[1] if nearest else "x")
         if nearest:
             frame[i::c.depth] = octets_from(nearest[0][:c.length // c.depth], c)
-    return None if "x" in counts else bytes(frame), counts
+    return bytes(frame), counts
 
 def items(bits, c):
     """Of each codeblock the frame, the line, and for each column how many symbols were wrong."""
@@ -47,6 +48,6 @@ def items(bits, c):
         yield frame, line, counts
 
 def last_line(found, bits):
-    bad = sum(frame is None for frame, _, _ in found)
+    bad = sum("x" in counts for _, _, counts in found)
     fixed = sum(n for _, _, counts in found for n in counts if n != "x")
     return f"frames {len(found) - bad} bad {bad} fixed {fixed} bits {len(bits)}"
