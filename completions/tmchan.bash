@@ -25,6 +25,7 @@ _tmchan() {
         --depth) words=(1 2 3 4 5 8) ;;
         --inner) words=(none 1/2 2/3 3/4 5/6 7/8) ;;
         --invert | --randomize | --pack) words=(on off) ;;
+        --bad) words=(drop pass) ;;
         --basis) words=(dual poly) ;;
         --soft) words=(u8 i8) ;;
         --start) words=(zero any) ;;
@@ -33,7 +34,7 @@ _tmchan() {
         --*) ;;
         *)
             words=(--code --depth --length --inner --invert --randomize --basis --tolerance --repair --soft --start --skip --workers
-                --limit --fly --keep --ahead --phase --polarity --batch --pack --verify)
+                --limit --fly --keep --ahead --phase --polarity --batch --pack --verify --bad)
             if [ "${COMP_WORDS[1]}" = soak ]; then
                 words+=(--seed --frames --hits)
             fi
