@@ -5,6 +5,8 @@
 #[cfg(test)]
 mod channel;
 #[cfg(test)]
+mod places;
+#[cfg(test)]
 mod receiving;
 #[cfg(test)]
 mod sync;

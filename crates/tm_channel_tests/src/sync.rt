@@ -94,7 +94,7 @@ fn check_search(
     Ok(())
 }
 
-fn plain(place: u64, distance: u8) -> Found {
+pub fn plain(place: u64, distance: u8) -> Found {
     Found {
         place,
         distance,
@@ -103,7 +103,7 @@ fn plain(place: u64, distance: u8) -> Found {
     }
 }
 
-fn bridged(place: u64, distance: u8) -> Found {
+pub fn bridged(place: u64, distance: u8) -> Found {
     Found {
         place,
         distance,
@@ -112,7 +112,7 @@ fn bridged(place: u64, distance: u8) -> Found {
     }
 }
 
-fn inverted(place: u64, distance: u8) -> Found {
+pub fn inverted(place: u64, distance: u8) -> Found {
     Found {
         place,
         distance,
