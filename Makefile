@@ -6,6 +6,7 @@
 #                                  (and below DESTDIR, where that is set); `install-program` and `install-lib` each alone
 #   make uninstall PREFIX=/usr/local   removes what these put there; so `uninstall-program` and `uninstall-lib`
 #   make dist                      what is published, in dist/ (tools/dist)
+#   make wheel                     the Python package with the library in it, in dist/ (tools/wheel)
 #
 # Each takes TARGET, x86_64-unknown-linux-gnu (the default) or aarch64-unknown-linux-gnu, and CPU, one of `rattle build --help`. For x86-64
 # with no CPU all runs on x86-64-v2, and the decoding of the inner code is there for x86-64-v3 too, which is chosen where it pays. What is
@@ -46,7 +47,7 @@ BASH_COMPLETIONS = share/bash-completion/completions
 ZSH_COMPLETIONS = share/zsh/site-functions
 FISH_COMPLETIONS = share/fish/vendor_completions.d
 
-.PHONY: lib program rows install install-program install-lib uninstall uninstall-program uninstall-lib dist version
+.PHONY: lib program rows install install-program install-lib uninstall uninstall-program uninstall-lib dist wheel version
 .DELETE_ON_ERROR:
 .SECONDARY:
 .NOTPARALLEL:
@@ -175,3 +176,7 @@ install-lib: lib
 uninstall-lib:
 	rm -f $(addprefix $(DESTDIR)$(PREFIX)/,include/tmchan.h $(addprefix $(LIBDIR)/,pkgconfig/tmchan.pc libtmchan.a libtmchan.so $(SONAME) \
 	    libtmchan.so.$(VERSION)))
+
+# It needs Debian's python3-setuptools and python3-wheel.
+wheel: lib
+	tools/wheel $(OUT)/libtmchan.so

@@ -1,0 +1,283 @@
+"""The commands as a user has them, in processes of their own."""
+import json
+import os
+import pathlib
+import re
+import subprocess
+import sys
+
+import pytest
+from links import PROGRAM, TOP, frames, levels, noise, soft, tmchan
+
+PYTHON = os.path.join(TOP, "docs", "PYTHON.md")
+KNOWN = ["--input", "u8", "--depth", "2", "--length", "100"]
+LINK, SENT = tmchan.Link(depth=2, length=100), frames(30, 100)
+
+
+def run(*words, given=None, output=subprocess.PIPE):
+    environment = {**os.environ, "PYTHONPATH": os.pathsep.join(sys.path)}
+    ran = subprocess.run(
+        [sys.executable, "-m", "tmchan", *words], input=given, stdout=output, stderr=subprocess.PIPE, env=environment
+    )
+    return ran.returncode, ran.stdout, ran.stderr.decode()
+
+
+@pytest.fixture
+def recording(tmp_path):
+    path = tmp_path / "a recording"
+    path.write_bytes(LINK.send(SENT))
+    return str(path)
+
+
+def test_frames_to_a_file_and_back(tmp_path):
+    (tmp_path / "frames").write_bytes(b"".join(SENT))
+    status, _, said = run(
+        "send", "--depth", "2", "--length", "100", str(tmp_path / "frames"), "--output", str(tmp_path / "symbols")
+    )
+    assert (status, said) == (0, "") and (tmp_path / "symbols").read_bytes() == LINK.send(SENT)
+    status, written, said = run("receive", *KNOWN, str(tmp_path / "symbols"), "-o", str(tmp_path / "came"))
+    assert (status, written) == (0, b"") and (tmp_path / "came").read_bytes() == b"".join(SENT)
+    assert "30 frames of 100 octets, with 0 symbols repaired; every codeblock that was found is good." in said
+
+
+def test_pipes(recording):
+    symbols = pathlib.Path(recording).read_bytes()
+    assert run("receive", *KNOWN, "-", given=symbols)[:2] == (0, b"".join(SENT))
+    assert run("receive", *KNOWN, "--from", "5", "-", given=b"12345" + symbols)[:2] == (0, b"".join(SENT))
+    assert run("receive", *KNOWN, "--from", "5", recording)[:2] == (0, b"".join(SENT[1:]))
+    assert run("send", "--depth", "2", "--length", "100", "-", given=b"".join(SENT))[:2] == (0, symbols)
+    assert run("receive", *KNOWN, recording, recording)[:2] == (0, b"".join(SENT + SENT))
+    assert run("receive", "--quiet", *KNOWN, recording) == (0, b"".join(SENT), "")
+
+
+def test_forms_of_output(recording):
+    assert run("receive", *KNOWN, "--form", "cadu", recording)[1] == tmchan.Link(
+        depth=2, length=100, inner="none"
+    ).send(SENT)
+    kiss = run("receive", *KNOWN, "--form", "kiss", recording)[1]
+    parts = kiss.split(b"\xc0")
+    assert set(parts[::2]) == {b""}
+    assert [it.replace(b"\xdb\xdc", b"\xc0").replace(b"\xdb\xdd", b"\xdb") for it in parts[1::2]] == [
+        b"\0" + it for it in SENT
+    ]
+
+
+def fields_of(kind):
+    """The fields of a line, as docs/PYTHON.md has them: name, and type."""
+    text = pathlib.Path(PYTHON).read_text().split(f"<!-- json: {kind} -->")[1].split("<!--")[0]
+    return dict(re.findall(r"^\| `(\w+)` \| (\w+)", text, re.M))
+
+
+TYPES = {"number": (int,), "text": (str,), "truth": (bool,), "list": (list,), "object": (dict,)}
+
+
+def test_json_lines(recording, tmp_path):
+    symbols = bytearray(pathlib.Path(recording).read_bytes())
+    symbols[8000:9500] = bytes(1500)
+    (tmp_path / "broken").write_bytes(symbols)
+    status, written, _ = run(
+        "receive",
+        *KNOWN,
+        "--json",
+        "--check",
+        "--counters",
+        "tm",
+        "-o",
+        str(tmp_path / "frames"),
+        str(tmp_path / "broken"),
+    )
+    lines = [json.loads(line) for line in written.decode().splitlines()]
+    assert status == 1 and [it["kind"] for it in lines] == ["codeblock"] * (len(lines) - 1) + ["end"]
+    for line in lines:
+        fields, optional = fields_of(line["kind"]), fields_of(line["kind"] + ", where asked")
+        assert list(line)[:2] == ["version", "kind"] and line["version"] == 1
+        assert [it for it in fields if it not in line] == [] and [
+            it for it in line if it not in {**fields, **optional}
+        ] == []
+        for name, value in line.items():
+            assert type(value) in TYPES[{**fields, **optional}[name]] or (
+                value is None and name in ("channel", "missing")
+            )
+    good = [it for it in lines[:-1] if it["good"]]
+    assert len(good) == lines[-1]["good"] and lines[-1]["bad"] == len(lines) - 1 - len(good) > 0
+    assert [it["length"] for it in good] == [100] * len(good) and (tmp_path / "frames").stat().st_size == 100 * len(
+        good
+    )
+    assert all(None in it["repaired"] for it in lines[:-1] if not it["good"])
+    assert lines[-1]["words"] == KNOWN
+
+
+def test_checks_and_counters(tmp_path):
+    import binascii
+
+    made = []
+    for number in (0, 1, 2, 5, 6, 7):
+        frame = bytes([0, 0x2A, number, 254 + number & 255]) + bytes(94)
+        made.append(frame + binascii.crc_hqx(frame, 0xFFFF).to_bytes(2, "big"))
+    made[3] = made[3][:50] + b"\1" + made[3][51:]
+    (tmp_path / "symbols").write_bytes(LINK.send(made))
+    status, written, said = run("receive", *KNOWN, "--check", "--counters", "tm", str(tmp_path / "symbols"))
+    assert (status, written) == (0, b"".join(made))
+    assert "Frame check (outside of what is proved): 1 of 6 frames fail." in said
+    assert "Virtual channel 5 (outside of what is proved): 6 frames, 2 missing by the counter." in said
+    aos = [
+        bytes([0x40, 0x05]) + (2**24 - 1 + number & 0xFFFFFF).to_bytes(3, "big") + bytes(95) for number in (0, 1, 4)
+    ]
+    (tmp_path / "symbols").write_bytes(LINK.send(aos))
+    assert (
+        "Virtual channel 5 (outside of what is proved): 3 frames, 2 missing by the counter."
+        in run("receive", *KNOWN, "--counters", "aos", str(tmp_path / "symbols"))[2]
+    )
+
+
+def test_statuses_and_sentences(recording, tmp_path):
+    status, written, said = run("receive", "--input", "u8", "--depth", "1", recording)
+    assert (status, written) == (1, b"") and ("No sync marker was found" in said or "uncorrectable" in said)
+    for words, sentence in (
+        (["--depth", "6", recording], "depth: the depth is none of"),
+        (["--depth", "five", recording], "invalid int value"),
+        (["--no-such", recording], "unrecognized arguments"),
+        ([], "required: FILE"),
+        (["--input", "mp3", recording], "invalid choice"),
+        (["--json", "-o", "-", recording], "can't both go"),
+        (["--from", "-1", recording], "below 0"),
+    ):
+        status, written, said = run("receive", *words)
+        assert (status, written) == (2, b"") and sentence in said
+    assert run("receive", *KNOWN, str(tmp_path / "missing"))[::2] == (
+        3,
+        f"tmchan-receive: {tmp_path}/missing can't be read: No such file or directory\n",
+    )
+    assert run("receive", *KNOWN, str(tmp_path))[0] == 3
+    assert run("receive", *KNOWN, recording, "-o", str(tmp_path / "no" / "folder"))[0] == 4
+    with open("/dev/full", "wb") as full:
+        status, _, said = run("receive", *KNOWN, recording, output=full)
+        assert (
+            status == 4
+            and "standard output can't be written: No space left on device" in said
+            and "Traceback" not in said
+        )
+        status, _, said = run("receive", *KNOWN, "--json", recording, output=full)
+        assert status == 4 and "Traceback" not in said
+        assert run("send", recording, output=full)[0] == 4
+    assert run("send", "--length", "7", "-", given=bytes(10))[0::2] == (1, "3 octets are left over: frames have 7.\n")
+    assert run("send", "--length", "999", "-", given=b"")[0] == 2
+    assert run()[0] == run("recieve")[0] == 2
+    for name in ("receive", "send", "find"):
+        status, written, _ = run(name, "--help")
+        assert status == 0 and b"Status 0" in written
+
+
+def test_empty_and_garbage(tmp_path):
+    (tmp_path / "empty").write_bytes(b"")
+    (tmp_path / "garbage").write_bytes(os.urandom(5000))
+    for name in ("empty", "garbage"):
+        for words in (KNOWN, ["--input", "f32", "--depth", "5"], ["--input", "packed-lsb", "--inner", "none"], []):
+            if "f32" in words:
+                pytest.importorskip("numpy")
+            status, written, said = run("receive", *words, str(tmp_path / name))
+            assert (status, written) == (1, b"") and "Traceback" not in said
+    assert run("find", str(tmp_path / "empty"))[0] == 1
+    assert run("receive", "-", given=b"")[0] == 1
+
+
+def wave(path, kind, bits, samples, channels=1, size=None):
+    data = samples.tobytes()
+    size = len(data) if size is None else size
+    head = b"WAVEfmt \x10\0\0\0" + b"".join(
+        it.to_bytes(n, "little")
+        for it, n in ((kind, 2), (channels, 2), (8000, 4), (8000 * bits // 8, 4), (bits // 8, 2), (bits, 2))
+    )
+    head += b"LIST\x05\0\0\0abcde\0data" + size.to_bytes(4, "little")
+    path.write_bytes(b"RIFF" + (len(head) + len(data)).to_bytes(4, "little") + head + data)
+
+
+def test_waves(tmp_path):
+    numpy = pytest.importorskip("numpy")
+    floats = levels(LINK.send(SENT), 3)
+    path = tmp_path / "pass.wav"
+    for kind, bits, samples in (
+        (1, 16, (floats * 3000).astype("<i2")),
+        (1, 8, soft(floats)),
+        (3, 32, floats),
+        (3, 64, floats.astype("<f8")),
+    ):
+        for size in (None, 0):
+            wave(path, kind, bits, samples, size=size)
+            assert run("receive", "--depth", "2", "--length", "100", "--inner", "1/2", str(path))[:2] == (
+                0,
+                b"".join(SENT),
+            )
+    assert run("receive", "--depth", "2", "--length", "100", "-", given=path.read_bytes())[:2] == (0, b"".join(SENT))
+    wave(path, 1, 24, floats)
+    assert run("receive", str(path))[::2] == (
+        3,
+        f"tmchan-receive: {path}: a WAV file of kind 1 with 24 bits a sample is not read\n",
+    )
+    path.write_bytes(b"RIFF1234WAVEjunk")
+    assert run("receive", str(path))[0] == 3
+    assert numpy
+
+
+def test_raw_forms(tmp_path):
+    numpy = pytest.importorskip("numpy")
+    floats = levels(LINK.send(SENT), 4)
+    hard = floats > 0
+    for form, data in (
+        ("i8", (floats * 32).astype("i1")),
+        ("i16", (floats * 900).astype("<i2")),
+        ("i16be", (floats * 900).astype(">i2")),
+        ("f32", floats),
+        ("f32be", floats.astype(">f4")),
+        ("f64", floats.astype("<f8")),
+        ("f64be", floats.astype(">f8")),
+        ("unpacked", hard.astype("u1")),
+        ("packed", numpy.packbits(hard)),
+        ("packed-lsb", numpy.packbits(hard, bitorder="little")),
+    ):
+        (tmp_path / form).write_bytes(data.tobytes())
+        assert run("receive", "--input", form, *KNOWN[2:], str(tmp_path / form))[:2] == (0, b"".join(SENT)), form
+    swapped = soft(floats).reshape(-1, 2)[:, ::-1].tobytes()
+    (tmp_path / "swapped").write_bytes(swapped)
+    assert run("receive", "--swap", *KNOWN, str(tmp_path / "swapped"))[:2] == (0, b"".join(SENT))
+    bits = tmchan.Link(depth=2, length=100, inner="none").send(SENT)
+    (tmp_path / "bits").write_bytes(bytes(it for it in bits))
+    assert run("receive", "--input", "packed", "--inner", "none", *KNOWN[2:], str(tmp_path / "bits"))[:2] == (
+        0,
+        b"".join(SENT),
+    )
+
+
+def test_find_prints_lines_that_work(tmp_path):
+    pytest.importorskip("numpy")
+    head = b"not symbols, but 31 octets more"
+    floats = levels(LINK.send(SENT * 4), 4)
+    path = tmp_path / "it's a pass"
+    path.write_bytes(head + soft(floats).tobytes())
+    status, written, said = run("find", "--input", "u8", "--from", str(len(head)), str(path))
+    assert (status, said) == (0, "")
+    lines = [line.strip() for line in written.decode().splitlines()]
+    line = next(it for it in lines if it.startswith("tmchan-receive "))
+    bin_folder = tmp_path / "bin"
+    bin_folder.mkdir()
+    (bin_folder / "tmchan-receive").write_text(f"#!/bin/sh\nexec '{sys.executable}' -m tmchan receive \"$@\"\n")
+    (bin_folder / "tmchan-receive").chmod(0o755)
+    if PROGRAM:
+        (bin_folder / "tmchan").symlink_to(PROGRAM)
+    environment = {**os.environ, "PYTHONPATH": os.pathsep.join(sys.path), "PATH": f"{bin_folder}:{os.environ['PATH']}"}
+    for command in [line] + [it for it in lines if "tmchan decode" in it and PROGRAM]:
+        subprocess.run(command, shell=True, check=True, cwd=tmp_path, env=environment, stderr=subprocess.DEVNULL)
+        assert (tmp_path / "frames").read_bytes() == b"".join(SENT * 4)
+    assert any("tmchan decode" in it for it in lines)
+    path.write_bytes(soft(noise(30_000)).tobytes())
+    status, written, _ = run("find", "--places", "1", str(path))
+    assert status == 1 and b"No options were found" in written
+
+
+def test_receive_finds_what_is_not_given(tmp_path):
+    pytest.importorskip("numpy")
+    path = tmp_path / "pass"
+    path.write_bytes((levels(LINK.send(SENT * 2), 4) * 0.02).tobytes())
+    status, written, said = run("receive", str(path))
+    assert (status, written) == (0, b"".join(SENT * 2)) and "--input f32 --depth 2 --length 100" in said
+    assert run("receive", "-", given=path.read_bytes())[:2] == (0, b"".join(SENT * 2))

@@ -1,0 +1,36 @@
+"""CCSDS 131.0-B (TM Synchronization and Channel Coding) links over libtmchan, the proved library for C.
+
+    link = tmchan.Link(code="rs16", depth=5, inner="1/2")
+    symbols = link.send(frames)
+    for item in tmchan.Link.recording(depth=5).receive(chunks):
+        if item.good:
+            use(item.frame)
+
+What the library says is said here, and nothing more: a frame is good where the library says so. docs/PYTHON.md has the
+whole package.
+"""
+from .library import Closed, Refused, Uncorrectable, version as _version
+from .link import Decoder, Item, Link, Phase, Received, Receiver, Sender, Totals
+from .reed_solomon import Decoded, randomize, rs_decode, rs_encode
+from .search import Found, find
+
+__version__ = _version()
+__all__ = [
+    "Closed",
+    "Decoded",
+    "Decoder",
+    "Found",
+    "Item",
+    "Link",
+    "Phase",
+    "Received",
+    "Receiver",
+    "Refused",
+    "Sender",
+    "Totals",
+    "Uncorrectable",
+    "find",
+    "randomize",
+    "rs_decode",
+    "rs_encode",
+]

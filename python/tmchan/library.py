@@ -1,0 +1,377 @@
+"""libtmchan by ctypes. All that the package knows of include/tmchan.h stands here: structs, numbers, names and answers.
+
+The library is looked for in this order: the file that the environment's LIBTMCHAN names; libtmchan.so beside this file,
+as in a wheel; out/libtmchan.so of the clone that this file stands in; the loader's libtmchan.so.0.2.
+"""
+import contextlib
+import ctypes
+import os
+import struct
+import sys
+import threading
+from ctypes import POINTER, byref, c_int32, c_int64, c_size_t, c_uint8, c_uint32, c_uint64, c_void_p
+
+# The first two numbers of the version: a program is made anew for each second number while the first is 0.
+ABI = 0x0002
+NAME = "libtmchan.so.0.2"
+
+UNSET = 2**64 - 1
+# Outside every list and range: what stands for a word that an option does not have.
+OUTSIDE = 2**63
+
+SWITCH = {"on": 1, "off": 0}
+BASES = {"dual": 0, "poly": 1}
+CODES = {"rs16": 16, "rs8": 8, "none": 0}
+# The options in the order of tmchan_config, with the numbers of their words; None where the value is a number itself.
+# `workers` and `limit` have no effect in the library, so no caller sets them.
+OPTIONS = {
+    "code": CODES,
+    "depth": None,
+    "length": None,
+    "inner": {"none": 0, "1/2": 12, "2/3": 23, "3/4": 34, "5/6": 56, "7/8": 78},
+    "invert": SWITCH,
+    "randomize": SWITCH,
+    "basis": BASES,
+    "tolerance": None,
+    "repair": None,
+    "soft": {"u8": 0, "i8": 1},
+    "start": {"zero": 0, "any": 1},
+    "skip": None,
+    "workers": None,
+    "limit": None,
+    "fly": None,
+    "keep": None,
+    "ahead": None,
+    "phase": {"given": 0, "find": 1, "follow": 2},
+    "polarity": {"given": 0, "find": 1},
+    "batch": None,
+    "pack": SWITCH,
+    "verify": None,
+}
+
+BEYOND, ROOM, FLAGS, CLOSED, OPEN, MEMORY = -1, -2, -3, -5, -6, -7
+# Of each answer the reason's name, and a sentence.
+REFUSALS = {
+    ROOM: ("room", "an array is too long, or does not fit the others"),
+    FLAGS: ("flags", "there are not as many flags as symbols"),
+    -16: ("code", "the code is none of rs16, rs8 and none"),
+    -17: ("depth", "the depth is none of 1, 2, 3, 4, 5 and 8, or it is not 1 and there is no code"),
+    -18: ("length", "no word, or no frame, of this code and depth is so long"),
+    -19: ("inner", "the rate is none of none, 1/2, 2/3, 3/4, 5/6 and 7/8"),
+    -20: ("switch", "invert or randomize is neither on nor off"),
+    -21: ("basis", "the basis is neither dual nor poly"),
+    -22: ("tolerance", "the tolerance is not from 0 to 8"),
+    -23: ("repair", "the repair bound is not from 0 to the most that the code repairs"),
+    -24: ("soft", "the soft form is neither u8 nor i8"),
+    -25: ("start", "the start is neither zero nor any"),
+    -26: ("skip", "not from 0 to 15 symbols are skipped"),
+    -27: ("workers", "not from 1 to 64 workers"),
+    -28: ("limit", "the limit is not from 1 to 2^40"),
+    -29: ("fly", "not from 0 to 15 markers in a row may be missing"),
+    -30: ("keep", "not from 64 to 65536 steps of a window are kept"),
+    -31: ("ahead", "not from 0 to 4096 steps follow those that are kept"),
+    -32: ("phase", "the phase is none of given, find and follow"),
+    -33: ("polarity", "the polarity is neither given nor find"),
+    -34: ("batch", "not from 1 to 32 codeblocks are handed over at once"),
+    -35: ("pack", "pack is neither on nor off"),
+    -36: ("verify", "not from 0 to 7 further markers are to match"),
+}
+
+
+class Refused(ValueError):
+    """The library refuses what it was given. `reason` is the reason's name, as in the program's line `refused: depth`,
+    and `answer` the number of include/tmchan.h."""
+
+    def __init__(self, answer):
+        self.answer = answer
+        self.reason, text = REFUSALS.get(answer, (str(answer), "the library refuses this"))
+        super().__init__(f"{self.reason}: {text}")
+
+
+class Uncorrectable(Exception):
+    """No codeword lies within the repair bound of a word. It is no mistake of the caller."""
+
+    def __init__(self):
+        super().__init__("no codeword lies within the repair bound")
+
+
+class Closed(ValueError):
+    """The stream is closed: it was finished, or closed, before."""
+
+    def __init__(self):
+        super().__init__("the stream is closed")
+
+
+class Config(ctypes.Structure):
+    _fields_ = [(name, c_uint64) for name in OPTIONS]
+
+
+class Handle(ctypes.Structure):
+    _fields_ = [("is_open", c_uint64), ("at", c_void_p)]
+
+
+class PhaseFields(ctypes.Structure):
+    _fields_ = [("is_chosen", c_uint32), ("skip", c_uint32), ("cost", c_uint64)]
+
+
+class TotalsFields(ctypes.Structure):
+    _fields_ = [("bits", c_uint64), ("slips", c_uint64)]
+
+
+# tmchan_report: place, frame_length, distance, bridged, inverted, columns, repaired; and the same for numpy.
+REPORT = struct.Struct("=QQBBBB8s4x")
+REPORT_FIELDS = [
+    ("place", "u8"),
+    ("frame_length", "u8"),
+    ("distance", "u1"),
+    ("bridged", "u1"),
+    ("inverted", "u1"),
+    ("columns", "u1"),
+    ("repaired", "u1", 8),
+]
+
+# Of each call what it answers, and what it is passed. An octet array is passed as its address and length.
+_OCTETS, _CONFIG, _HANDLE = (c_void_p, c_size_t), (POINTER(Config),), (POINTER(Handle),)
+_FOUND = (*_OCTETS, c_void_p, c_size_t)
+_PHASE, _TOTALS, _COUNT = (POINTER(PhaseFields),), (POINTER(TotalsFields),), (POINTER(c_uint64),)
+_CALLS = {
+    "version": (c_uint32,),
+    "rs_encode": (c_int32, c_uint32, c_uint32, *_OCTETS, *_OCTETS),
+    "rs_decode": (c_int32, c_uint32, c_uint32, c_uint32, *_OCTETS),
+    "rs_decode_erased": (c_int32, c_uint32, c_uint32, c_uint32, *_OCTETS, *_OCTETS),
+    "randomize": (None, *_OCTETS),
+    "cadu_length": (c_int32, c_uint32, c_uint32, c_size_t),
+    "cadu": (c_int32, c_uint32, c_uint32, c_uint32, c_uint32, *_OCTETS, *_OCTETS),
+    "config_defaults": (None, *_CONFIG),
+    "config_check": (c_int32, *_CONFIG),
+    "frame_length": (c_int32, *_CONFIG),
+    "close": (c_int32, *_HANDLE),
+    "sender_room": (c_int64, *_CONFIG, c_size_t),
+    "sender_open": (c_int32, *_HANDLE, *_CONFIG),
+    "sender_push": (c_int64, *_HANDLE, *_OCTETS, *_OCTETS),
+    "sender_finish": (c_int64, *_HANDLE),
+    "decoder_room": (c_int64, *_CONFIG, c_size_t),
+    "decoder_open": (c_int32, *_HANDLE, *_CONFIG),
+    "decoder_push": (c_int64, *_HANDLE, *_OCTETS, *_OCTETS),
+    "decoder_phase": (c_int32, *_HANDLE, *_PHASE),
+    "decoder_finish": (c_int64, *_HANDLE, *_OCTETS, *_PHASE),
+    "receiver_room": (c_int64, *_CONFIG, c_size_t, *_COUNT),
+    "receiver_open": (c_int32, *_HANDLE, *_CONFIG),
+    "receiver_push": (c_int64, *_HANDLE, *_OCTETS, *_FOUND),
+    "receiver_phase": (c_int32, *_HANDLE, *_PHASE),
+    "receiver_slips": (c_int32, *_HANDLE, *_COUNT),
+    "receiver_finish": (c_int64, *_HANDLE, *_FOUND, *_TOTALS, *_PHASE),
+}
+
+
+def _load():
+    here = os.path.dirname(os.path.abspath(__file__))
+    clone = os.path.dirname(os.path.dirname(here))
+    files = [os.path.join(here, "libtmchan.so"), os.path.join(clone, "out", "libtmchan.so")]
+    named = os.environ.get("LIBTMCHAN") or next((it for it in files if os.path.exists(it)), NAME)
+    try:
+        loaded = ctypes.CDLL(named)
+    except OSError as error:
+        raise ImportError(
+            f"there is no library of tmchan: {error}. `make lib` builds it, and LIBTMCHAN names it"
+        ) from error
+    for name, (answer, *arguments) in _CALLS.items():
+        call = getattr(loaded, "tmchan_" + name)
+        call.restype, call.argtypes = answer, arguments
+    found = loaded.tmchan_version()
+    if found >> 8 != ABI:
+        raise ImportError(f"{named} is of version {_text(found)}; this package is for {ABI >> 8}.{ABI & 255}")
+    return loaded
+
+
+def _text(version):
+    return f"{version >> 16}.{version >> 8 & 255}.{version & 255}"
+
+
+_LIBRARY = _load()
+
+
+def version():
+    """The version of the library that is loaded, as "0.2.0"."""
+    return _text(_LIBRARY.tmchan_version())
+
+
+def checked(answer):
+    """Returns an answer from 0 on, and raises what stands for one below."""
+    if answer >= 0:
+        return answer
+    if answer == BEYOND:
+        raise Uncorrectable
+    if answer == CLOSED:
+        raise Closed
+    if answer == MEMORY:
+        raise MemoryError("tmchan: malloc gave no memory")
+    raise Refused(answer)
+
+
+def call(name, *arguments):
+    return checked(call_plain(name, *arguments))
+
+
+def call_plain(name, *arguments):
+    return getattr(_LIBRARY, "tmchan_" + name)(*arguments)
+
+
+def number(name, value):
+    """The number of an option's value: of a word, of True and False where the words are on and off, or itself."""
+    words = OPTIONS[name]
+    if words is not None:
+        if words is SWITCH and isinstance(value, bool):
+            return int(value)
+        return words.get(value, OUTSIDE) if isinstance(value, str) else OUTSIDE
+    if isinstance(value, bool) or not hasattr(value, "__index__"):
+        raise TypeError(f"{name}: a number is wanted, and this is {value!r}")
+    value = value.__index__()
+    return value if 0 <= value < UNSET else OUTSIDE
+
+
+def configuration(options):
+    """The tmchan_config of options by their names. Raises Refused for the first that is outside."""
+    config = Config()
+    _LIBRARY.tmchan_config_defaults(byref(config))
+    for name, value in options.items():
+        setattr(config, name, number(name, value))
+    call("config_check", byref(config))
+    return config
+
+
+def frame_length(config):
+    return call("frame_length", byref(config))
+
+
+def cadu(config, frame):
+    made = bytearray(call("cadu_length", config.code, config.depth, len(frame)))
+    call("cadu", config.code, config.depth, config.basis, config.randomize, frame, len(frame), address(made), len(made))
+    return bytes(made)
+
+
+def address(array):
+    """The address of a bytearray, for a call that writes it. (Of one with no octets: of some octet.)"""
+    return (c_uint8 * max(1, len(array))).from_buffer(array if array else bytearray(1))
+
+
+class Stream:
+    """A handle of the library, with its arrays. One thread at a time: a call while another is under way raises
+    RuntimeError."""
+
+    KIND = ""
+
+    def __init__(self, config):
+        self._config, self._handle, self._lock = config, Handle(), threading.Lock()
+        call(self.KIND + "_open", byref(self._handle), byref(config))
+
+    @contextlib.contextmanager
+    def _alone(self):
+        if not self._lock.acquire(blocking=False):
+            raise RuntimeError("the stream is in use by another thread")
+        try:
+            yield
+        finally:
+            self._lock.release()
+
+    def _call(self, name, *arguments):
+        return call(f"{self.KIND}_{name}", byref(self._handle), *arguments)
+
+    @property
+    def is_open(self):
+        return bool(self._handle.is_open)
+
+    def close(self):
+        """Closes the stream, and drops what was not given back yet. A stream that is closed stays so."""
+        with self._alone():
+            if self._handle.is_open:
+                call("close", byref(self._handle))
+
+    def __del__(self):
+        if getattr(self, "_handle", None) is not None and self._handle.is_open and not self._lock.locked():
+            _LIBRARY.tmchan_close(byref(self._handle))
+
+
+class SenderStream(Stream):
+    KIND = "sender"
+
+    def push(self, octets):
+        with self._alone():
+            symbols = bytearray(call("sender_room", byref(self._config), len(octets)))
+            count = self._call("push", octets, len(octets), address(symbols), len(symbols))
+            return bytes(memoryview(symbols)[:count])
+
+    def finish(self):
+        with self._alone():
+            return self._call("finish")
+
+
+class DecoderStream(Stream):
+    KIND = "decoder"
+
+    def _room(self, length):
+        return bytearray(call("decoder_room", byref(self._config), length))
+
+    def push(self, octets):
+        with self._alone():
+            bits = self._room(len(octets))
+            count = self._call("push", octets, len(octets), address(bits), len(bits))
+            return bytes(memoryview(bits)[:count])
+
+    def finish(self):
+        """The bits that are left, and the phase."""
+        with self._alone():
+            bits, phase = self._room(0), PhaseFields()
+            count = self._call("finish", address(bits), len(bits), byref(phase))
+            return bytes(memoryview(bits)[:count]), phase
+
+    def phase(self):
+        phase = PhaseFields()
+        with self._alone():
+            self._call("phase", byref(phase))
+        return phase
+
+
+class ReceiverStream(Stream):
+    """Takes at most so many octets at a push. That and the finish give the octets of the frames, one after the other,
+    and those of the reports."""
+
+    KIND = "receiver"
+
+    def __init__(self, config, most):
+        super().__init__(config)
+        frames = c_uint64()
+        reports = call("receiver_room", byref(config), most, byref(frames))
+        self._frames, self._reports = bytearray(frames.value), bytearray(REPORT.size * reports)
+        self._arrays = address(self._frames), len(self._frames), address(self._reports), reports
+        self._length = frame_length(config)
+
+    def _written(self, count):
+        reports = bytes(memoryview(self._reports)[: REPORT.size * count])
+        # Each report has the link's frame length, or 0. The octet of it that is not 0 is counted, since that is quick.
+        octet, place = max((octet, place) for place, octet in enumerate(self._length.to_bytes(8, sys.byteorder)))
+        good = reports[8 + place :: REPORT.size].count(octet)
+        return bytes(memoryview(self._frames)[: self._length * good]), reports
+
+    def push(self, octets):
+        with self._alone():
+            return self._written(self._call("push", octets, len(octets), *self._arrays))
+
+    def finish(self):
+        """What is left, the totals and the phase."""
+        with self._alone():
+            totals, phase = TotalsFields(), PhaseFields()
+            count = self._call("finish", *self._arrays, byref(totals), byref(phase))
+            return (*self._written(count), totals, phase)
+
+    def phase(self):
+        phase = PhaseFields()
+        with self._alone():
+            self._call("phase", byref(phase))
+        return phase
+
+    def slips(self):
+        count = c_uint64()
+        with self._alone():
+            self._call("slips", byref(count))
+        return count.value
