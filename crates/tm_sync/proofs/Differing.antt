@@ -8,7 +8,7 @@ use Rattle.tm_sync.specs.declared.found.Found.{Found}
 use Rattle.tm_sync.specs.declared.found.Columns.{Columns}
 use Rattle.tm_sync.specs.Places.{Rules, match_of, before_next, place_at, places, found_at}
 use Rattle.tm_sync.specs.Rescan.{Soundness, Last, ends_at, is_inside, is_open, may_bridge, sound_place, place_outside, place_inside, place_here, last_at, places_after, places_with}
-use Rattle.tm_sync.specs.PlacesInside.{end_of, Counts, AreInOrder, HasNoneInside, MayStand, DifferInside, never}
+use Rattle.tm_sync.specs.PlacesInside.{end_of, CountsInside, AreInOrder, HasNoneInside, MayStand, DifferInside, never}
 use Rattle.tm_sync.proofs.Rescanned.{OfPlaces, StaysAtNone, StaysAtOne, by_bits, places_after-nil, places_after-miss, places_after-one, place_here-inside, place_here-outside, places_with-off}
 use Rattle.tm_sync.proofs.Prefixes.{inside-room, inside-short, place_here-place, places_after-start}
 use Rattle.tm_sync.proofs.FoundInside.{with_last, IsLast, last-next, last-found, rest-next, rest-some, counts-here, here-counts, order-all}
@@ -168,7 +168,7 @@ differ-here rules columns sound whole at (Some p) (Some last) bits f fs others i
       others_left = others;
       found_are = refl;
       others_are = refl;
-      counts = subst (λ n. Counts rules columns sound whole p n f.inverted) (sym place) it.1;
+      counts = subst (λ n. CountsInside rules columns sound whole p n f.inverted) (sym place) it.1;
       before = all-after others later place;
     })
   where
@@ -280,14 +280,14 @@ Reached at (f ∷ fs) = f.place ≤ at
 abbrev AreReached : Rules → Columns → Soundness → List Bool → List Found → Type 0
 AreReached rules columns sound whole [] = Unit {0}
 AreReached rules columns sound whole (f ∷ fs) =
-    ((at : ℕ) (inverted : Bool) → Counts rules columns sound whole f at inverted → Reached at fs)
+    ((at : ℕ) (inverted : Bool) → CountsInside rules columns sound whole f at inverted → Reached at fs)
     × AreReached rules columns sound whole fs
 
 reached-from : (rules : Rules) (columns : Columns) (sound : Soundness) (whole : List Bool) (at : ℕ)
     (last : Option Last) (bits : List Bool) → bits ≡ drop at whole → (prev : Option Found)
     → IsLast rules sound at prev last
     → ((f : Found) → prev ≡ Some f → (p : ℕ) (inverted : Bool) → at ≤ p
-    → Counts rules columns sound whole f p inverted
+    → CountsInside rules columns sound whole f p inverted
     → Reached p (places_after rules (Some columns) sound at last bits))
     × AreReached rules columns sound whole (places_after rules (Some columns) sound at last bits)
 reached-from rules columns sound whole = by_bits rules (Some columns) sound P none_left miss one
@@ -295,7 +295,7 @@ reached-from rules columns sound whole = by_bits rules (Some columns) sound P no
     P : OfPlaces
     P at last bits fs = bits ≡ drop at whole → (prev : Option Found) → IsLast rules sound at prev last
         → ((f : Found) → prev ≡ Some f → (p : ℕ) (inverted : Bool) → at ≤ p
-        → Counts rules columns sound whole f p inverted → Reached p fs)
+        → CountsInside rules columns sound whole f p inverted → Reached p fs)
         × AreReached rules columns sound whole fs
 
     none_left : (at : ℕ) (last : Option Last) → P at last [] []
@@ -313,13 +313,13 @@ reached-from rules columns sound whole = by_bits rules (Some columns) sound P no
           later.1,
         )
       where
-        no : (f : Found) (p : ℕ) (inverted : Bool) → p ≡ at → Counts rules columns sound whole f p inverted
+        no : (f : Found) (p : ℕ) (inverted : Bool) → p ≡ at → CountsInside rules columns sound whole f p inverted
             → (last : Option Last) → IsLast rules sound at (Some f) last
             → place_here rules (Some columns) sound at last (b ∷ bits) ≡ None → ⊥
         no f p inverted same counts None is e = is
         no f p inverted same counts (Some last) is e =
             let some = counts-here rules columns sound whole at f last (b ∷ bits) inverted is rest
-            (subst (λ n. Counts rules columns sound whole f n inverted) same counts) in
+            (subst (λ n. CountsInside rules columns sound whole f n inverted) same counts) in
             let not : None ≡ Some (found_at at false inverted (b ∷ bits)) = sym e ∙ some in absurd (cc)
 
     one : StaysAtOne rules (Some columns) sound P

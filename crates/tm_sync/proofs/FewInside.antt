@@ -15,11 +15,11 @@ apart-tail bits f (g ∷ []) apart = tt
 apart-tail bits f (g ∷ h ∷ fs) apart = apart.1
 
 -- the first one stands there or later
-abbrev StartFrom : ℕ → List Found → Type 0
+abbrev pub StartFrom : ℕ → List Found → Type 0
 StartFrom start [] = Unit {0}
 StartFrom start (f ∷ fs) = start ≤ f.place
 
-few-apart : (rules : Rules) (bits end : ℕ) (fs : List Found) (start count : ℕ) → AreApart bits fs → StartFrom start fs
+pub few-apart : (rules : Rules) (bits end : ℕ) (fs : List Found) (start count : ℕ) → AreApart bits fs → StartFrom start fs
     → EndBefore rules end fs → end < start + 32 + rules.block_bits + count * (bits + 1) → length fs ≤ 2 * count
 few-apart rules bits end [] start count apart from ends short = omega arith
 few-apart rules bits end (f ∷ fs) start zero apart from ends short = let first = ends.0 in absurd (omega arith)
@@ -44,11 +44,11 @@ few-all rules columns sound bits count short =
 
 -- ---- in a longer list
 
-apart-rest : (bits : ℕ) (first rest : List Found) → AreApart bits (first ++ rest) → AreApart bits rest
+pub apart-rest : (bits : ℕ) (first rest : List Found) → AreApart bits (first ++ rest) → AreApart bits rest
 apart-rest bits [] rest apart = apart
 apart-rest bits (f ∷ first) rest apart = apart-rest bits first rest (apart-tail bits f (first ++ rest) apart)
 
-ends-rest : (rules : Rules) (end : ℕ) (first rest : List Found) → EndBefore rules end (first ++ rest)
+pub ends-rest : (rules : Rules) (end : ℕ) (first rest : List Found) → EndBefore rules end (first ++ rest)
     → EndBefore rules end rest
 ends-rest rules end [] rest ends = ends
 ends-rest rules end (f ∷ first) rest ends = ends-rest rules end first rest ends.1

@@ -9,7 +9,7 @@ use Rattle.tm_sync.specs.declared.found.Found.{Found}
 use Rattle.tm_sync.specs.declared.found.Columns.{Columns}
 use Rattle.tm_sync.specs.Places.{Rules, match_of, place_by, found_at}
 use Rattle.tm_sync.specs.Rescan.{Soundness, Last, reach, ends_at, is_inside, is_open, sound_place, place_outside, place_here, last_at, places_after, places_with}
-use Rattle.tm_sync.specs.PlacesInside.{end_of, Counts, Hides, AreInOrder, AreApart}
+use Rattle.tm_sync.specs.PlacesInside.{end_of, CountsInside, Hides, AreInOrder, AreApart}
 use Rattle.tm_sync.proofs.Steps.{place_at-room, place_polarity-zero}
 use Rattle.tm_sync.proofs.Rescanned.{OfPlaces, StaysAtNone, StaysAtOne, by_bits, place_here-inside, place_here-outside}
 use Rattle.tm_sync.proofs.Prefixes.{inside-room, place_here-place, place_here-room}
@@ -63,7 +63,7 @@ rest-some whole at p n rest le long =
 -- it is a place
 pub counts-here : (rules : Rules) (columns : Columns) (sound : Soundness) (whole : List Bool) (at : ℕ) (f : Found)
     (last : Last) (bits : List Bool) (inverted : Bool) → IsLast rules sound at (Some f) (Some last)
-    → bits ≡ drop at whole → Counts rules columns sound whole f at inverted
+    → bits ≡ drop at whole → CountsInside rules columns sound whole f at inverted
     → place_here rules (Some columns) sound at (Some last) bits ≡ Some (found_at at false inverted bits)
 counts-here rules columns sound whole at f last bits inverted is rest counts =
     place_here-inside rules (Some columns) sound at (Some last) bits (grind (arith, nat_tests, within))
@@ -97,12 +97,12 @@ counts-here rules columns sound whole at f last bits inverted is rest counts =
 counts-or-hidden : (rules : Rules) (columns : Columns) (sound : Soundness) (whole : List Bool) (at : ℕ) (f : Found)
     (inverted : Bool) → f.place < at → at < end_of rules f → at + 32 + rules.block_bits ≤ length whole
     → match_of rules (drop at whole) ≡ Some inverted → sound at inverted ≡ true
-    → Counts rules columns sound whole f at inverted ⊎ Hides rules columns sound whole at f
+    → CountsInside rules columns sound whole f at inverted ⊎ Hides rules columns sound whole at f
 counts-or-hidden rules columns sound whole at f inverted after before room match own =
     by (cases_Bool (sound f.place f.inverted))
   where
     counts : (sound f.place f.inverted ≡ false) ⊎ ((end_of rules f ≤ at + reach columns)
-        × (match_of rules (drop (end_of rules f) whole) ≡ None)) → Counts rules columns sound whole f at inverted
+        × (match_of rules (drop (end_of rules f) whole) ≡ None)) → CountsInside rules columns sound whole f at inverted
     counts why = record {
       after = after;
       before = before;
@@ -114,13 +114,13 @@ counts-or-hidden rules columns sound whole at f inverted after before room match
 
     late_by : (behind : Option Bool) → match_of rules (drop (end_of rules f) whole) ≡ behind
         → end_of rules f ≤ at + reach columns → sound f.place f.inverted ≡ true
-        → Counts rules columns sound whole f at inverted ⊎ Hides rules columns sound whole at f
+        → CountsInside rules columns sound whole f at inverted ⊎ Hides rules columns sound whole at f
     late_by None unmatched late says = inl (counts (inr (late, unmatched)))
     late_by (Some other) matched late says =
         inr (after, before, says, inr (ap (λ (o : Option Bool). is_none o) matched))
 
     by : (sound f.place f.inverted ≡ true) ⊎ (sound f.place f.inverted ≡ false)
-        → Counts rules columns sound whole f at inverted ⊎ Hides rules columns sound whole at f
+        → CountsInside rules columns sound whole f at inverted ⊎ Hides rules columns sound whole at f
     by (inr says) = inl (counts (inl says))
     by (inl says) = elim (cases_lt (at + reach columns) (end_of rules f)) [
       | inl early ↦ inr (after, before, says, inl early)
@@ -131,7 +131,7 @@ counts-or-hidden rules columns sound whole at f inverted after before room match
 pub here-counts : (rules : Rules) (columns : Columns) (sound : Soundness) (whole : List Bool) (at : ℕ) (f : Found)
     (last : Last) (bits : List Bool) (g : Found) → IsLast rules sound at (Some f) (Some last) → bits ≡ drop at whole
     → place_here rules (Some columns) sound at (Some last) bits ≡ Some g → at < last.end
-    → (g.bridged ≡ false) × Counts rules columns sound whole f at g.inverted
+    → (g.bridged ≡ false) × CountsInside rules columns sound whole f at g.inverted
 here-counts rules columns sound whole at f last bits g is rest e within =
     go (is_open rules columns at last bits) (match_of rules bits) refl refl
     (sym (inside-room rules columns sound at last bits room)
@@ -173,17 +173,17 @@ here-counts rules columns sound whole at f last bits g is rest e within =
 
     go : (c : Bool) (polarity : Option Bool) → is_open rules columns at last bits ≡ c
         → match_of rules bits ≡ polarity → cond c (sound_place sound at bits polarity) None ≡ Some g
-        → (g.bridged ≡ false) × Counts rules columns sound whole f at g.inverted
+        → (g.bridged ≡ false) × CountsInside rules columns sound whole f at g.inverted
     go false polarity c_is match e = absurd (cc)
     go true None c_is match e = absurd (cc)
     go true (Some inverted) c_is match e = own_by (sound at inverted) refl e
       where
         own_by : (s : Bool) → sound at inverted ≡ s → cond s (Some (found_at at false inverted bits)) None ≡ Some g
-            → (g.bridged ≡ false) × Counts rules columns sound whole f at g.inverted
+            → (g.bridged ≡ false) × CountsInside rules columns sound whole f at g.inverted
         own_by false own e = absurd (cc)
         own_by true own e =
             let same : found_at at false inverted bits ≡ g = cc in
-            subst (λ (g : Found). (g.bridged ≡ false) × Counts rules columns sound whole f at g.inverted) same (
+            subst (λ (g : Found). (g.bridged ≡ false) × CountsInside rules columns sound whole f at g.inverted) same (
               refl,
               record {
                 after = is.0;
@@ -350,7 +350,7 @@ order-with rules columns sound whole = by_bits rules (Some columns) sound P none
           λ before.
               let it = here-counts rules columns sound whole at p last (b ∷ bits) f is rest e
               (omega (arith, is.1.0, place)) in
-              (it.0, subst (λ n. Counts rules columns sound whole p n f.inverted) (sym place) it.1),
+              (it.0, subst (λ n. CountsInside rules columns sound whole p n f.inverted) (sym place) it.1),
           order,
         )
 

@@ -263,6 +263,27 @@ places_after-start rules columns sound =
     (λ at last b bits f fs e next.
     let is = place_here-place rules columns sound at last (b ∷ bits) f e in (omega arith, later at fs next))
 
+-- each place stands before all further ones
+abbrev pub Rise : List Found → Type 0
+Rise [] = Unit {0}
+Rise (f ∷ fs) = AllByRecursion (λ g. f.place < g.place) fs × Rise fs
+
+pub places_after-rise : (rules : Rules) (columns : Option Columns) (sound : Soundness) (at : ℕ)
+    (last : Option Last) (bits : List Bool) → Rise (places_after rules columns sound at last bits)
+places_after-rise rules columns sound at last bits =
+    (by_bits rules columns sound (λ at last bits fs. FromOn at fs × Rise fs) (λ at last. (tt, tt))
+    (λ at last b bits fs e next. (later at fs next.0, next.1))
+    (λ at last b bits f fs e next.
+    let is = place_here-place rules columns sound at last (b ∷ bits) f e in
+    ((omega arith, later at fs next.0), (before at f fs is next.0, next.1)))
+    at last bits).1
+  where
+    before : (at : ℕ) (f : Found) (fs : List Found) → f.place ≡ at → FromOn (at + 1) fs
+        → AllByRecursion (λ g. f.place < g.place) fs
+    before at f [] is from = tt
+    before at f (g ∷ fs) is from =
+        (let first = from.0 in omega (arith, first, is), before at f fs is from.1)
+
 -- ---- a longer list
 
 -- its places are first those of the shorter one; the others are not settled there

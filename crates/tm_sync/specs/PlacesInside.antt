@@ -14,7 +14,7 @@ end_of rules f = f.place + marker_size + rules.block_bits
 -- A marker at this bit, in this polarity, counts inside a place, that is in its marker or in its
 -- codeblock: it matches, and its own codeblock has room and is sound; and that of the place is not,
 -- or the marker stands in its last symbols, and none matches right after it.
-pub record Counts (rules : Rules) (columns : Columns) (sound : Soundness) (bits : List Bool)
+pub record CountsInside (rules : Rules) (columns : Columns) (sound : Soundness) (bits : List Bool)
     (f : Found) (at : ℕ) (inverted : Bool) : Type 0 where
   pub after : f.place < at
   pub before : at < end_of rules f
@@ -40,7 +40,7 @@ AreInOrder rules columns sound bits (f ∷ []) = Unit {0}
 AreInOrder rules columns sound bits (f ∷ g ∷ found) =
     (f.place < g.place)
     × (g.place < end_of rules f
-    → (g.bridged ≡ false) × Counts rules columns sound bits f g.place g.inverted)
+    → (g.bridged ≡ false) × CountsInside rules columns sound bits f g.place g.inverted)
     × AreInOrder rules columns sound bits (g ∷ found)
 
 -- of three in a row the last stands more than so many bits after the first
@@ -53,7 +53,7 @@ AreApart bits (f ∷ g ∷ h ∷ found) = (f.place + bits < h.place) × AreApart
 -- no marker counts inside a place
 abbrev pub HasNoneInside : Rules → Columns → Soundness → List Bool → Found → Type 0
 HasNoneInside rules columns sound bits f =
-    (at : ℕ) (inverted : Bool) → Counts rules columns sound bits f at inverted → ⊥
+    (at : ℕ) (inverted : Bool) → CountsInside rules columns sound bits f at inverted → ⊥
 
 -- a place is bridged only where it may be
 abbrev pub MayStand : Rules → Columns → List Bool → Found → Type 0
@@ -76,5 +76,5 @@ pub record DifferInside (rules : Rules) (columns : Columns) (sound : Soundness) 
   pub others_left : List Found
   pub found_are : found ≡ same ++ (last ∷ next ∷ rest)
   pub others_are : others ≡ same ++ (last ∷ others_left)
-  pub counts : Counts rules columns sound bits last next.place next.inverted
+  pub counts : CountsInside rules columns sound bits last next.place next.inverted
   pub before : AllByRecursion (λ g. next.place < g.place) others_left
