@@ -24,7 +24,7 @@ _tmchan() {
         --code) words=(rs16 rs8 none) ;;
         --depth) words=(1 2 3 4 5 8) ;;
         --inner) words=(none 1/2 2/3 3/4 5/6 7/8) ;;
-        --invert | --randomize | --pack) words=(on off) ;;
+        --invert | --randomize | --pack | --rescan) words=(on off) ;;
         --bad) words=(drop pass) ;;
         --basis) words=(dual poly) ;;
         --soft) words=(u8 i8) ;;
@@ -34,7 +34,7 @@ _tmchan() {
         --*) ;;
         *)
             words=(--code --depth --length --inner --invert --randomize --basis --tolerance --repair --soft --start --skip --workers
-                --limit --fly --keep --ahead --phase --polarity --batch --pack --verify --bad)
+                --limit --fly --keep --ahead --phase --polarity --batch --pack --verify --rescan --bad)
             if [ "${COMP_WORDS[1]}" = soak ]; then
                 words+=(--seed --frames --hits)
             fi

@@ -39,6 +39,7 @@ complete -c tmchan -n $any -l polarity -x -a 'given find' -d 'inverted markers'
 complete -c tmchan -n $any -l batch -x -d 'codeblocks that are repaired and handed over at once'
 complete -c tmchan -n $any -l pack -x -a 'on off' -d 'eight bits an octet without an inner code'
 complete -c tmchan -n $any -l verify -x -d 'further markers that verify a place'
+complete -c tmchan -n $any -l rescan -x -a 'on off' -d 'markers inside codeblocks too'
 complete -c tmchan -n $any -l bad -x -a 'drop pass' -d 'frames with an uncorrectable column'
 
 complete -c tmchan -n '__fish_seen_subcommand_from soak' -l seed -x -d 'seed of the generator'

@@ -39,6 +39,7 @@ options=(
     '--batch=[codeblocks that are repaired and handed over at once]:codeblocks 1 to 32: '
     '--pack=[eight bits an octet without an inner code]:switch:(on off)'
     '--verify=[further markers that verify a place]:markers 0 to 7: '
+    '--rescan=[markers inside codeblocks too]:switch:(on off)'
     '--bad=[frames with an uncorrectable column]:frames:(drop pass)'
 )
 

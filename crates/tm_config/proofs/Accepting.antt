@@ -54,6 +54,7 @@ pub record AllPass (raw : Raw) : Type 0 where
   pub batch : is_within 1 most_batch raw.batch ≡ true
   pub pack : switch_fits raw.pack ≡ true
   pub verify : nat_le raw.verify most_verify ≡ true
+  pub rescan : switch_fits raw.rescan ≡ true
   pub bad : switch_fits raw.bad ≡ true
 
 pub all_pass : (raw : Raw) → refusal_of_raw raw ≡ None → AllPass raw
@@ -81,6 +82,7 @@ all_pass raw none =
     let p20 = p19.1 in
     let p21 = p20.1 in
     let p22 = p21.1 in
+    let p23 = p22.1 in
     record {
       code = p1.0;
       depth = p2.0;
@@ -103,7 +105,8 @@ all_pass raw none =
       batch = p19.0;
       pack = p20.0;
       verify = p21.0;
-      bad = p22.0;
+      rescan = p22.0;
+      bad = p23.0;
     }
 
 within : (least most value : ℕ) → is_within least most value ≡ true → (least ≤ value) × (value ≤ most)

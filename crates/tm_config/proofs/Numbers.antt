@@ -66,5 +66,6 @@ configuration-has raw none =
       phase = phase-has raw.phase pass.phase;
       polarity = numbered-has number_of_sought all_sought Given raw.polarity pass.polarity;
       pack = numbered-has number_of_switch all_switches false raw.pack pass.pack;
+      rescan = numbered-has number_of_switch all_switches false raw.rescan pass.rescan;
       bad = numbered-has number_of_switch all_switches false raw.bad pass.bad;
     }

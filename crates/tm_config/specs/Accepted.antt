@@ -17,7 +17,7 @@ use Rattle.tm_config.specs.declared.values.OuterCode.TheVariants.{Uncoded}
 use Rattle.tm_config.specs.declared.error.ConfigError.{ConfigError}
 use Rattle.tm_config.specs.declared.error.ConfigError.TheVariants.{Code, Depth, Length, Inner, Switch, Basis, Tolerance}
 use Rattle.tm_config.specs.declared.error.ConfigError.TheVariants.{Repair, Soft, Start, Skip, Workers, Limit, Fly}
-use Rattle.tm_config.specs.declared.error.ConfigError.TheVariants.{Keep, Ahead, Phase, Polarity, Batch, Pack, Verify, Bad}
+use Rattle.tm_config.specs.declared.error.ConfigError.TheVariants.{Keep, Ahead, Phase, Polarity, Batch, Pack, Verify, Rescan, Bad}
 
 -- each value is within its range; the others are choices, and any of them is accepted
 pub record IsAccepted (c : Configuration) : Type 0 where
@@ -112,6 +112,7 @@ tests raw =
     ∷ (is_within 1 most_batch raw.batch, Batch)
     ∷ (switch_fits raw.pack, Pack)
     ∷ (nat_le raw.verify most_verify, Verify)
+    ∷ (switch_fits raw.rescan, Rescan)
     ∷ (switch_fits raw.bad, Bad)
     ∷ []
 
@@ -148,6 +149,7 @@ name_of Polarity = codes "polarity"
 name_of Batch = codes "batch"
 name_of Pack = codes "pack"
 name_of Verify = codes "verify"
+name_of Rescan = codes "rescan"
 name_of Bad = codes "bad"
 
 -- their places in the order of the tests
@@ -173,4 +175,5 @@ place_of Polarity = 17
 place_of Batch = 18
 place_of Pack = 19
 place_of Verify = 20
-place_of Bad = 21
+place_of Rescan = 21
+place_of Bad = 22

@@ -78,6 +78,7 @@ default_raw = record {
   batch = 32;
   pack = 1;
   verify = 0;
+  rescan = 0;
   bad = 0;
 }
 
@@ -241,6 +242,7 @@ configuration_of raw = record {
   batch = raw.batch;
   pack = is_on raw.pack;
   verify = raw.verify;
+  rescan = is_on raw.rescan;
   pass_bad = is_on raw.bad;
 }
 
@@ -256,6 +258,7 @@ pub record HaveNumbers (raw : Raw) (c : Configuration) : Type 0 where
   pub phase : number_of_mode (mode_by c.phase c.follow) ≡ raw.phase
   pub polarity : number_of_sought c.polarity ≡ raw.polarity
   pub pack : number_of_switch c.pack ≡ raw.pack
+  pub rescan : number_of_switch c.rescan ≡ raw.rescan
   pub bad : number_of_switch c.pass_bad ≡ raw.bad
 
 -- the same, but that the phase is found once

@@ -44,6 +44,7 @@ impl Config {
     /// - `Tolerance`: 0 to 8. `Repair`: `None`, or 0 to E. `Soft`, `Start`: 0 or 1. `Skip`: 0 to 15.
     /// - `Workers`: 1 to 64. `Limit`: 1 to 2^40. `Fly`: 0 to 15. `Keep`: 64 to 65,536. `Ahead`: 0 to 4,096.
     /// - `Phase`: 0 to 2. `Polarity`: 0 or 1. `Batch`: 1 to 32. `Pack`: 0 or 1. `Verify`: 0 to 7.
+    /// - `Rescan`: 0 or 1.
     /// - `Bad`: 0 or 1.
     pub fn check(raw: &Raw) -> Result<Config, ConfigError>
         ensures ok { OnOk result (refusal_of_raw raw.now ≡ None) }
@@ -277,6 +278,14 @@ impl Config {
         self.values.verify
     }
 
+    /// Whether markers are looked for inside codeblocks too: 1, or 0 where they are not.
+    pub fn rescan(&self) -> u64
+        ensures value { result ≡ number_of_switch self.now.rescan }
+        ensures accepted { IsAccepted self.now }
+    {
+        number_of_switch(self.values.rescan)
+    }
+
     /// Whether what is left of a frame with an uncorrectable column is given: 1, or 0 where it is dropped.
     pub fn bad(&self) -> u64
         ensures value { result ≡ number_of_switch self.now.pass_bad }
@@ -329,6 +338,7 @@ fn resolved(raw: &Raw) -> Values
         batch: raw.batch,
         pack: is_on(raw.pack),
         verify: raw.verify,
+        rescan: is_on(raw.rescan),
         pass_bad: is_on(raw.bad),
     }
 }

@@ -29,6 +29,7 @@ pub enum ConfigError {
     Batch,
     Pack,
     Verify,
+    Rescan,
     Bad,
 }
 
@@ -60,6 +61,7 @@ impl ConfigError {
             ConfigError::Batch => "batch",
             ConfigError::Pack => "pack",
             ConfigError::Verify => "verify",
+            ConfigError::Rescan => "rescan",
             ConfigError::Bad => "bad",
         }
     }

@@ -160,6 +160,7 @@ pub fn refusal(raw: &Raw) -> Option<ConfigError>
         (is_within(1, MOST_BATCH, raw.batch), ConfigError::Batch),
         (is_choice(raw.pack), ConfigError::Pack),
         (raw.verify <= MOST_VERIFY, ConfigError::Verify),
+        (is_choice(raw.rescan), ConfigError::Rescan),
         (is_choice(raw.bad), ConfigError::Bad),
     ])
 }

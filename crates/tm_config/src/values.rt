@@ -54,6 +54,8 @@ pub struct Raw {
     pub pack: u64,
     /// How many further markers must match before a place that is searched for is taken: up to 7.
     pub verify: u64,
+    /// Whether markers are looked for inside codeblocks too: 0 or 1.
+    pub rescan: u64,
     /// Whether what is left of a frame with an uncorrectable column is dropped, 0, or given, 1.
     pub bad: u64,
 }
@@ -86,6 +88,7 @@ impl Default for Raw {
             batch: 32,
             pack: 1,
             verify: 0,
+            rescan: 0,
             bad: 0,
         }
     }
@@ -173,6 +176,8 @@ pub struct Values {
     pub pack: bool,
     /// How many further markers must match before a place that is searched for is taken.
     pub verify: u64,
+    /// Whether markers are looked for inside codeblocks that are not sound, and at the end of others.
+    pub rescan: bool,
     /// Whether what is left of a frame with an uncorrectable column is given too.
     pub pass_bad: bool,
 }

@@ -10,7 +10,7 @@ static EACH_OPTION: &str = "\
 tmchan encode --code rs8 --depth 4 --length 956 --inner 7/8 --invert off --randomize off \
 --basis poly --tolerance 8 --repair 7 --soft i8 --start any --skip 15 --workers 64 \
 --limit 1099511627776 --fly 14 --keep 65536 --ahead 4096 --phase find --polarity find --batch 7 \
---pack off --verify 6 --bad pass";
+--pack off --verify 6 --rescan on --bad pass";
 
 static EACH_VALUE: Raw = Raw {
     code: 8,
@@ -35,11 +35,12 @@ static EACH_VALUE: Raw = Raw {
     batch: 7,
     pack: 0,
     verify: 6,
+    rescan: 1,
     bad: 1,
 };
 
 // An option, a word for it, and the number that stands for that word.
-static OPTION_WORDS: [(&str, &str, u64); 28] = [
+static OPTION_WORDS: [(&str, &str, u64); 30] = [
     ("code", "rs16", 16),
     ("code", "rs8", 8),
     ("code", "none", 0),
@@ -66,6 +67,8 @@ static OPTION_WORDS: [(&str, &str, u64); 28] = [
     ("polarity", "find", 1),
     ("pack", "on", 1),
     ("pack", "off", 0),
+    ("rescan", "on", 1),
+    ("rescan", "off", 0),
     ("bad", "drop", 0),
     ("bad", "pass", 1),
 ];
@@ -83,6 +86,7 @@ fn value_of(raw: &Raw, option: &str) -> Option<u64> {
         "phase" => Some(raw.phase),
         "polarity" => Some(raw.polarity),
         "pack" => Some(raw.pack),
+        "rescan" => Some(raw.rescan),
         "bad" => Some(raw.bad),
         _ => None,
     }

@@ -117,6 +117,7 @@ options =
     ∷ (codes "batch", [])
     ∷ (codes "pack", switch_words)
     ∷ (codes "verify", [])
+    ∷ (codes "rescan", switch_words)
     ∷ (codes "bad", bad_words)
     ∷ []
 
@@ -165,5 +166,6 @@ raw_of rows = record {
   batch = unwrap_or (number_given (codes "batch") rows) default_raw.batch;
   pack = unwrap_or (number_given (codes "pack") rows) default_raw.pack;
   verify = unwrap_or (number_given (codes "verify") rows) default_raw.verify;
+  rescan = unwrap_or (number_given (codes "rescan") rows) default_raw.rescan;
   bad = unwrap_or (number_given (codes "bad") rows) default_raw.bad;
 }

@@ -13,7 +13,7 @@ const NO_NUMBER: u64 = u64::MAX;
 pub type OptionRow<'a> = (&'a str, &'a [(&'a str, u64)]);
 
 // The options of every command.
-pub static OPTIONS: [OptionRow<'static>; 23] = [
+pub static OPTIONS: [OptionRow<'static>; 24] = [
     ("code", &[("rs16", 16), ("rs8", 8), ("none", 0)]),
     ("depth", &[]),
     ("length", &[]),
@@ -46,6 +46,7 @@ pub static OPTIONS: [OptionRow<'static>; 23] = [
     ("batch", &[]),
     ("pack", &[("on", 1), ("off", 0)]),
     ("verify", &[]),
+    ("rescan", &[("on", 1), ("off", 0)]),
     ("bad", &[("drop", 0), ("pass", 1)]),
 ];
 
@@ -172,6 +173,7 @@ pub fn raw(matches: &ArgMatches) -> Raw
         batch: number_or(matches, "batch", default.batch),
         pack: number_or(matches, "pack", default.pack),
         verify: number_or(matches, "verify", default.verify),
+        rescan: number_or(matches, "rescan", default.rescan),
         bad: number_or(matches, "bad", default.bad),
     }
 }

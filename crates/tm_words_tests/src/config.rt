@@ -45,7 +45,8 @@ polarity=2 batch=0|polarity\n\
 batch=0|batch\n\
 batch=33 pack=2|batch\n\
 pack=2 verify=8|pack\n\
-verify=8 bad=2|verify\n\
+verify=8 rescan=2|verify\n\
+rescan=2 bad=2|rescan\n\
 bad=2|bad\n";
 
 fn check_refused(rt: &impl Abort, alloc: Global) -> Result<(), AllocError> {
@@ -65,7 +66,7 @@ fn check_refused(rt: &impl Abort, alloc: Global) -> Result<(), AllocError> {
 
 #[test]
 fn refuses_the_first_value_out_of_range(rt: HostRuntime) -> Result<(), Fail> {
-    assert!(rt; REFUSED.lines().count() == 33);
+    assert!(rt; REFUSED.lines().count() == 34);
     check_refused(&rt, rt.alloc())?;
     Ok(())
 }
@@ -145,6 +146,7 @@ fn answers_each_value(rt: HostRuntime) {
         batch: 31,
         pack: 0,
         verify: 7,
+        rescan: 1,
         bad: 1,
     };
     match Config::check(&raw) {
@@ -157,7 +159,7 @@ fn check_values(rt: &impl Abort, config: &Config) {
     assert!(rt; frames_of(config) == [8, 2, 4, 0, 1, 7, 1]);
     assert!(rt; config.invert() == Some(0));
     assert!(rt; symbols_of(config) == [78, 1, 1, 15, 2]);
-    assert!(rt; search_of(config) == [8, 15, 7, 1, 0]);
+    assert!(rt; search_of(config) == [8, 15, 7, 1, 1, 0]);
     assert!(rt; work_of(config) == [64, 1_099_511_627_776, 65_536, 4096, 31]);
 }
 
@@ -186,11 +188,12 @@ fn symbols_of(config: &Config) -> [u64; 5] {
 }
 
 // Of the search for markers, and of bits.
-fn search_of(config: &Config) -> [u64; 5] {
+fn search_of(config: &Config) -> [u64; 6] {
     [
         config.tolerance(),
         config.fly(),
         config.verify(),
+        config.rescan(),
         config.polarity(),
         config.pack(),
     ]

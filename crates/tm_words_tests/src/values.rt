@@ -40,6 +40,7 @@ fn with_reception(raw: Raw, name: &str, number: u64) -> Option<Raw> {
         "phase" => raw.phase = number,
         "polarity" => raw.polarity = number,
         "verify" => raw.verify = number,
+        "rescan" => raw.rescan = number,
         "bad" => raw.bad = number,
         _ => return with_size(raw, name, number),
     }

@@ -35,12 +35,12 @@ static EACH_OPTION: &str = "\
 tmchan encode|\n\
 tmchan encode --code rs8 --depth 4 --length 956 --inner none --invert on --randomize off --basis poly \
 --tolerance 3 --repair 7 --soft i8 --start any --skip 5 --workers 2 --limit 99 --fly 1 --keep 64 --ahead 0 \
---phase find --polarity find --batch 3 --pack off --verify 2 --bad pass|code=8 depth=4 length=956 inner=0 \
+--phase find --polarity find --batch 3 --pack off --verify 2 --rescan on --bad pass|code=8 depth=4 length=956 inner=0 \
 invert=1 randomize=0 basis=1 tolerance=3 repair=7 soft=1 start=1 skip=5 workers=2 limit=99 fly=1 keep=64 ahead=0 \
-phase=1 polarity=1 batch=3 pack=0 verify=2 bad=1\n\
+phase=1 polarity=1 batch=3 pack=0 verify=2 rescan=1 bad=1\n\
 tmchan encode --code none|code=0\n\
 tmchan encode --code rs16 --depth 1 --inner 1/2 --tolerance 0 --skip 0 --workers 1 --limit 4294967296 --fly 0 \
---keep 8192 --ahead 256 --batch 32 --verify 0 --bad drop|\n\
+--keep 8192 --ahead 256 --batch 32 --verify 0 --rescan off --bad drop|\n\
 tmchan encode --inner 2/3|inner=23\n\
 tmchan encode --inner 3/4|inner=34\n\
 tmchan encode --inner 5/6|inner=56\n\

@@ -14,6 +14,7 @@ returns c = c.first_error.ensures ∙ (rw (
   c.repair_fits.ensures,
   c.is_choice-2.ensures,
   c.is_choice-3.ensures,
+) (rw (
   c.is_within.ensures,
   c.is_within-2.ensures,
   c.is_within-3.ensures,
@@ -22,4 +23,5 @@ returns c = c.first_error.ensures ∙ (rw (
   c.is_within-4.ensures,
   c.is_choice-5.ensures,
   c.is_choice-6.ensures,
-) refl)
+  c.is_choice-7.ensures,
+) refl))
