@@ -1,5 +1,4 @@
 pub mod Frames
 pub mod Codeblocks
-pub mod Gathered
 pub mod Complemented
-pub mod RoomBits
+pub mod PlacesIn

@@ -1,4 +1,3 @@
 pub mod Frames
 pub mod Cadu
 pub mod ReceivedCodeblock
-pub mod RoomBits

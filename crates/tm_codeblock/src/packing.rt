@@ -2,22 +2,6 @@
 ghost use Rattle.std.specs.Prelude.{◌≡◌, ◌<◌, ◌≤◌, ◌⊎◌, ◌*◌, ◌%◌, ◌==◌, length, map};
 ghost use Rattle.tm_base.specs.Bits.{bits_of, bits_of_octet};
 
-/// The bits of an octet, the most significant one first, each 0 or 1.
-pub fn bits_of_octet(octet: u8) -> [u8; 8]
-    ensures { map (λ bit. bit == 1) result ≡ bits_of_octet octet }
-{
-    [
-        octet >> 7 & 1,
-        octet >> 6 & 1,
-        octet >> 5 & 1,
-        octet >> 4 & 1,
-        octet >> 3 & 1,
-        octet >> 2 & 1,
-        octet >> 1 & 1,
-        octet & 1,
-    ]
-}
-
 /// Packs bits, each 0 or 1, to octets, the most significant one first.
 pub fn pack(bits: &[u8], octets: &mut [u8])
     requires { length bits.now ≡ 8 * length octets.old }

@@ -1,5 +1,0 @@
-use Rattle.tm_base.proofs.Packing.{low_bits-zero}
-use Rattle.tm_codeblock.proofs.bit_gathering.Gathering.new.Goals as goal
-
-pub returns : goal.returns
-returns c = low_bits-zero 0
