@@ -1,5 +1,5 @@
 -- One item after another, in arrays.
-use Rattle.std.proofs.Common.{◌≡◌, ◌⊎◌, inl, inr, ◌≤◌, ◌<◌, ◌+◌, ◌*◌, ◌/◌, ◌^◌, ◌==◌, nat_le, ℕ, zero, suc, Bool, true, false, List, [], ◌∷◌, ◌++◌, length, take, drop, refl, sym, ap, ◌∙◌, subst, arith, append_assoc, length-append, length-drop, length-take, mul-le-mul_right, min, if◌then◌else◌, true≢false, Option, Some, None}
+use Rattle.std.proofs.Common.{◌≡◌, ◌⊎◌, inl, inr, ◌≤◌, ◌<◌, ◌+◌, ◌-◌, ◌*◌, ◌/◌, ◌^◌, ◌==◌, nat_le, ℕ, zero, suc, Bool, true, false, List, [], ◌∷◌, ◌++◌, length, take, drop, refl, sym, ap, ◌∙◌, subst, arith, append_assoc, length-append, length-drop, length-take, mul-le-mul_right, min, if◌then◌else◌, true≢false, Option, Some, None}
 use Rattle.std.proofs.Math.Nat.{div-mul-le_self}
 use Rattle.std.proofs.lemmas.Nat.{le-div}
 use Rattle.std.proofs.lemmas.List.{append-nil, drop-drop, take-append-drop}
@@ -9,9 +9,11 @@ use Rattle.tm_base.specs.Handed.{Handed, Phase, Item, items_of, on_handed}
 use Rattle.tm_base.specs.Takers.{HandedOver}
 use Rattle.tm_config.specs.Configuration.{Configuration}
 use Rattle.tm_conv.specs.declared.rates.Rate.{Rate}
-use Rattle.tm_codeblock.specs.ReceivedCodeblock.{rules_of}
+use Rattle.tm_sync.specs.declared.found.Columns.{Columns}
+use Rattle.tm_sync.specs.Rescan.{reach}
+use Rattle.tm_codeblock.specs.ReceivedCodeblock.{columns_of, rules_of}
 use Rattle.tm_channel.specs.Items.{ItemValue, frames_of}
-use Rattle.tm_channel.specs.Most.{AreFew, most_bits, most_bits_at, most_items}
+use Rattle.tm_channel.specs.Most.{AreFew, most_bits, most_bits_at, most_found_at, most_items}
 use Rattle.tm_buffers.specs.Buffer.{over}
 use Rattle.tm_buffers.specs.Reports.{AreReports}
 use Rattle.tm_buffers.specs.Items.{Collected, Collects, HasWritten, collected, none_yet}
@@ -265,13 +267,26 @@ bits-more : (rate : Option Rate) (c : Configuration) (m n : ℕ) → m ≤ n →
 bits-more None c m n more = count-more c.pack m n more
 bits-more (Some rate) c m n more = omega (arith, more)
 
+-- a quotient of more is no less
+div-more : (unit m n : ℕ) → 0 < unit → m ≤ n → m / unit ≤ n / unit
+div-more unit m n some more = le-div (m / unit) n unit some (omega (arith, div-mul-le_self m unit, more))
+
+found-more : (columns : Option Columns) (unit verify m n : ℕ) → 0 < unit → m ≤ n
+    → most_found_at columns unit verify m ≤ most_found_at columns unit verify n
+found-more None unit verify m n some more = omega (arith, div-more unit m n some more)
+found-more (Some columns) unit verify m n some more =
+    omega (
+      arith,
+      div-more (unit - reach columns + 1) (m + verify * unit) (n + verify * unit) (omega arith) (omega (arith, more)),
+    )
+
 items-more : (c : Configuration) (m n : ℕ) → m ≤ n → most_items c m ≤ most_items c n
 items-more c m n more =
-    let unit = 32 + (rules_of c).block_bits in
-    let below = div-mul-le_self (most_bits c m) unit in
-    let whole = le-div (most_bits c m / unit) (most_bits c n) unit (omega arith)
-    (omega (arith, below, bits-more c.inner c m n more)) in
-    omega (arith, whole)
+    omega (
+      arith,
+      found-more (columns_of c) (32 + (rules_of c).block_bits) c.verify (most_bits c m) (most_bits c n)
+          (omega arith) (bits-more c.inner c m n more),
+    )
 
 frames-first : (count : ℕ) (items : List ItemValue) → length (frames_of (take count items)) ≤ length (frames_of items)
 frames-first zero items = omega arith

@@ -1,13 +1,10 @@
 // Received octets in, frames and reports out into buffers.
 ghost use Rattle.std.specs.Prelude.{◌≡◌, ℕ, ◌+◌, ◌^◌, ◌<◌, ◌≤◌, List, [], length, IfOk, IfSome, None, Some, if◌then◌else◌};
 ghost use Rattle.tm_base.specs.Handed.{Handed};
-ghost use Rattle.tm_base.specs.Marker.{marker_size};
 ghost use Rattle.tm_viterbi.specs.WindowSizes.{stream_bound};
 ghost use Rattle.tm_config.specs.Accepted.{IsAccepted};
-ghost use Rattle.tm_codeblock.specs.ReceivedCodeblock.{rules_of};
 ghost use Rattle.tm_channel.specs.Items.{ItemValue};
-ghost use Rattle.tm_channel.specs.Most.{most_bits};
-ghost use Rattle.tm_channel.specs.Receiving.{waiting_bits};
+ghost use Rattle.tm_channel.specs.Most.{most_bits, most_found};
 ghost use Rattle.tm_channel.specs.OctetReceiving.{AreSlipsSoFar};
 ghost use Rattle.tm_inner.specs.InnerDecoding.{HasWorkers};
 ghost use Rattle.tm_inner.specs.Phase.{IsChosenSoFar};
@@ -19,8 +16,8 @@ use crate::room::MOST;
 use std::alloc::Global;
 use std::marker::Model;
 use tm_base::NoMemory;
-use tm_channel::{Receiver, Totals};
-use tm_codeblock::codeblock_size;
+use tm_channel::{Receiver, Totals, waiting_bits};
+use tm_codeblock::{codeblock_size, columns_of};
 use tm_config::Config;
 use tm_inner::held_bits;
 use tm_windows::Chosen;
@@ -149,11 +146,27 @@ pub fn items_room(config: &Config, count: usize) -> Option<usize>
     ensures accepted { IsAccepted config.now }
 {
     let batch = config.batch();
-    let verify = config.verify();
     if count > MOST {
         return None;
     }
-    Some((most_bits(config, count as u64) / unit_bits(config) + batch + verify) as usize)
+    Some((most_found(config, most_bits(config, count as u64)) + batch) as usize)
+}
+
+// How many codeblocks come with so many bits at most, but for the one under way.
+fn most_found(config: &Config, bits: u64) -> u64
+    requires { bits ≤ 2 ^ 44 }
+    ensures value { result ≡ most_found config.now bits }
+    ensures most { result ≤ 2 ^ 44 + 2 ^ 18 }
+{
+    let unit = 32 + 8 * codeblock_size(config) as u64;
+    let verify = config.verify();
+    match columns_of(config) {
+        None => bits / unit + verify,
+        Some(columns) => {
+            let reach = u64::from(columns.stride * columns.strength);
+            2 * ((bits + verify * unit) / (unit - reach + 1) + 1)
+        }
+    }
 }
 
 // How many bits come of so many octets at most.
@@ -163,30 +176,10 @@ fn most_bits(config: &Config, count: u64) -> u64
     ensures most { result ≤ 2 ^ 44 }
 {
     if config.values().inner.is_some() {
-        waiting_bits(config) + held_bits(config) + count
+        waiting_bits(config, config.batch()) + held_bits(config) + count
     } else if config.values().pack {
         8 * count
     } else {
         count
     }
-}
-
-// How many bits of the inner code may wait, where several workers decode.
-fn waiting_bits(config: &Config) -> u64
-    ensures value { result ≡ waiting_bits config.now config.now.batch }
-    ensures most { result ≤ 2 ^ 20 }
-{
-    if config.workers() > 1 {
-        config.batch() * unit_bits(config)
-    } else {
-        0
-    }
-}
-
-// The bits of a marker and a codeblock.
-fn unit_bits(config: &Config) -> u64
-    ensures value { result ≡ marker_size + (rules_of config.now).block_bits }
-    ensures most { result ≤ 2 ^ 15 }
-{
-    32 + 8 * codeblock_size(config) as u64
 }

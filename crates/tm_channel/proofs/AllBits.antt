@@ -3,10 +3,9 @@ use Rattle.std.proofs.Common.{◌≡◌, Bool, List, [], ◌++◌, length, take,
 use Rattle.std.proofs.Math.Seq.{take-nil}
 use Rattle.tm_base.specs.Pieces.{beyond}
 use Rattle.tm_sync.specs.declared.found.Found.{Found}
-use Rattle.tm_sync.specs.Places.{places}
-use Rattle.tm_sync.proofs.Steps.{places_from-nil}
+use Rattle.tm_sync.proofs.Rescanned.{places_after-nil}
 use Rattle.tm_config.specs.Configuration.{Configuration}
-use Rattle.tm_codeblock.specs.ReceivedCodeblock.{rules_of}
+use Rattle.tm_codeblock.specs.ReceivedCodeblock.{rules_of, columns_of, places_in, sound_in}
 use Rattle.tm_channel.specs.Items.{ItemValue, AreItemsOf, AreFirstItemsOf, AreItems}
 use Rattle.tm_channel.specs.Due.{in_batches, due_count, due}
 use Rattle.tm_channel.proofs.Batches.{length-due}
@@ -14,7 +13,8 @@ use Rattle.tm_channel.proofs.Streaming.{items-append, first-append, first-longer
 
 pub due-nil : (c : Configuration) → due c [] ≡ []
 due-nil c =
-    ap (λ (fs : List Found). take (in_batches c.batch (length fs)) fs) (places_from-nil (rules_of c) 0 0 None)
+    ap (λ (fs : List Found). take (in_batches c.batch (length fs)) fs)
+    (places_after-nil (rules_of c) (columns_of c) (sound_in c []) 0 None)
     ∙ take-nil (in_batches c.batch 0)
 
 -- nothing was due of no bits
@@ -22,32 +22,32 @@ pub beyond-nil : (c : Configuration) (fs : List Found) → beyond (due c []) fs 
 beyond-nil c fs = ap (λ (l : List Found). drop (length l) fs) (due-nil c)
 
 pub due-then-last : (c : Configuration) (bits : List Bool) → due c bits
-    ++ beyond (due c bits) (places (rules_of c) bits) ≡ places (rules_of c) bits
+    ++ beyond (due c bits) (places_in c bits) ≡ places_in c bits
 due-then-last c bits =
-    let fs : List Found = places (rules_of c) bits in
+    let fs : List Found = places_in c bits in
     ap (λ n. due c bits ++ drop n fs) (length-due c bits) ∙ take-append-drop (due_count c bits) fs
 
 pub all-items : (c : Configuration) (bits : List Bool) (items others : List ItemValue)
     → AreItemsOf c bits (beyond (due c []) (due c bits)) items
-    → AreItemsOf c bits (beyond (due c bits) (places (rules_of c) bits)) others → AreItems c bits (items ++ others)
+    → AreItemsOf c bits (beyond (due c bits) (places_in c bits)) others → AreItems c bits (items ++ others)
 all-items c bits items others are also =
     subst (λ (fs : List Found). AreItemsOf c bits fs (items ++ others)) (due-then-last c bits)
-    (items-append c bits (due c bits) (beyond (due c bits) (places (rules_of c) bits)) items others
+    (items-append c bits (due c bits) (beyond (due c bits) (places_in c bits)) items others
     (subst (λ (fs : List Found). AreItemsOf c bits fs items) (beyond-nil c (due c bits)) are) also)
 
 pub some-items : (c : Configuration) (bits : List Bool) (items others : List ItemValue)
     → AreItemsOf c bits (beyond (due c []) (due c bits)) items
-    → AreFirstItemsOf c bits (beyond (due c bits) (places (rules_of c) bits)) others
-    → AreFirstItemsOf c bits (places (rules_of c) bits) (items ++ others)
+    → AreFirstItemsOf c bits (beyond (due c bits) (places_in c bits)) others
+    → AreFirstItemsOf c bits (places_in c bits) (items ++ others)
 some-items c bits items others are also =
     subst (λ (fs : List Found). AreFirstItemsOf c bits fs (items ++ others)) (due-then-last c bits)
-    (first-append c bits (due c bits) (beyond (due c bits) (places (rules_of c) bits)) items others
+    (first-append c bits (due c bits) (beyond (due c bits) (places_in c bits)) items others
     (subst (λ (fs : List Found). AreItemsOf c bits fs items) (beyond-nil c (due c bits)) are) also)
 
 pub few-items : (c : Configuration) (bits : List Bool) (items : List ItemValue)
     → AreFirstItemsOf c bits (beyond (due c []) (due c bits)) items
-    → AreFirstItemsOf c bits (places (rules_of c) bits) items
+    → AreFirstItemsOf c bits (places_in c bits) items
 few-items c bits items are =
     subst (λ (fs : List Found). AreFirstItemsOf c bits fs items) (due-then-last c bits)
-    (first-longer c bits (due c bits) (beyond (due c bits) (places (rules_of c) bits)) items
+    (first-longer c bits (due c bits) (beyond (due c bits) (places_in c bits)) items
     (subst (λ (fs : List Found). AreFirstItemsOf c bits fs items) (beyond-nil c (due c bits)) are))

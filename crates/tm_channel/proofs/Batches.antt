@@ -4,8 +4,7 @@ use Rattle.std.proofs.Math.Nat.{div-add-mod, div-mul-le_self, mul-div-le, mul-le
 use Rattle.std.proofs.lemmas.List.{length-take-le}
 use Rattle.std.proofs.lemmas.Nat.{div-mul-add, le-div}
 use Rattle.tm_config.specs.Configuration.{Configuration}
-use Rattle.tm_sync.specs.Places.{places}
-use Rattle.tm_codeblock.specs.ReceivedCodeblock.{rules_of}
+use Rattle.tm_codeblock.specs.ReceivedCodeblock.{places_in}
 use Rattle.tm_channel.specs.Due.{in_batches, due_count, due}
 
 pub batches-le : (size n : ℕ) → in_batches size n ≤ n
@@ -34,4 +33,4 @@ batches-more (suc size) m n =
 
 pub length-due : (c : Configuration) (bits : List Bool) → length (due c bits) ≡ due_count c bits
 length-due c bits =
-    let all = places (rules_of c) bits in length-take-le (due_count c bits) all (batches-le c.batch (length all))
+    let all = places_in c bits in length-take-le (due_count c bits) all (batches-le c.batch (length all))

@@ -1,5 +1,5 @@
 -- The items of frames that were sent with no gap and not disturbed.
-use Rattle.std.proofs.Common.{◌≡◌, ◌<◌, ◌≤◌, ◌⊎◌, ◌+◌, ◌*◌, ℕ, Bool, true, false, cond, nat_le, List, [], ◌∷◌, ◌++◌, length, map, refl, sym, ap, ◌∙◌, subst, arith, append_assoc, inl, inr}
+use Rattle.std.proofs.Common.{◌≡◌, ◌<◌, ◌≤◌, ◌⊎◌, ◌+◌, ◌*◌, ℕ, zero, suc, Bool, true, false, cond, nat_le, List, [], ◌∷◌, ◌++◌, length, map, refl, sym, ap, ◌∙◌, subst, arith, append_assoc, inl, inr, mul-le-mul_right, Option, Some, None}
 use Rattle.std.specs.Prelude.{replicate}
 use Rattle.std.specs.List.{AllByRecursion, range_with_len}
 use Rattle.std.proofs.lemmas.Bool.{cases_lt}
@@ -16,16 +16,22 @@ use Rattle.tm_rs_solve.specs.declared.answers.Answer.{Answer}
 use Rattle.tm_rs_solve.specs.declared.answers.Answer.TheVariants.{Fixed}
 use Rattle.tm_sync.specs.declared.found.Found.{Found}
 use Rattle.tm_sync.specs.Bits.{marker_bits}
-use Rattle.tm_sync.specs.Places.{places}
-use Rattle.tm_sync.specs.Marked.{Entry, joined, IsMarked, clean_entries, clean_places}
-use Rattle.tm_sync.proofs.MarkedStreams.{places-marked}
-use Rattle.tm_sync.proofs.CleanStreams.{clean-marked, places-clean, places-too_few}
+use Rattle.tm_sync.specs.declared.found.Columns.{Columns}
+use Rattle.tm_sync.specs.Places.{settled_by}
+use Rattle.tm_sync.specs.Rescan.{Soundness, places_with}
+use Rattle.tm_sync.specs.Marked.{Entry, joined, IsMarked, clean_entries, clean_places, places_of}
+use Rattle.tm_sync.proofs.CleanStreams.{clean-marked, length-sent, places-clean, places_of-clean}
+use Rattle.tm_sync.proofs.MarkedInside.{places-clean_inside}
+use Rattle.tm_sync.proofs.Prefixes.{places_after-unsettled}
+use Rattle.tm_sync.proofs.Rescanned.{places_with-off}
 use Rattle.tm_codeblock.specs.Cadu.{codeblock_of, sent_codeblock, cadu}
-use Rattle.tm_codeblock.specs.ReceivedCodeblock.{rules_of, received_column, received_columns}
-use Rattle.tm_channel.specs.Items.{ItemValue, AreItems, AreItemsOf}
-use Rattle.tm_channel.specs.SentStream.{IsFrame, SentUnit, entries_of, IsSent, unit_places, sent_columns, AreRepaired, AreWithin, IsNear, IsAsSent, AreAsSent, sent_bits, clean_answers, clean_items, found_frames}
+use Rattle.tm_codeblock.specs.ReceivedCodeblock.{rules_of, codeblock_at, columns_of, places_in, received_column, received_columns, sound_in}
+use Rattle.tm_channel.specs.Items.{ItemValue, AreItems, AreItemsOf, are_fixed}
+use Rattle.tm_channel.specs.SentStream.{IsFrame, SentUnit, entries_of, unit_places, sent_columns, AreRepaired, AreWithin, IsNear, IsAsSent, AreAsSent, sent_bits, clean_answers, clean_items, found_frames}
 use Rattle.tm_channel.proofs.SentCodeblocks.{length-sent_codeblock, received-as_sent}
-use Rattle.tm_channel.proofs.Repairs.{items-as_sent}
+use Rattle.tm_channel.proofs.HasItems.{has-items-of}
+use Rattle.tm_channel.proofs.Repaired.{item-sound}
+use Rattle.tm_channel.proofs.Repairs.{items-at}
 
 -- the bits of a frame's codeblock, as they are sent
 abbrev sent_block : Configuration → List ℕ → List Bool
@@ -86,30 +92,31 @@ marked c frames ok are many =
     (sym (bits-are c frames))
     (clean-marked (rules_of c) (blocks_of c frames) (blocks-sized c frames ok are) (enough c frames many)))
 
--- the bits of frames are a stream of their units
-sent-clean : (c : Configuration) (frames : List (List ℕ)) → IsAccepted c → AllByRecursion (IsFrame c) frames
-    → c.verify < length frames
-    → IsSent c (sent_bits c frames) (clean_units c frames) []
-sent-clean c frames ok are many =
-    record { marked = marked c frames ok are many; frames = units-are_frames c frames are }
-
-places-are : (c : Configuration) (frames : List (List ℕ)) → IsAccepted c → AllByRecursion (IsFrame c) frames
-    → c.verify < length frames
+-- their places
+places-are : (c : Configuration) (frames : List (List ℕ))
     → unit_places c (clean_units c frames) ≡ clean_places (8 * codeblock_length c) 0 (blocks_of c frames)
-places-are c frames ok are many =
-    sym (places-marked (rules_of c) (sent_bits c frames) (entries_of (clean_units c frames)) []
-    (marked c frames ok are many))
-    ∙ ap (places (rules_of c)) (bits-are c frames)
-    ∙ places-clean (rules_of c) (blocks_of c frames) (blocks-sized c frames ok are) (enough c frames many)
+places-are c frames =
+    ap (places_of (rules_of c) 0 None) (sym (entries-are c frames))
+    ∙ places_of-clean (rules_of c) 0 None (blocks_of c frames)
 
 -- of fewer none is found
 places-none : (c : Configuration) (frames : List (List ℕ)) → IsAccepted c → AllByRecursion (IsFrame c) frames
-    → length frames ≤ c.verify
-    → places (rules_of c) (sent_bits c frames) ≡ []
+    → length frames ≤ c.verify → places_in c (sent_bits c frames) ≡ []
 places-none c frames ok are few =
-    ap (places (rules_of c)) (bits-are c frames)
-    ∙ places-too_few (rules_of c) (blocks_of c frames) (blocks-sized c frames ok are)
-    (omega (arith, few, length-map frames (sent_block c)))
+    places_after-unsettled (rules_of c) (columns_of c) (sound_in c (sent_bits c frames)) 0 None (sent_bits c frames) tt
+    (settled c.verify (omega (arith, few, length-map frames (sent_block c))))
+  where
+    size : ℕ
+    size = (rules_of c).block_bits
+
+    count : length (sent_bits c frames) ≡ length (blocks_of c frames) * (32 + size)
+    count = ap length (bits-are c frames)
+        ∙ length-sent (rules_of c) (blocks_of c frames) (blocks-sized c frames ok are)
+
+    settled : (verify : ℕ) → length (blocks_of c frames) ≤ verify
+        → length (sent_bits c frames) < settled_by verify size
+    settled zero fewer = omega (arith, count, mul-le-mul_right (32 + size) fewer)
+    settled (suc verify) fewer = omega (arith, count, mul-le-mul_right (32 + size) fewer)
 
 -- ---- one item
 
@@ -172,6 +179,70 @@ clean-from c at (frame ∷ frames) (item ∷ items) ok are sent =
     (λ i. clean-one c at frame item ok are.0 sent.0 i ∷ clean-from c
     (at + 32 + 8 * codeblock_length c) frames items ok are.1 sent.1 i)
 
+-- the items of the units
+items-of : (c : Configuration) (frames : List (List ℕ)) (items : List ItemValue) → IsAccepted c
+    → AllByRecursion (IsFrame c) frames → c.verify < length frames
+    → AreItemsOf c (sent_bits c frames) (clean_places (8 * codeblock_length c) 0 (blocks_of c frames)) items
+    → items ≡ clean_items c 0 frames
+items-of c frames items ok are many its =
+    clean-from c 0 frames items ok are
+    (subst (λ (fs : List Found). AreAsSent c fs (clean_units c frames) items) (places-are c frames)
+    (items-at c (sent_bits c frames) (clean_units c frames) [] items ok (marked c frames ok are many)
+    (units-are_frames c frames are)
+    (subst (λ (fs : List Found). AreItemsOf c (sent_bits c frames) fs items) (sym (places-are c frames)) its)))
+
+-- ---- they are found
+
+-- a codeblock all of whose columns are repaired is sound
+clean-fixed : (c : Configuration) → are_fixed (clean_answers c) ≡ true
+clean-fixed c = go (is_uncoded c.code)
+  where
+    all : (n : ℕ) → are_fixed (replicate n (Fixed 0)) ≡ true
+    all zero = refl
+    all (suc n) = all n
+
+    go : (none : Bool) → are_fixed (cond none [] (replicate c.depth (Fixed 0))) ≡ true
+    go true = refl
+    go false = all c.depth
+
+are-sound : (c : Configuration) (bits : List Bool) (at : ℕ) (fs : List Found) (frames : List (List ℕ))
+    → AreItemsOf c bits fs (clean_items c at frames)
+    → AllByRecursion (λ f. sound_in c bits f.place f.inverted ≡ true) fs
+are-sound c bits at [] [] its = tt
+are-sound c bits at [] (frame ∷ frames) its = absurd its
+are-sound c bits at (f ∷ fs) [] its = absurd its
+are-sound c bits at (f ∷ fs) (frame ∷ frames) its = (
+  item-sound c f (codeblock_at c bits f) _ its.0 ∙ clean-fixed c,
+  are-sound c bits (at + 32 + 8 * codeblock_length c) fs frames its.1,
+)
+
+places-sent : (c : Configuration) (frames : List (List ℕ)) → IsAccepted c → AllByRecursion (IsFrame c) frames
+    → c.verify < length frames
+    → places_in c (sent_bits c frames) ≡ clean_places (8 * codeblock_length c) 0 (blocks_of c frames)
+places-sent c frames ok are many =
+    ap (places_with (rules_of c) (columns_of c) sound) (bits-are c frames) ∙ go (columns_of c)
+  where
+    fs : List Found
+    fs = clean_places (8 * codeblock_length c) 0 (blocks_of c frames)
+
+    sound : Soundness
+    sound = sound_in c (sent_bits c frames)
+
+    says : AllByRecursion (λ f. sound f.place f.inverted ≡ true) fs
+    says =
+        let its = has-items-of c (sent_bits c frames) fs in
+        are-sound c (sent_bits c frames) 0 fs frames
+        (subst (AreItemsOf c (sent_bits c frames) fs) (items-of c frames its.0 ok are many its.1) its.1)
+
+    go : (columns : Option Columns)
+        → places_with (rules_of c) columns sound (joined (clean_entries (blocks_of c frames)) []) ≡ fs
+    go None =
+        places_with-off (rules_of c) sound (joined (clean_entries (blocks_of c frames)) [])
+        ∙ places-clean (rules_of c) (blocks_of c frames) (blocks-sized c frames ok are) (enough c frames many)
+    go (Some columns) =
+        places-clean_inside (rules_of c) columns sound (blocks_of c frames) (blocks-sized c frames ok are)
+        (enough c frames many) says
+
 -- no places have no items
 no-items : (c : Configuration) (bits : List Bool) (items : List ItemValue) → AreItemsOf c bits [] items → items ≡ []
 no-items c bits [] are = refl
@@ -186,10 +257,9 @@ items-clean c frames items ok are its =
       | inl many ↦ (
           let more : nat_le (length frames) c.verify ≡ false = grind (arith, nat_tests) in
           let all : found_frames c frames ≡ frames = ap (λ t. cond t [] frames) more in
-          clean-from c 0 frames items ok are
-          (subst (λ (fs : List Found). AreAsSent c fs (clean_units c frames) items) (places-are c frames ok are many)
-          (items-as_sent c (sent_bits c frames) (clean_units c frames) [] items ok
-          (sent-clean c frames ok are many) its))
+          items-of c frames items ok are many
+          (subst (λ (fs : List Found). AreItemsOf c (sent_bits c frames) fs items) (places-sent c frames ok are many)
+          its)
           ∙ ap (clean_items c 0) (sym all)
           )
       | inr few ↦ (

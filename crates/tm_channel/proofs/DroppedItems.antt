@@ -6,8 +6,7 @@ use Rattle.tm_viterbi.specs.WindowBlock.{WindowBlock}
 use Rattle.tm_inner.specs.Inner.{Inner, BlocksAt, bits_at, plain_bits_by}
 use Rattle.tm_rs_solve.specs.declared.answers.Answer.{Answer}
 use Rattle.tm_sync.specs.declared.found.Found.{Found}
-use Rattle.tm_sync.specs.Places.{places}
-use Rattle.tm_codeblock.specs.ReceivedCodeblock.{rules_of, codeblock_in, codeblock_at, received_columns, frame_of}
+use Rattle.tm_codeblock.specs.ReceivedCodeblock.{places_in, codeblock_in, codeblock_at, received_columns, frame_of}
 use Rattle.tm_channel.specs.Items.{ItemValue, AreNearest, are_fixed, IsItem, AreItemsOf, dropping, dropped_item}
 use Rattle.tm_channel.specs.Receive.{Receive}
 
@@ -63,6 +62,7 @@ bits-dropped c (Some rate) octets blocks = refl
 
 pub received-dropped : (c : Configuration) (phase : ℕ) (octets : List ℕ) (items : List ItemValue)
     → Receive c phase octets items → Receive (dropping c) phase octets (map dropped_item items)
+unfolding received_columns codeblock_in
 received-dropped c phase octets items received = record {
   bits = received.bits;
   inner = record {
@@ -72,5 +72,5 @@ received-dropped c phase octets items received = record {
         blocks-dropped c c.inner phase octets received.inner.blocks received.inner.left received.inner.are_blocks;
     are_bits = received.inner.are_bits ∙ bits-dropped c c.inner octets received.inner.blocks;
   };
-  are_items = items-dropped c received.bits (places (rules_of c) received.bits) items received.are_items;
+  are_items = items-dropped c received.bits (places_in c received.bits) items received.are_items;
 }

@@ -6,14 +6,13 @@ use Rattle.tm_config.specs.Configuration.{Configuration, codeblock_length}
 use Rattle.tm_config.specs.Accepted.{IsAccepted}
 use Rattle.tm_inner.specs.Inner.{AreInnerBlocks, AreInnerDue, inner_bits}
 use Rattle.tm_sync.specs.declared.found.Found.{Found}
-use Rattle.tm_sync.specs.Places.{places}
-use Rattle.tm_sync.proofs.Longer.{places-end, places-goes_on}
 use Rattle.tm_viterbi.specs.WindowBlock.{WindowBlock}
-use Rattle.tm_codeblock.specs.ReceivedCodeblock.{rules_of, codeblock_in, codeblock_at}
+use Rattle.tm_codeblock.specs.ReceivedCodeblock.{codeblock_in, codeblock_at, places_in}
 use Rattle.tm_channel.specs.Items.{ItemValue, IsItem, AreItemsOf, AreItems}
 use Rattle.tm_channel.specs.Due.{due_count}
 use Rattle.tm_channel.specs.Receive.{Receive, ReceiveDue}
 use Rattle.tm_channel.proofs.OnlyItems.{items-same}
+use Rattle.tm_codeblock.proofs.PlacesIn.{places_in-append, places_in-end}
 
 -- the places end within so many bits
 abbrev pub EndWithin : Configuration → ℕ → List Found → Type 0
@@ -70,17 +69,17 @@ within-take c n (suc k) (f ∷ fs) within = (within.0, within-take c n k fs with
 
 -- the items of some of the first places of a prefix stand first among those of all bits
 pub first-items : (c : Configuration) (prefix rest : List Bool) (k : ℕ) (due items : List ItemValue) → IsAccepted c
-    → AreItemsOf c prefix (take k (places (rules_of c) prefix)) due → AreItems c (prefix ++ rest) items
+    → AreItemsOf c prefix (take k (places_in c prefix)) due → AreItems c (prefix ++ rest) items
     → (others : List ItemValue) × (items ≡ due ++ others)
 first-items c prefix rest k due items ok first all =
-    let fs = places (rules_of c) prefix in
-    let gs = drop (length fs) (places (rules_of c) (prefix ++ rest)) in
-    let whole : places (rules_of c) (prefix ++ rest) ≡ take k (places (rules_of c) prefix) ++ (drop k fs ++ gs) =
-    places-goes_on (rules_of c) prefix rest ∙ ap (λ l. l ++ gs) (sym (take-append-drop k fs))
+    let fs = places_in c prefix in
+    let gs = drop (length fs) (places_in c (prefix ++ rest)) in
+    let whole : places_in c (prefix ++ rest) ≡ take k (places_in c prefix) ++ (drop k fs ++ gs) =
+    places_in-append c prefix rest ∙ ap (λ l. l ++ gs) (sym (take-append-drop k fs))
     ∙ append_assoc (take k fs) (drop k fs) gs in
     let parts = split c (prefix ++ rest) (take k fs) (drop k fs ++ gs) items
     (subst (λ (l : List Found). AreItemsOf c (prefix ++ rest) l items) whole all) in
-    let within = within-take c (length prefix) k fs (places-end (rules_of c) prefix) in
+    let within = within-take c (length prefix) k fs (places_in-end c prefix) in
     let same : parts.first ≡ due =
     items-same c (prefix ++ rest) (take k fs) parts.first due ok
     (within-more c (length prefix) (length (prefix ++ rest)) (take k fs)

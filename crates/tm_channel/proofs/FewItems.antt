@@ -22,9 +22,7 @@ use Rattle.tm_inner.proofs.HandedBits.{needed-few, waiting-last-few, waiting-mor
 use Rattle.tm_inner.proofs.PhasePieces.{items_of-with_phase}
 use Rattle.tm_inner.proofs.PlainBits.{length-plain}
 use Rattle.tm_sync.specs.declared.found.Found.{Found}
-use Rattle.tm_sync.specs.Places.{places}
-use Rattle.tm_sync.proofs.Longer.{places-few}
-use Rattle.tm_codeblock.specs.ReceivedCodeblock.{rules_of, codeblock_at, data_octets, frame_of}
+use Rattle.tm_codeblock.specs.ReceivedCodeblock.{codeblock_at, data_octets, frame_of, places_in}
 use Rattle.tm_channel.specs.declared.totals.Totals.{Totals}
 use Rattle.tm_channel.specs.Items.{ItemValue, IsItem, AreItemsOf, is_given, frames_of}
 use Rattle.tm_channel.specs.Due.{due}
@@ -32,6 +30,7 @@ use Rattle.tm_channel.specs.Handing.{phase_of}
 use Rattle.tm_channel.specs.Most.{AreFew, most_bits, most_bits_at, most_items}
 use Rattle.tm_channel.specs.Receiving.{waiting_bits}
 use Rattle.tm_channel.specs.OctetReceiving.{BitReceiving, Received, ReceivedLast, Stages, StagesFor, StagesOn, bits_found}
+use Rattle.tm_channel.proofs.Apart.{few-found}
 use Rattle.tm_channel.proofs.Batches.{batches-le, length-due}
 use Rattle.tm_channel.proofs.GivenOctets.{EndsIn, ended, further-at, items-ended, phased-items}
 use Rattle.tm_channel.proofs.SentCodeblocks.{octets-received}
@@ -107,27 +106,16 @@ as-many c bits (f ∷ fs) (item ∷ items) are = ap suc (as-many c bits fs items
 -- after the items that were due there are these, where so few bits came
 items-few : (c : Configuration) (bits piece : List Bool) (before items : List ItemValue) (fs : List Found)
     (octets : ℕ) → IsAccepted c → AreItemsOf c bits (due c bits) before
-    → AreItemsOf c (bits ++ piece) fs (before ++ items) → length fs ≤ length (places (rules_of c) (bits ++ piece))
+    → AreItemsOf c (bits ++ piece) fs (before ++ items) → length fs ≤ length (places_in c (bits ++ piece))
     → length piece ≤ most_bits c octets → AreFew c octets items
 items-few c bits piece before items fs octets ok were are within few =
-    let unit = 32 + (rules_of c).block_bits in
-    let whole = most_bits c octets / unit in
-    let all = length (places (rules_of c) bits) in
-    let some : 0 < unit = omega arith in
-    let short : length piece ≤ (whole + 1) * unit = omega (
-      arith,
-      few,
-      lt-div-mul-add {a = most_bits c octets} {b = unit} some,
-      suc-mul whole unit,
-      ap (λ n. n * unit) (next whole),
-    )
-    in
+    let all = length (places_in c bits) in
     let waits : all < c.batch * (all / c.batch) + c.batch =
     omega (arith, lt-div-mul-add {a = all} {b = c.batch} ok.some_batch, mul_comm (all / c.batch) c.batch) in
     let count : length items ≤ most_items c octets =
     omega (
       arith,
-      places-few (rules_of c) bits piece (whole + 1) short,
+      few-found c bits piece (most_bits c octets) few,
       waits,
       as-many c bits (due c bits) before were,
       length-due c bits,
@@ -140,9 +128,6 @@ items-few c bits piece before items fs octets ok were are within few =
           (mul-le-mul_right c.frame_length count),
     )
   where
-    next : (n : ℕ) → n + 1 ≡ suc n
-    next n = omega arith
-
     le-through : (a : ℕ) {b d : ℕ} → a ≤ b → b ≤ d → a ≤ d
     le-through a ab bd = omega (arith, ab, bd)
 
@@ -226,8 +211,8 @@ stages-few s now given octets done more ok same stood on =
       stood.few,
       needed-few c.inner c,
     )) in
-    let within : length (due c (bits ++ piece)) ≤ length (places (rules_of c) (bits ++ piece)) =
-    omega (arith, length-due c (bits ++ piece), batches-le c.batch (length (places (rules_of c) (bits ++ piece)))) in
+    let within : length (due c (bits ++ piece)) ≤ length (places_in c (bits ++ piece)) =
+    omega (arith, length-due c (bits ++ piece), batches-le c.batch (length (places_in c (bits ++ piece)))) in
     items-few c bits piece stood.items (items_of more) (due c (bits ++ piece))
     (length octets) ok stood.are_items whole within few
 
@@ -255,4 +240,4 @@ ends-few took s bits_now taker middle now room phase piece totals ok at_end p q 
     )) in
     subst (AreFew c 0) (sym (items-after phase (p.items ++ q.items)))
     (items-few c bits piece stood.items (p.items ++ q.items)
-    (places (rules_of c) (bits ++ piece)) 0 ok stood.are_items items (omega arith) few)
+    (places_in c (bits ++ piece)) 0 ok stood.are_items items (omega arith) few)

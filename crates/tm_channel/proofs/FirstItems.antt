@@ -12,8 +12,7 @@ use Rattle.tm_inner.specs.Receiving.{FirstAt}
 use Rattle.tm_inner.proofs.DueBits.{StayClosed, StandFirst, drop-split, kept-append, soft-more}
 use Rattle.tm_inner.proofs.PlainBits.{plain-append}
 use Rattle.tm_sync.specs.declared.found.Found.{Found}
-use Rattle.tm_sync.specs.Places.{places}
-use Rattle.tm_codeblock.specs.ReceivedCodeblock.{rules_of}
+use Rattle.tm_codeblock.specs.ReceivedCodeblock.{places_in}
 use Rattle.tm_channel.specs.Items.{ItemValue, AreItemsOf, AreFirstItemsOf, AreItems}
 use Rattle.tm_channel.specs.Receive.{Receive, ReceiveFirst, ReceivePrefix}
 use Rattle.tm_channel.proofs.DueItems.{first-items}
@@ -55,7 +54,7 @@ first-stand stay stand c phase octets more first items ok prefix all =
     let split = bits-first stay stand c.inner c phase octets more prefix.blocks all.inner.blocks all.inner.left
     prefix.are_first all.inner.are_blocks in
     first-items c bits split.0 (length first) first items ok
-    (first-take c bits (places (rules_of c) bits) first prefix.are_items)
+    (first-take c bits (places_in c bits) first prefix.are_items)
     (subst (λ (l : List Bool). AreItems c l items) (all.inner.are_bits ∙ split.1) all.are_items)
 
 -- octets come to one list of bits
@@ -73,5 +72,5 @@ prefix-stand one c phase octets first items ok prefix all =
     let same : all.bits ≡ bits ++ [] = one c phase octets all.bits bits all.inner prefix.inner
     ∙ sym (append-nil bits) in
     first-items c bits [] (length first) first items ok (first-take c bits
-    (places (rules_of c) bits) first prefix.are_items)
+    (places_in c bits) first prefix.are_items)
     (subst (λ (l : List Bool). AreItems c l items) same all.are_items)

@@ -29,9 +29,7 @@ use Rattle.tm_inner.proofs.WithPhase.{choice-stays, settled-stays, so_far-stays}
 use Rattle.tm_inner.proofs.FewBits.{first-few, first-of-due, whole-few}
 use Rattle.tm_inner.proofs.HandedBits.{handed-due-none, needed-few, waiting-last-few, waiting-more-few}
 use Rattle.tm_sync.specs.declared.found.Found.{Found}
-use Rattle.tm_sync.specs.Places.{places}
-use Rattle.tm_sync.proofs.Longer.{places-end, places-goes_on}
-use Rattle.tm_codeblock.specs.ReceivedCodeblock.{rules_of}
+use Rattle.tm_codeblock.specs.ReceivedCodeblock.{places_in}
 use Rattle.tm_channel.specs.Items.{ItemValue, AreItemsOf, AreFirstItemsOf, AreItems}
 use Rattle.tm_channel.specs.Due.{due}
 use Rattle.tm_channel.specs.declared.totals.Totals.{Totals}
@@ -42,6 +40,7 @@ use Rattle.tm_channel.proofs.Streaming.{first-longer, first-more, first-then, it
 use Rattle.tm_channel.proofs.AllBits.{beyond-nil, all-items, some-items, few-items, due-nil}
 use Rattle.tm_channel.proofs.ReceivedPieces.{all_bits, all_bits-append}
 use Rattle.tm_channel.proofs.PhasedItems.{prefix-nil, with_phase-split, none-after, part-some, phase_from-append, phase_from-items, phase_of-with_phase, phased-further}
+use Rattle.tm_codeblock.proofs.PlacesIn.{places_in-append, places_in-end}
 
 -- ---- the phase and the bits that are kept
 
@@ -259,7 +258,7 @@ due-further c bits piece done items are also =
 
 first-of-more : (c : Configuration) (bits piece : List Bool) (done items : List ItemValue)
     → AreItemsOf c bits (due c bits) done → AreFirstFurther c bits piece items
-    → AreFirstItemsOf c (bits ++ piece) (places (rules_of c) (bits ++ piece)) (done ++ items)
+    → AreFirstItemsOf c (bits ++ piece) (places_in c (bits ++ piece)) (done ++ items)
 first-of-more c bits piece done items are also =
     few-items c (bits ++ piece) (done ++ items)
     (first-then c [] bits piece done items (subst (λ (fs : List Found). AreItemsOf c bits fs done)
@@ -267,13 +266,13 @@ first-of-more c bits piece done items are also =
 
 -- first items of a prefix of the bits are first items of all
 first-beyond : (c : Configuration) (bits rest : List Bool) (items : List ItemValue)
-    → AreFirstItemsOf c bits (places (rules_of c) bits) items
-    → AreFirstItemsOf c (bits ++ rest) (places (rules_of c) (bits ++ rest)) items
+    → AreFirstItemsOf c bits (places_in c bits) items
+    → AreFirstItemsOf c (bits ++ rest) (places_in c (bits ++ rest)) items
 first-beyond c bits rest items are =
-    subst (λ (fs : List Found). AreFirstItemsOf c (bits ++ rest) fs items) (sym (places-goes_on (rules_of c) bits rest))
-    (first-longer c (bits ++ rest) (places (rules_of c) bits)
-    (drop (length (places (rules_of c) bits)) (places (rules_of c) (bits ++ rest))) items
-    (first-more c bits rest (places (rules_of c) bits) items (places-end (rules_of c) bits) are))
+    subst (λ (fs : List Found). AreFirstItemsOf c (bits ++ rest) fs items) (sym (places_in-append c bits rest))
+    (first-longer c (bits ++ rest) (places_in c bits)
+    (drop (length (places_in c bits)) (places_in c (bits ++ rest))) items
+    (first-more c bits rest (places_in c bits) items (places_in-end c bits) are))
 
 -- ---- the phase comes once
 
@@ -601,7 +600,7 @@ stages-prefix s now room octets phase piece tried of roomy grows first some give
                     subst (AreInnerFirst c (skip_of h.chosen) (given ++ octets)) (sym blocks)
                     (first-of-due c (skip_of h.chosen) (given ++ octets) h.items h.are_items);
                 are_items =
-                    subst (λ (l : List Bool). AreFirstItemsOf c l (places (rules_of c) l) (stood.items ++ tried))
+                    subst (λ (l : List Bool). AreFirstItemsOf c l (places_in c l) (stood.items ++ tried))
                     (sym f.is) (first-of-more c bits piece stood.items tried stood.are_items more);
               };
               are =
@@ -804,7 +803,7 @@ first-stays stays closed c octets more handed h =
         are_items = record {
           blocks = r.blocks;
           are_first = first.0;
-          are_items = subst (λ (l : List Bool). AreFirstItemsOf c l (places (rules_of c) l) t.items) (sym first.1.1)
+          are_items = subst (λ (l : List Bool). AreFirstItemsOf c l (places_in c l) t.items) (sym first.1.1)
               (first-beyond c (inner_bits c octets r.blocks) first.1.0 t.items r.are_items);
         };
         are = t.are;
@@ -915,7 +914,7 @@ items-ended took s bits_now taker middle now piece of p q given done stood few =
     let more = subst (λ (k : Configuration). AreFurther k bits piece p.items) of (p.due bits few stood.bits) in
     let due_items = due-further c bits piece stood.items p.items stood.are_items more in
     let last = subst (λ (k : Configuration). AreItemsOf k (bits ++ piece)
-    (beyond (due k (bits ++ piece)) (places (rules_of k) (bits ++ piece))) q.items)
+    (beyond (due k (bits ++ piece)) (places_in k (bits ++ piece))) q.items)
     (p.config ∙ of) (q.last (bits ++ piece) (p.stands bits few stood.bits)) in
     let items = all-items c (bits ++ piece) (stood.items ++ p.items) q.items
     (subst (λ (fs : List Found). AreItemsOf c (bits ++ piece) fs (stood.items ++ p.items))
@@ -950,7 +949,7 @@ ends-first : (s : Stages) (phase : Option Chosen) (piece : List Bool) (totals : 
     (done : List (Handed ItemValue)) (stood : StagesFor s given done)
     → Ended s given done stood phase piece totals → (tried : List ItemValue)
     → AreFirstItemsOf s.inner.config (inner_bits s.inner.config given (items_of stood.handed) ++ piece)
-    (places (rules_of s.inner.config) (inner_bits s.inner.config given (items_of stood.handed) ++ piece))
+    (places_in s.inner.config (inner_bits s.inner.config given (items_of stood.handed) ++ piece))
     (stood.items ++ tried)
     → AreReceivedPrefix s.inner.config given (done ++ (with_phase phase [] ++ map Item tried))
 ends-first s phase piece totals given done stood e tried first =
@@ -963,7 +962,7 @@ ends-first s phase piece totals given done stood e tried first =
         bits = e.bits;
         inner = e.inner;
         are_items =
-            subst (λ (l : List Bool). AreFirstItemsOf c l (places (rules_of c) l) (stood.items ++ tried))
+            subst (λ (l : List Bool). AreFirstItemsOf c l (places_in c l) (stood.items ++ tried))
             (sym e.is) first;
       };
       are = e.are tried;
@@ -1012,13 +1011,13 @@ ends-prefix took broke s bits_now taker middle now room phase piece totals at_en
     let more = subst (λ (k : Configuration). AreFurther k bits piece p.items) at_end.of (p.due bits e.few stood.bits) in
     let due_items = due-further c bits piece stood.items p.items stood.are_items more in
     let last = subst (λ (k : Configuration). AreFirstItemsOf k (bits ++ piece)
-    (beyond (due k (bits ++ piece)) (places (rules_of k) (bits ++ piece))) q.tried)
+    (beyond (due k (bits ++ piece)) (places_in k (bits ++ piece))) q.tried)
     (p.config ∙ at_end.of) (q.first (bits ++ piece) (p.stands bits e.few stood.bits)) in
     let items = some-items c (bits ++ piece) (stood.items ++ p.items) q.tried
     (subst (λ (fs : List Found). AreItemsOf c (bits ++ piece) fs (stood.items ++ p.items))
     (sym (beyond-nil c (due c (bits ++ piece)))) due_items) last in
     ends-first s phase piece totals given done stood e (p.items ++ q.tried)
-    (subst (AreFirstItemsOf c (bits ++ piece) (places (rules_of c) (bits ++ piece)))
+    (subst (AreFirstItemsOf c (bits ++ piece) (places_in c (bits ++ piece)))
     (append_assoc stood.items p.items q.tried) items)
 
 -- ---- new stages

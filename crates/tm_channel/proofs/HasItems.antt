@@ -9,8 +9,7 @@ use Rattle.tm_rs_code.proofs.HasNearest.{has_nearest}
 use Rattle.tm_rs_solve.specs.declared.answers.Answer.{Answer}
 use Rattle.tm_rs_solve.specs.declared.answers.Answer.TheVariants.{Fixed, Beyond}
 use Rattle.tm_sync.specs.declared.found.Found.{Found}
-use Rattle.tm_sync.specs.Places.{places}
-use Rattle.tm_codeblock.specs.ReceivedCodeblock.{rules_of, codeblock_at, received_columns, frame_of}
+use Rattle.tm_codeblock.specs.ReceivedCodeblock.{codeblock_at, received_columns, frame_of, places_in}
 use Rattle.tm_channel.specs.Items.{ItemValue, IsRepaired, AreNearest, is_given, IsItem, AreItemsOf}
 use Rattle.tm_channel.specs.Receive.{Receive}
 
@@ -30,7 +29,7 @@ as-answer : (c : Configuration) (column : List ℕ) (nearest : Nearest)
 as-answer c column (FixedWord word d) is = (Fixed d, word, record { nearest = is; left = fixed-left d column word })
 as-answer c column BeyondWord is = (Beyond, column, record { nearest = is; left = λ _. refl })
 
-has-answers : (c : Configuration) (columns : List (List ℕ)) → (answers : List Answer) × (words : List (List ℕ))
+pub has-answers : (c : Configuration) (columns : List (List ℕ)) → (answers : List Answer) × (words : List (List ℕ))
     × AreNearest c columns answers words
 has-answers c [] = ([], [], tt)
 has-answers c (column ∷ columns) =
@@ -46,7 +45,7 @@ has-item c f codeblock =
       record { place = refl; words = h.1; nearest = h.2; frame = refl },
     )
 
-has-items-of : (c : Configuration) (bits : List Bool) (fs : List Found) → (items : List ItemValue)
+pub has-items-of : (c : Configuration) (bits : List Bool) (fs : List Found) → (items : List ItemValue)
     × AreItemsOf c bits fs items
 has-items-of c bits [] = ([], tt)
 has-items-of c bits (f ∷ fs) =
@@ -63,5 +62,5 @@ pub has-items : HasBits → (c : Configuration) (phase : ℕ) (octets : List ℕ
     × Receive c phase octets items
 has-items exists c phase octets ok =
     let bits = exists c phase octets ok in
-    let h = has-items-of c bits.0 (places (rules_of c) bits.0) in
+    let h = has-items-of c bits.0 (places_in c bits.0) in
     (h.0, record { bits = bits.0; inner = bits.1; are_items = h.1 })

@@ -8,6 +8,7 @@ pub mod Polarity
 pub mod OnlyItems
 mod HasItems
 mod DroppedItems
+mod WholeFrames
 pub mod ReceivedOctets
 pub mod SentPhase
 pub mod ComplementedOctets
@@ -19,8 +20,9 @@ pub mod HandedItems
 pub mod Handing
 pub mod Batches
 pub mod Streaming
-pub mod Recalled
-pub mod Stepping
+pub mod Holding
+pub mod Apart
+pub mod Ones
 pub mod Settling
 pub mod Pieces
 pub mod Between
@@ -32,3 +34,4 @@ pub mod GivenOctets
 mod FewItems
 pub mod ColumnsRead
 pub mod Repaired
+pub mod SoundItems

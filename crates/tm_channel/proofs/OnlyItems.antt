@@ -10,12 +10,11 @@ use Rattle.tm_rs_solve.specs.declared.answers.Answer.{Answer}
 use Rattle.tm_rs_solve.specs.declared.answers.Answer.TheVariants.{Fixed, Beyond}
 use Rattle.tm_rs_solve.specs.Answers.{found}
 use Rattle.tm_sync.specs.declared.found.Found.{Found}
-use Rattle.tm_sync.specs.Places.{places}
-use Rattle.tm_sync.proofs.Longer.{places-end}
-use Rattle.tm_codeblock.specs.ReceivedCodeblock.{rules_of, codeblock_at, received_column, received_columns, frame_of}
+use Rattle.tm_codeblock.specs.ReceivedCodeblock.{codeblock_at, received_column, received_columns, frame_of, places_in}
 use Rattle.tm_channel.specs.Items.{ItemValue, IsRepaired, AreNearest, is_given, IsItem, AreItemsOf, AreItems}
 use Rattle.tm_channel.proofs.SentCodeblocks.{coded, columns-coded, columns-uncoded, length-received, length-codeblock_in}
 use Rattle.tm_channel.proofs.Repairs.{found-fixed}
+use Rattle.tm_codeblock.proofs.PlacesIn.{places_in-end}
 
 abbrev AreShort : List (List ℕ) → Type 0
 AreShort columns = AllByRecursion (λ column. length column ≤ 255) columns
@@ -95,4 +94,4 @@ items-same c bits fs items others ok within are too = absurd (assumption)
 pub items-only : (c : Configuration) (bits : List Bool) (items others : List ItemValue) → IsAccepted c
     → AreItems c bits items → AreItems c bits others → items ≡ others
 items-only c bits items others ok are too =
-    items-same c bits (places (rules_of c) bits) items others ok (places-end (rules_of c) bits) are too
+    items-same c bits (places_in c bits) items others ok (places_in-end c bits) are too

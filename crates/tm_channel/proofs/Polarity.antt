@@ -7,9 +7,10 @@ use Rattle.tm_config.specs.declared.values.Sought.TheVariants.{Find}
 use Rattle.tm_config.specs.Accepted.{IsAccepted}
 use Rattle.tm_sync.specs.declared.found.Found.{Found}
 use Rattle.tm_sync.specs.Bits.{flip, complement}
-use Rattle.tm_sync.specs.Places.{places, complemented_place}
-use Rattle.tm_sync.proofs.Complemented.{take-complement, drop-complement, in_polarity-complemented, places-complemented}
-use Rattle.tm_codeblock.specs.ReceivedCodeblock.{rules_of, unmasked, codeblock_in, codeblock_at}
+use Rattle.tm_sync.specs.Places.{complemented_place}
+use Rattle.tm_sync.proofs.Complemented.{take-complement, drop-complement, in_polarity-complemented}
+use Rattle.tm_codeblock.specs.ReceivedCodeblock.{unmasked, codeblock_in, codeblock_at, places_in}
+use Rattle.tm_codeblock.proofs.PlacesIn.{places_in-complemented}
 use Rattle.tm_channel.specs.Items.{ItemValue, IsItem, AreItemsOf, AreItems, complemented_item}
 
 in-complemented : (c : Configuration) (inverted : Bool) (bits : List Bool)
@@ -48,5 +49,5 @@ pub items-complemented : (c : Configuration) (bits : List Bool) (items : List It
     → AreItems c (complement bits) (map complemented_item items)
 items-complemented c bits items ok find are =
     subst (λ (fs : List Found). AreItemsOf c (complement bits) fs (map complemented_item items))
-    (sym (places-complemented (rules_of c) bits (either c.polarity find) (omega (arith, ok.tolerance))))
-    (items-of-complemented c bits (places (rules_of c) bits) items are)
+    (sym (places_in-complemented c bits (either c.polarity find) (omega (arith, ok.tolerance))))
+    (items-of-complemented c bits (places_in c bits) items are)

@@ -26,7 +26,7 @@ OneBits =
     → Inner c phase octets others → bits ≡ others
 
 -- received octets have items of the bits that they come to
-items-at : OneBits → (c : Configuration) (phase : ℕ) (octets : List ℕ) (bits : List Bool) (items : List ItemValue)
+pub items-at : OneBits → (c : Configuration) (phase : ℕ) (octets : List ℕ) (bits : List Bool) (items : List ItemValue)
     → Inner c phase octets bits → Receive c phase octets items → AreItems c bits items
 items-at one c phase octets bits items inner r =
     subst (λ (l : List Bool). AreItems c l items) (one c phase octets r.bits bits r.inner inner) r.are_items

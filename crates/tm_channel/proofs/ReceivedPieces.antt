@@ -32,14 +32,14 @@ received-none took s taker = record {
 -- bits were given to a receiver, of which its search reported nothing
 abbrev pub Pushes : BitReceiving → BitReceiving → List Bool → Type 0
 Pushes a b piece =
-    (handed : ℕ) (bits : List Bool) → length (bits ++ piece) < 2 ^ 63 → Holds a.search a.room a.batch handed bits
-    → HoldsMore b.search b.room b.batch handed bits piece
+    (handed : ℕ) (bits : List Bool) → length (bits ++ piece) < 2 ^ 63 → Holds a.finder a.recent a.batch handed bits
+    → HoldsMore b.finder b.recent b.batch handed bits piece
 
 held-then : (a b : BitReceiving) (piece bits : List Bool) → b.batch.config ≡ a.batch.config → Pushes a b piece
     → length (bits ++ piece) < 2 ^ 63 → BitReceiverStandsFor a bits
-    → HoldsMore b.search b.room b.batch (due_count b.batch.config bits) bits piece
+    → HoldsMore b.finder b.recent b.batch (due_count b.batch.config bits) bits piece
 held-then a b piece bits config pushes few stood =
-    subst (λ (c : Configuration). HoldsMore b.search b.room b.batch (due_count c bits) bits piece) (sym config)
+    subst (λ (c : Configuration). HoldsMore b.finder b.recent b.batch (due_count c bits) bits piece) (sym config)
     (pushes (due_count a.batch.config bits) bits few stood)
 
 -- and then the codeblocks that are whole with them were kept, and each batch that was full was handed over

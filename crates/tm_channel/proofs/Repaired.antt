@@ -1,26 +1,29 @@
 -- What came of the words of codeblocks.
-use Rattle.std.proofs.Common.{◌≢◌, ◌≡◌, ℕ, zero, suc, ◌+◌, ◌*◌, ◌<◌, ◌≤◌, if◌then◌else◌, List, [], ◌∷◌, ◌++◌, length, map, take, drop, get_or, set, refl, sym, ap, ◌∙◌, subst, arith, Option, unwrap_or, ◌⊎◌, inl, inr}
+use Rattle.std.proofs.Common.{◌≢◌, ◌≡◌, ℕ, zero, suc, ◌+◌, ◌*◌, ◌<◌, ◌≤◌, ◌&&◌, Bool, if◌then◌else◌, List, [], ◌∷◌, ◌++◌, length, map, take, drop, get_or, set, refl, sym, ap, ◌∙◌, subst, arith, length-set, Option, unwrap_or, ◌⊎◌, inl, inr}
+use Rattle.std.specs.List.{list_all}
 use Rattle.std.proofs.lemmas.Grind.{common_steps}
 use Rattle.std.proofs.lemmas.Bool.{cases_lt}
-use Rattle.std.proofs.lemmas.List.{take_at, drop_at, drop-take, get_or_default, get_or-set_other, get_or-set_same, length-map, length-take-le}
+use Rattle.std.proofs.lemmas.List.{take_all, take_at, take-set, take_more_set, drop_at, drop-take, map-append, get_or_default, get_or-set_other, get_or-set_same, length-map, length-take-le}
 use Rattle.std.proofs.lemmas.Slice.{take-put_mid_below}
 use borrow.Rule.Slice.PartMut.{put_mid, post_of}
+use Rattle.tm_sync.specs.declared.found.Found.{Found}
 use Rattle.tm_config.specs.Configuration.{Configuration, codeblock_length, data_length, word_length, correctable}
 use Rattle.tm_config.proofs.Choices.{uncoded_false}
 use Rattle.tm_config.specs.declared.values.OuterCode.TheVariants.{Uncoded}
 use Rattle.tm_gf256.specs.Poly.{numbers}
 use Rattle.tm_rs_code.specs.Code.{Code}
-use Rattle.tm_rs_code.specs.Nearest.{IsNearest}
+use Rattle.tm_rs_code.specs.Nearest.{IsNearest, is_correctable}
+use Rattle.tm_rs_code.proofs.HasNearest.{correctable-is}
 use Rattle.tm_rs_solve.specs.Answers.{found}
 use Rattle.tm_rs_solve.specs.declared.answers.Answer.{Answer}
-use Rattle.tm_rs_solve.specs.declared.answers.Answer.TheVariants.{Beyond}
+use Rattle.tm_rs_solve.specs.declared.answers.Answer.TheVariants.{Beyond, Fixed}
 use Rattle.tm_workers.specs.declared.words.Word.{Word}
 use Rattle.tm_workers.specs.Batch.{EachBecomes}
 use Rattle.tm_workers.specs.Words.{Decodes}
-use Rattle.tm_codeblock.specs.ReceivedCodeblock.{column_count, received_columns, frame_of}
+use Rattle.tm_codeblock.specs.ReceivedCodeblock.{column_count, received_columns, frame_of, is_sound}
 use Rattle.tm_channel.specs.ColumnWords.{symbols_of, all_symbols}
-use Rattle.tm_channel.specs.Items.{AreNearest, IsItem, is_given}
-use Rattle.tm_channel.specs.Receiving.{AreItemsFor, IsItemAt}
+use Rattle.tm_channel.specs.Items.{AreNearest, IsItem, ItemValue, are_fixed, is_given}
+use Rattle.tm_channel.specs.Receiving.{AreItemsFor, Batching, IsItemAt, StoredCodeblock, stored_of}
 use Rattle.tm_channel.specs.Storing.{AreDecoded, AreRead, IsDecoded, IsRead, answers_of, codeblock_in_slot, item_in, stored_in, words_at}
 use Rattle.tm_channel.specs.declared.slot.Slot.{Slot}
 
@@ -221,3 +224,101 @@ item-in-slot c size (suc count) [] index d are below = absurd (omega arith)
 item-in-slot c size (suc count) (s ∷ slots) zero d are below = (stored_in size s, refl, are.0)
 item-in-slot c size (suc count) (s ∷ slots) (suc index) d are below =
     item-in-slot c size count slots index d are.1 (omega arith)
+
+-- ---- whether codeblocks are sound
+
+pub columns-sound : (c : Configuration) (columns : List (List ℕ)) (answers : List Answer) (words : List (List ℕ))
+    → AreNearest c columns answers words
+    → list_all (is_correctable (correctable c.code) c.repair) columns ≡ are_fixed answers
+columns-sound c [] [] [] are = refl
+columns-sound c [] [] (word ∷ words) are = absurd are
+columns-sound c [] (answer ∷ answers) words are = absurd are
+columns-sound c (column ∷ columns) [] words are = absurd are
+columns-sound c (column ∷ columns) (answer ∷ answers) [] are = absurd are
+columns-sound c (column ∷ columns) (Fixed d ∷ answers) (word ∷ words) are =
+    (λ i. correctable-is (correctable c.code) c.repair column (found (Fixed d) word) are.0.nearest i
+    && columns-sound c columns answers words are.1 i)
+columns-sound c (column ∷ columns) (Beyond ∷ answers) (word ∷ words) are =
+    ap (λ b. b && list_all (is_correctable (correctable c.code) c.repair) columns)
+    (correctable-is (correctable c.code) c.repair column (found Beyond word) are.0.nearest)
+
+-- the item of a codeblock says whether it is
+pub item-sound : (c : Configuration) (f : Found) (codeblock : List ℕ) (item : ItemValue) → IsItem c f codeblock item
+    → is_sound c codeblock ≡ are_fixed item.answers
+item-sound c f codeblock item is = columns-sound c (received_columns c codeblock) item.answers is.words is.nearest
+
+-- ---- one codeblock more
+
+pub items-then : (c : Configuration) (stored others : List StoredCodeblock) (items more : List ItemValue)
+    → AreItemsFor c stored items → AreItemsFor c others more → AreItemsFor c (stored ++ others) (items ++ more)
+items-then c [] others [] more are also = also
+items-then c [] others (item ∷ items) more are also = absurd are
+items-then c (k ∷ stored) others [] more are also = absurd are
+items-then c (k ∷ stored) others (item ∷ items) more are also =
+    (are.0, items-then c stored others items more are.1 also)
+
+-- the first items are those of the first codeblocks
+pub items-first : (c : Configuration) (count : ℕ) (stored : List StoredCodeblock) (items : List ItemValue)
+    → AreItemsFor c stored items → AreItemsFor c (take count stored) (take count items)
+items-first c zero stored items are = tt
+items-first c (suc count) [] [] are = tt
+items-first c (suc count) [] (item ∷ items) are = absurd are
+items-first c (suc count) (k ∷ stored) [] are = absurd are
+items-first c (suc count) (k ∷ stored) (item ∷ items) are = (are.0, items-first c count stored items are.1)
+
+-- what slots hold, where one more was written
+pub kept-more : {B : Type 0} (f : Slot → B) (count : ℕ) (slots : List Slot) (filled now : Slot) → count < length slots
+    → map f (take (count + 1) (set (set slots count filled) count now)) ≡ map f (take count slots) ++ f now ∷ []
+kept-more f count slots filled now below =
+    ap (map f) (take_more_set (set slots count filled) count now (omega (arith, below, length-set slots count filled))
+    ∙ ap (λ l. l ++ now ∷ []) (take-set slots count filled))
+    ∙ map-append f (take count slots) (now ∷ [])
+
+-- the codeblock in the slot after so many, which was filled
+pub filled-is : (b : Batching) (c : Configuration) (f : Found) (rest : List Bool) (size : ℕ) (filled slot : Slot)
+    → size ≡ codeblock_length c → c ≡ b.config → stored_in size filled ≡ stored_of c f (take (8 * size) rest)
+    → slot ≡ filled
+    → stored_in (codeblock_length c) slot ≡ stored_of b.config f (take (8 * codeblock_length b.config) rest)
+filled-is b c f rest size filled slot same config fill is =
+    (λ i. stored_in (sym same i) (is i)) ∙ fill ∙ (λ i. stored_of c f (take (8 * same i) rest))
+    ∙ (λ i. stored_of (config i) f (take (8 * codeblock_length (config i)) rest))
+
+-- and that was repaired
+pub items-more : (c : Configuration) (size count : ℕ) (slots : List Slot) (filled slot now : Slot)
+    → count < length slots → size ≡ codeblock_length c
+    → stored_in (codeblock_length c) now ≡ stored_in (codeblock_length c) slot
+    → IsItem c slot.found (take (codeblock_length c) slot.octets) (item_in c now)
+    → AreItemsFor c (map (stored_in size) (take count slots)) (map (item_in c) (take count slots))
+    → AreItemsFor c (map (stored_in size) (take (count + 1) (set (set slots count filled) count now)))
+    (map (item_in c) (take (count + 1) (set (set slots count filled) count now)))
+items-more c size count slots filled slot now below same again one are =
+    let here : IsItem c now.found (take size now.octets) (item_in c now) =
+    subst (λ (k : StoredCodeblock). IsItem c k.found k.codeblock (item_in c now))
+    (sym again ∙ (λ i. stored_in (sym same i) now)) one in
+    subst (λ (stored : List StoredCodeblock).
+    AreItemsFor c stored (map (item_in c) (take (count + 1) (set (set slots count filled) count now))))
+    (sym (kept-more (stored_in size) count slots filled now below))
+    (subst (λ (items : List ItemValue).
+    AreItemsFor c (map (stored_in size) (take count slots) ++ stored_in size now ∷ []) items)
+    (sym (kept-more (item_in c) count slots filled now below))
+    (items-then c (map (stored_in size) (take count slots)) (stored_in size now ∷ [])
+    (map (item_in c) (take count slots)) (item_in c now ∷ []) are (here, tt)))
+
+-- there is a slot for one more
+pub slot-left : (c : Configuration) (size count : ℕ) (slots : List Slot) (items : List ItemValue) (b : Batching)
+    → length slots ≡ c.batch → count ≤ c.batch
+    → record { config = c; stored = map (stored_in size) (take count slots); items = items } ≡ b
+    → length b.stored < b.config.batch → count < length slots
+slot-left c size count slots items b all most view few =
+    let less : length (map (stored_in size) (take count slots)) < c.batch =
+    subst (λ (v : Batching). length v.stored < v.config.batch) (sym view) few in
+    omega (arith, length-map (take count slots) (stored_in size), length-take-le count slots (omega arith))
+
+-- the one codeblock of which the words were decoded
+pub one-decoded : (c : Configuration) (slot : Slot) (words : List Word) → length words ≤ column_count c
+    → AreDecoded c (slot ∷ []) words → IsDecoded c (take (codeblock_length c) slot.octets) words
+one-decoded c slot words few decoded =
+    let none : 0 * column_count c ≡ 0 = omega arith in
+    subst (IsDecoded c (take (codeblock_length c) slot.octets))
+    (ap (λ n. take (column_count c) (drop n words)) none ∙ take_all (column_count c) words few)
+    (decoded 0 slot (omega arith))

@@ -1,5 +1,5 @@
 -- The items of units that were sent, however they were disturbed.
-use Rattle.std.proofs.Common.{◌≡◌, ◌≤◌, ◌+◌, ◌*◌, ◌||◌, ℕ, Bool, true, false, cond, List, [], ◌∷◌, ◌++◌, length, take, drop, refl, sym, ap, ◌∙◌, subst, arith, Option, Some, None, append_assoc, length-append}
+use Rattle.std.proofs.Common.{◌≡◌, ◌≤◌, ◌+◌, ◌*◌, ◌||◌, ℕ, Bool, true, false, cond, List, [], ◌∷◌, ◌++◌, length, take, drop, refl, sym, ap, ◌∙◌, subst, arith, Option, Some, None, IfSome, append_assoc, length-append}
 use Rattle.std.specs.List.{AllByRecursion}
 use Rattle.std.proofs.lemmas.List.{take_at, drop_at}
 use Rattle.tm_config.specs.Configuration.{Configuration, codeblock_length, correctable}
@@ -14,9 +14,14 @@ use Rattle.tm_rs_solve.specs.Answers.{found}
 use Rattle.tm_sync.specs.declared.found.Found.{Found}
 use Rattle.tm_sync.specs.declared.found.Before.{Before}
 use Rattle.tm_sync.specs.Places.{before_next}
-use Rattle.tm_sync.specs.Marked.{Entry, joined, place_of, places_of, AreEntries}
+use Rattle.tm_sync.specs.Marked.{Entry, IsMarked, joined, place_of, places_of, AreEntries}
+use Rattle.tm_sync.specs.declared.found.Columns.{Columns}
+use Rattle.tm_sync.specs.PlacesInside.{HasNoneInside, MayStand}
+use Rattle.tm_sync.specs.Rescan.{places_with}
+use Rattle.tm_sync.proofs.MarkedInside.{places-alone}
 use Rattle.tm_sync.proofs.MarkedStreams.{place_of-place, places-marked}
-use Rattle.tm_codeblock.specs.ReceivedCodeblock.{rules_of, codeblock_in, codeblock_at, received_columns, frame_of}
+use Rattle.tm_sync.proofs.Rescanned.{places_with-off}
+use Rattle.tm_codeblock.specs.ReceivedCodeblock.{rules_of, codeblock_in, codeblock_at, received_columns, frame_of, columns_of, places_in, sound_in}
 use Rattle.tm_channel.specs.Items.{ItemValue, AreNearest, are_fixed, IsItem, AreItemsOf, AreItems, frames_of}
 use Rattle.tm_channel.specs.SentStream.{IsFrame, SentUnit, entries_of, IsSent, unit_places, sent_columns, unit_codeblock, AreRepaired, AreWithin, IsAsSent, AreAsSent, AreNear, unit_frames}
 use Rattle.tm_channel.proofs.SentCodeblocks.{AreCodewords, are_codewords, frame-restored, length-codeblock_in}
@@ -62,7 +67,7 @@ repaired c (column ∷ columns) (sent ∷ others) (answer ∷ answers) (word ∷
 )
 repaired c columns others answers words ok codes nearest = absurd (assumption)
 
-words-are : (c : Configuration) (columns others : List (List ℕ)) (answers : List Answer) (words : List (List ℕ))
+pub words-are : (c : Configuration) (columns others : List (List ℕ)) (answers : List Answer) (words : List (List ℕ))
     → IsAccepted c
     → AreCodewords c columns others → AreWithin c.repair columns others → AreNearest c columns answers words
     → (are_fixed answers ≡ true) × (words ≡ others)
@@ -162,15 +167,40 @@ as_sent c at before (u ∷ units) prefix last (item ∷ more) ok long are frames
           (entries_of units)) more) next.0 items.1),
     )
 
+-- the places are those of the units
+places-sent : (c : Configuration) (bits : List Bool) (units : List SentUnit) (last : List Bool)
+    → IsSent c bits units last → places_in c bits ≡ unit_places c units
+places-sent c bits units last sent = go (columns_of c) sent.alone
+  where
+    fs : List Found
+    fs = unit_places c units
+
+    go : (columns : Option Columns)
+        → IfSome columns (λ columns. AllByRecursion (MayStand (rules_of c) columns bits) fs
+        × AllByRecursion (HasNoneInside (rules_of c) columns (sound_in c bits) bits) fs)
+        → places_with (rules_of c) columns (sound_in c bits) bits ≡ fs
+    go None alone =
+        places_with-off (rules_of c) (sound_in c bits) bits
+        ∙ places-marked (rules_of c) bits (entries_of units) last sent.marked
+    go (Some columns) alone =
+        places-alone (rules_of c) columns (sound_in c bits) bits (entries_of units) last sent.marked alone.0 alone.1
+
+-- the items of units at their places
+pub items-at : (c : Configuration) (bits : List Bool) (units : List SentUnit) (last : List Bool)
+    (items : List ItemValue) → IsAccepted c → IsMarked (rules_of c) bits (entries_of units) last
+    → AllByRecursion (λ u. IsFrame c u.frame) units → AreItemsOf c bits (unit_places c units) items
+    → AreAsSent c (unit_places c units) units items
+items-at c bits units last items ok marked frames are =
+    as_sent c 0 None units [] last items ok refl marked.are_entries frames
+    (subst (λ (b : List Bool). AreItemsOf c b (unit_places c units) items) marked.parts are)
+
 -- the items of what was sent, however it was disturbed
 pub items-as_sent : (c : Configuration) (bits : List Bool) (units : List SentUnit) (last : List Bool)
     (items : List ItemValue) → IsAccepted c
     → IsSent c bits units last → AreItems c bits items → AreAsSent c (unit_places c units) units items
 items-as_sent c bits units last items ok sent are =
-    as_sent c 0 None units [] last items ok refl sent.marked.are_entries sent.frames
-    (subst (λ (b : List Bool). AreItemsOf c b (unit_places c units) items) sent.marked.parts
-    (subst (λ (fs : List Found). AreItemsOf c bits fs items)
-    (places-marked (rules_of c) bits (entries_of units) last sent.marked) are))
+    items-at c bits units last items ok sent.marked sent.frames
+    (subst (λ (fs : List Found). AreItemsOf c bits fs items) (places-sent c bits units last sent) are)
 
 -- where every codeblock is near, the frames are those that were sent
 pub frames-sent : (c : Configuration) (fs : List Found) (units : List SentUnit) (items : List ItemValue)

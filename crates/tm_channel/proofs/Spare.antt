@@ -1,34 +1,29 @@
 -- Further bits that make no item due.
-use Rattle.std.proofs.Common.{◌≡◌, ◌+◌, ◌-◌, ◌*◌, ◌<◌, ◌≤◌, ℕ, Bool, true, false, cond, nat_lt, List, [], ◌∷◌, ◌++◌, length, take, drop, ap, ◌∙◌, subst, arith, inl, inr, length-append, length-drop, mul-le-mul_right}
+use Rattle.std.proofs.Common.{◌≡◌, ◌+◌, ◌-◌, ◌<◌, ◌≤◌, ℕ, Bool, true, false, cond, nat_lt, List, [], ◌∷◌, ◌++◌, length, take, drop, ap, ◌∙◌, arith, inl, inr, length-append, length-drop}
 use Rattle.std.proofs.lemmas.Bool.{cases_lt}
 use Rattle.std.proofs.lemmas.List.{append-nil, length-map, take-append-le}
-use Rattle.tm_sync.specs.Places.{Rules, places}
-use Rattle.tm_sync.specs.Searching.{Searching, begun_of}
-use Rattle.tm_sync.proofs.Given.{reported-few}
-use Rattle.tm_sync.proofs.Longer.{places-goes_on}
+use Rattle.tm_sync.specs.Finding.{Finding, Recent, places_left}
 use Rattle.tm_config.specs.Configuration.{Configuration}
-use Rattle.tm_codeblock.specs.ReceivedCodeblock.{rules_of}
+use Rattle.tm_codeblock.specs.ReceivedCodeblock.{rules_of, columns_of, places_in, sound_in}
 use Rattle.tm_channel.specs.Due.{due, due_count}
-use Rattle.tm_channel.specs.Receiving.{Batching, Stands, stored_at, waiting_bits}
+use Rattle.tm_channel.specs.Receiving.{Agree, Batching, Stands, least_bits, stored_at, waiting_bits}
+use Rattle.tm_channel.proofs.Apart.{left-least, least-more}
 use Rattle.tm_channel.proofs.Batches.{not_full}
+use Rattle.tm_channel.proofs.Holding.{recent-count}
 
 -- fewer codeblocks have fewer bits
 pub waiting-more : (c : Configuration) (count more : ℕ) → count ≤ more → waiting_bits c count ≤ waiting_bits c more
 waiting-more c count more less = by_workers (nat_lt 1 c.workers)
   where
-    size : ℕ
-    size = 32 + (rules_of c).block_bits
-
-    by_workers : (many : Bool) → cond many (count * size) 0 ≤ cond many (more * size) 0
-    by_workers true = mul-le-mul_right size less
+    by_workers : (many : Bool) → cond many (least_bits c count) 0 ≤ cond many (least_bits c more) 0
+    by_workers true = least-more (columns_of c) (32 + (rules_of c).block_bits) count more less
     by_workers false = omega arith
 
 -- and no more than they have with any number of workers
-waiting-most : (c : Configuration) (count : ℕ) → waiting_bits c count ≤ count * (32 + (rules_of c).block_bits)
+waiting-most : (c : Configuration) (count : ℕ) → waiting_bits c count ≤ least_bits c count
 waiting-most c count = by_workers (nat_lt 1 c.workers)
   where
-    by_workers : (many : Bool) → cond many (count * (32 + (rules_of c).block_bits)) 0
-        ≤ count * (32 + (rules_of c).block_bits)
+    by_workers : (many : Bool) → cond many (least_bits c count) 0 ≤ least_bits c count
     by_workers true = omega arith
     by_workers false = omega arith
 
@@ -36,40 +31,42 @@ pub lacking-most : (b : Batching) → waiting_bits b.config (b.config.batch - le
     ≤ waiting_bits b.config b.config.batch
 lacking-most b = waiting-more b.config (b.config.batch - length b.stored) b.config.batch (omega arith)
 
--- as many places of so many bits as a batch lacks are more bits than these
-few-places : (count left begun more size : ℕ) → count * size ≤ begun + more → 1 ≤ more
-    → more ≤ left * size - 1 - begun → count < left
-few-places count left begun more size all some few = elim (cases_lt count left) as (λ _. count < left) [
+-- places that are left take as many bits as there are, so that they are fewer than a batch lacks
+few-left : (c : Configuration) (count lacking all : ℕ) → (0 < count → least_bits c count ≤ all) → 0 < lacking
+    → all < least_bits c lacking → count < lacking
+few-left c count lacking all room some few = elim (cases_lt count lacking) as (λ _. count < lacking) [
   | inl less ↦ less
-  | inr many ↦ absurd (omega (arith, all, some, few, mul-le-mul_right size many))
+  | inr many ↦ absurd (omega (
+    arith,
+    room (omega (arith, some, many)),
+    least-more (columns_of c) (32 + (rules_of c).block_bits) lacking count many,
+    few,
+  ))
 ]
 
-pub spare-due : (s : Searching) (room : List ℕ) (b : Batching) (bits more : List Bool) → s.rules ≡ rules_of b.config
-    → Stands s room b bits
-    → length more ≤ waiting_bits b.config (b.config.batch - length b.stored) - 1 - begun_of s
+pub spare-due : (s : Finding) (room : Recent) (b : Batching) (bits more : List Bool) → Agree s room b
+    → length b.stored < b.config.batch → Stands s room b bits
+    → length more ≤ waiting_bits b.config (b.config.batch - length b.stored) - (length room.bits + 1)
     → due b.config (bits ++ more) ≡ due b.config bits
-spare-due s room b bits [] same stood few = ap (due b.config) (append-nil bits)
-spare-due s room b bits (bit ∷ rest) same stood few =
+spare-due s room b bits [] agree lacks stood few = ap (due b.config) (append-nil bits)
+spare-due s room b bits (bit ∷ rest) agree lacks stood few =
     let c = b.config in
-    let rules = rules_of c in
     let more = bit ∷ rest in
-    let all = places rules bits in
+    let all = places_in c bits in
     let count = due_count c bits in
-    let longer = places rules (bits ++ more) in
-    let further = drop (length all) longer in
-    let goes_on = places-goes_on rules bits more in
+    let lacking = c.batch - length b.stored in
+    let longer = places_in c (bits ++ more) in
+    let left = places_left s (sound_in c (bits ++ more)) (room.bits ++ more) in
     let waiting : length b.stored ≡ length all - count = ap length stood.waiting
     ∙ length-map (drop count all) (stored_at c bits) ∙ length-drop count all in
-    let most : length longer ≡ length all + length further = ap length goes_on ∙ length-append all further in
-    let size : ℕ = 32 + rules.block_bits in
-    let said : length longer * size ≤ length all * size + begun_of s + length more =
-    subst (λ (r : Rules). length (places r (bits ++ more)) * (32 + r.block_bits)
-    ≤ length all * (32 + r.block_bits) + begun_of s + length more) same
-    (reported-few s room bits more all stood.search) in
-    let less : length further < c.batch - length b.stored =
-    few-places (length further) (c.batch - length b.stored) (begun_of s) (length more) size
-    (omega (arith, said, ap (λ n. n * size) most)) (omega arith)
-    (omega (arith, few, waiting-most c (c.batch - length b.stored))) in
+    let goes_on = stood.places more in
+    let most : length longer ≡ length all + length left = ap length goes_on ∙ length-append all left in
+    let there = recent-count c s room.bits b.stored count bits all stood in
+    let less : length left < lacking = few-left c (length left) lacking (length (room.bits ++ more))
+    (left-least c s (room.bits ++ more) (bits ++ more) all agree.rules agree.columns
+    (omega (arith, there, length-append room.bits more, length-append bits more)) goes_on)
+    (omega (arith, lacks)) (omega (arith, few, waiting-most c lacking, length-append room.bits more)) in
+    let within = stood.within in
     let still : due_count c (bits ++ more) ≡ count = not_full c.batch (length all) (length longer)
-    (omega (arith, stood.within, most)) (omega (arith, less, waiting, most, stood.within)) in
-    ap (λ n. take n longer) still ∙ ap (take count) goes_on ∙ take-append-le count all further stood.within
+    (omega (arith, within, most)) (omega (arith, less, waiting, most, within)) in
+    ap (λ n. take n longer) still ∙ ap (take count) goes_on ∙ take-append-le count all left within

@@ -1,15 +1,16 @@
--- What a receiver keeps and has handed over, one bit on.
+-- What a receiver keeps and has handed over, as bits go on.
 use Rattle.std.proofs.Common.{◌≡◌, ℕ, zero, suc, ◌+◌, ◌-◌, ◌<◌, ◌≤◌, Bool, List, [], ◌∷◌, ◌++◌, length, take, drop, map, refl, sym, ap, ◌∙◌, subst, arith, append_assoc, length-append, length-drop, take-append-drop, None, inl, inr}
 use Rattle.std.specs.List.{AllByRecursion}
-use Rattle.std.proofs.lemmas.List.{length-map, length-take-le, nil_from_length, take-append-le, drop-append-le, drop_at, append-nil, map-append}
+use Rattle.std.proofs.lemmas.List.{length-map, length-take-le, take-append-le, drop-append-le, append-nil}
 use Rattle.std.proofs.Math.Seq.{drop-length, drop-nil, take-length, drop-append_seam}
 use Rattle.tm_base.specs.Pieces.{beyond}
 use Rattle.tm_sync.specs.declared.found.Found.{Found}
-use Rattle.tm_sync.specs.Places.{places}
-use Rattle.tm_sync.proofs.Steps.{places_from-nil}
-use Rattle.tm_sync.proofs.Longer.{EndBefore, places-end, places-append}
+use Rattle.tm_sync.specs.Finding.{Finding, places_left}
+use Rattle.tm_sync.proofs.Longer.{EndBefore}
+use Rattle.tm_sync.proofs.Rescanned.{places_after-nil}
 use Rattle.tm_config.specs.Configuration.{Configuration}
-use Rattle.tm_codeblock.specs.ReceivedCodeblock.{rules_of, codeblock_at}
+use Rattle.tm_codeblock.specs.ReceivedCodeblock.{rules_of, codeblock_at, columns_of, places_in, sound_in}
+use Rattle.tm_codeblock.proofs.PlacesIn.{places_in-append, places_in-end}
 use Rattle.tm_channel.specs.Items.{ItemValue, IsItem, AreItemsOf, AreFirstItemsOf}
 use Rattle.tm_channel.specs.Due.{in_batches, due_count, due_count_of, due_of, due}
 use Rattle.tm_channel.specs.Receiving.{StoredCodeblock, stored_of, stored_at, AreItemsFor, Holding, IsHanded}
@@ -31,23 +32,11 @@ pub stored-same : (c : Configuration) (bits more : List Bool) (fs : List Found)
 stored-same c bits more [] ends = refl
 stored-same c bits more (f ∷ fs) ends = λ i. block-same c bits more f ends.0 i ∷ stored-same c bits more fs ends.1 i
 
-drop-all : {A : Type 0} (P : A → Type 0) (count : ℕ) (xs : List A) → AllByRecursion P xs
+pub drop-all : {A : Type 0} (P : A → Type 0) (count : ℕ) (xs : List A) → AllByRecursion P xs
     → AllByRecursion P (drop count xs)
 drop-all P zero xs all = all
 drop-all P (suc count) [] all = tt
 drop-all P (suc count) (x ∷ xs) all = drop-all P count xs all.1
-
--- a codeblock that ends with the bits
-pub stored-last : (c : Configuration) (bits prefix part : List Bool) (f : Found) → bits ≡ prefix ++ part
-    → length part ≡ (rules_of c).block_bits → f.place + 32 + (rules_of c).block_bits ≡ length bits
-    → stored_at c bits f ≡ stored_of c f part
-stored-last c bits prefix part f parts size ends =
-    let long : length prefix ≡ f.place + 32 = omega (arith, ap length parts, length-append prefix part) in
-    let is : take (rules_of c).block_bits (drop (f.place + 32) bits) ≡ part =
-    ap (λ l. take (rules_of c).block_bits (drop (f.place + 32) l)) parts
-    ∙ ap (take (rules_of c).block_bits) (drop_at prefix part (f.place + 32) long)
-    ∙ ap (λ n. take n part) (sym size) ∙ take-length part in
-    λ i. stored_of c f (is i)
 
 -- ---- items of stored codeblocks are items of the bits
 pub items-of : (c : Configuration) (bits : List Bool) (fs : List Found) (items : List ItemValue)
@@ -62,53 +51,34 @@ take-map' f zero xs = refl
 take-map' f (suc count) [] = refl
 take-map' f (suc count) (x ∷ xs) = ap (λ l. f x ∷ l) (take-map' f count xs)
 
--- the codeblocks that wait stay as the bits go on
-stored-longer : (c : Configuration) (bits more : List Bool) (handed : ℕ)
-    → map (stored_at c (bits ++ more)) (drop handed (places (rules_of c) bits))
-    ≡ map (stored_at c bits) (drop handed (places (rules_of c) bits))
-stored-longer c bits more handed =
-    stored-same c bits more (drop handed (places (rules_of c) bits))
-    (drop-all (λ (f : Found). f.place + 32 + (rules_of c).block_bits ≤ length bits) handed (places (rules_of c) bits)
-    (places-end (rules_of c) bits))
+-- ---- the places that were found are the first ones
 
--- the places of bits are the first ones of more bits
-first-places : (c : Configuration) (bits more : List Bool) → take (length (places (rules_of c) bits))
-    (places (rules_of c) (bits ++ more)) ≡ places (rules_of c) bits
-first-places c bits more =
-    let fs : List Found = places (rules_of c) bits in
-    let go = places-append (rules_of c) bits more in
-    ap (take (length fs)) go.is ∙ take-append-le (length fs) fs go.rest (omega arith) ∙ take-length fs
+found-parts : (c : Configuration) (s : Finding) (recent : List Bool) (stored : List StoredCodeblock) (handed : ℕ)
+    (bits : List Bool) (found : List Found) → Holding c s recent stored handed bits found
+    → places_in c bits ≡ found ++ places_left s (sound_in c (bits ++ [])) (recent ++ [])
+found-parts c s recent stored handed bits found h = ap (places_in c) (sym (append-nil bits)) ∙ h.places []
 
--- ---- one place is reported
-first-reported : (c : Configuration) (bits : List Bool) (reported rest : List Found) (f : Found)
-    → places (rules_of c) bits ≡ reported ++ f ∷ rest
-    → take (length (reported ++ f ∷ [])) (places (rules_of c) bits) ≡ reported ++ f ∷ []
-first-reported c bits reported rest f says =
-    let prefix : List Found = reported ++ f ∷ [] in
-    ap (take (length prefix)) (says ∙ sym (append_assoc reported (f ∷ []) rest))
-    ∙ take-append-le (length prefix) prefix rest (omega arith) ∙ take-length prefix
+pub found-first : (c : Configuration) (s : Finding) (recent : List Bool) (stored : List StoredCodeblock) (handed : ℕ)
+    (bits : List Bool) (found : List Found) → Holding c s recent stored handed bits found
+    → take (length found) (places_in c bits) ≡ found
+found-first c s recent stored handed bits found h =
+    ap (take (length found)) (found-parts c s recent stored handed bits found h)
+    ∙ take-append-le (length found) found (places_left s (sound_in c (bits ++ [])) (recent ++ [])) (omega arith)
+    ∙ take-length found
 
--- its codeblock is stored
-pub reported-stored : (c : Configuration) (stands stands' : List Bool → List Found → Type 0) (old part now : List Bool)
-    (stored stored' : List StoredCodeblock) (handed : ℕ) (bits : List Bool) (reported rest : List Found) (f : Found)
-    → Holding c stands old stored handed bits reported → places (rules_of c) bits ≡ reported ++ f ∷ rest
-    → stored_at c bits f ≡ stored_of c f part → stored' ≡ stored ++ stored_of c f part ∷ [] → now ≡ []
-    → stands' bits (reported ++ f ∷ []) → Holding c stands' now stored' handed bits (reported ++ f ∷ [])
-reported-stored c stands stands' old part now stored stored' handed bits reported rest f h says one is none next =
-    let after : drop handed (reported ++ f ∷ []) ≡ drop handed reported ++ f ∷ [] =
-    drop-append-le handed reported (f ∷ []) h.within in
-    let size = length-append reported (f ∷ []) in
-    let below = h.within in
-    record {
-      search = next;
-      first = first-reported c bits reported rest f says;
-      within = omega (arith, size, below);
-      waiting = is ∙ (λ i. h.waiting i ++ sym one i ∷ [])
-          ∙ sym (map-append (stored_at c bits) (drop handed reported) (f ∷ []))
-          ∙ ap (map (stored_at c bits)) (sym after);
-      prefix = bits;
-      parts = sym (append-nil bits) ∙ ap (λ l. bits ++ l) (sym none);
-    }
+-- their codeblocks are whole
+all-first : (P : Found → Type 0) (xs ys : List Found) → AllByRecursion P (xs ++ ys) → AllByRecursion P xs
+all-first P [] ys all = tt
+all-first P (x ∷ xs) ys all = (all.0, all-first P xs ys all.1)
+
+pub found-end : (c : Configuration) (s : Finding) (recent : List Bool) (stored : List StoredCodeblock) (handed : ℕ)
+    (bits : List Bool) (found : List Found) → Holding c s recent stored handed bits found
+    → EndBefore (rules_of c) (length bits) found
+found-end c s recent stored handed bits found h =
+    all-first (λ f. f.place + 32 + (rules_of c).block_bits ≤ length bits) found
+    (places_left s (sound_in c (bits ++ [])) (recent ++ []))
+    (subst (λ (fs : List Found). EndBefore (rules_of c) (length bits) fs)
+    (found-parts c s recent stored handed bits found h) (places_in-end c bits))
 
 -- items of a prefix of the places are first ones
 pub first-of : (c : Configuration) (bits : List Bool) (count : ℕ) (fs : List Found) (items : List ItemValue)
@@ -146,11 +116,11 @@ first-append c bits (f ∷ fs) gs (item ∷ items) others are also =
 -- ---- a batch that is full, or not
 
 -- how many codeblocks wait
-waiting-count : (c : Configuration) (stands : List Bool → List Found → Type 0) (part : List Bool)
+waiting-count : (c : Configuration) (s : Finding) (recent : List Bool)
     (stored : List StoredCodeblock)
     (handed : ℕ) (bits : List Bool) (reported : List Found)
-    → Holding c stands part stored handed bits reported → length stored ≡ length reported - handed
-waiting-count c stands part stored handed bits reported h =
+    → Holding c s recent stored handed bits reported → length stored ≡ length reported - handed
+waiting-count c s recent stored handed bits reported h =
     ap length h.waiting ∙ length-map (drop handed reported) (stored_at c bits) ∙ length-drop handed reported
 
 -- what follows the places of a prefix that are due
@@ -164,75 +134,72 @@ pub due-none : (c : Configuration) (bits : List Bool) → drop (due_count c bits
 due-none c bits = ap (λ k. drop k (due c bits)) (sym (length-due c bits)) ∙ drop-length (due c bits)
 
 -- the batch was handed over where it is full with what was reported last
-pub batch-stands : (c : Configuration) (stands : List Bool → List Found
-    → Type 0) (part : List Bool) (stored stored' : List StoredCodeblock)
+pub batch-stands : (c : Configuration) (s : Finding) (recent : List Bool) (stored stored' : List StoredCodeblock)
     (reported now : List Found) (bits : List Bool) (items : List ItemValue)
-    → Holding c stands part stored (due_count_of c reported) bits now → IsHanded c stored stored' items
-    → Holding c stands part stored' (due_count_of c now) bits now
-batch-stands c stands part stored stored' reported now bits items h (inl (few, same, none)) =
-    let count = waiting-count c stands part stored (due_count_of c reported) bits now h in
+    → Holding c s recent stored (due_count_of c reported) bits now → IsHanded c stored stored' items
+    → Holding c s recent stored' (due_count_of c now) bits now
+batch-stands c s recent stored stored' reported now bits items h (inl (few, same, none)) =
+    let count = waiting-count c s recent stored (due_count_of c reported) bits now h in
     let still = not_full c.batch (length reported) (length now) h.within (subst (λ n. n < c.batch) count few) in
-    subst (λ (l : List StoredCodeblock). Holding c stands part l (due_count_of c now) bits now) (sym same)
-    (subst (λ n. Holding c stands part stored n bits now) (sym still) h)
-batch-stands c stands part stored stored' reported now bits items h (inr (many, nothing, are)) =
-    let count = waiting-count c stands part stored (due_count_of c reported) bits now h in
+    subst (λ (l : List StoredCodeblock). Holding c s recent l (due_count_of c now) bits now) (sym same)
+    (subst (λ n. Holding c s recent stored n bits now) (sym still) h)
+batch-stands c s recent stored stored' reported now bits items h (inr (many, nothing, are)) =
+    let count = waiting-count c s recent stored (due_count_of c reported) bits now h in
     let whole = full c.batch (length reported) (length now) h.within (sym count ∙ many) in
     record {
-      search = h.search;
-      first = h.first;
+      passed = h.passed;
+      left = h.left;
+      places = h.places;
       within = batches-le c.batch (length now);
       waiting = nothing ∙ ap (map (stored_at c bits)) (sym (ap (λ n. drop n now) whole ∙ drop-length now));
-      prefix = h.prefix;
-      parts = h.parts;
     }
 
 -- the places reported that are due, before and after those that wait
-due-before : (c : Configuration) (reported : List Found) (f : Found)
-    → take (due_count_of c reported) (reported ++ f ∷ []) ≡ due_of c reported
-due-before c reported f =
-    take-append-le (due_count_of c reported) reported (f ∷ []) (batches-le c.batch (length reported))
+due-before : (c : Configuration) (reported fs : List Found)
+    → take (due_count_of c reported) (reported ++ fs) ≡ due_of c reported
+due-before c reported fs =
+    take-append-le (due_count_of c reported) reported fs (batches-le c.batch (length reported))
 
-due-split : (c : Configuration) (reported : List Found) (f : Found) (count : ℕ) → count ≤ due_count_of c reported
-    → drop count (reported ++ f ∷ [])
-    ≡ drop count (due_of c reported) ++ drop (due_count_of c reported) (reported ++ f ∷ [])
-due-split c reported f count least =
-    let now : List Found = reported ++ f ∷ [] in
+due-split : (c : Configuration) (reported fs : List Found) (count : ℕ) → count ≤ due_count_of c reported
+    → drop count (reported ++ fs)
+    ≡ drop count (due_of c reported) ++ drop (due_count_of c reported) (reported ++ fs)
+due-split c reported fs count least =
+    let now : List Found = reported ++ fs in
     let long : length (due_of c reported) ≡ due_count_of c reported =
     length-take-le (due_count_of c reported) reported (batches-le c.batch (length reported)) in
     let split : now ≡ due_of c reported ++ drop (due_count_of c reported) now =
     sym (take-append-drop (due_count_of c reported) now) ∙ ap (λ l. l ++ drop (due_count_of c reported) now)
-    (due-before c reported f) in
+    (due-before c reported fs) in
     ap (drop count) split ∙ drop-append-le count (due_of c reported) (drop (due_count_of c reported) now)
     (omega (arith, long, least))
 
 -- the items handed over are those of the places reported that are due, but for so many of the first
-pub batch-items : (c : Configuration) (stands : List Bool → List Found
-    → Type 0) (part : List Bool) (stored stored' : List StoredCodeblock)
-    (reported : List Found) (f : Found) (bits : List Bool) (count : ℕ) (items others : List ItemValue)
-    → Holding c stands part stored (due_count_of c reported) bits (reported ++ f ∷ [])
+pub batch-items : (c : Configuration) (s : Finding) (recent : List Bool) (stored stored' : List StoredCodeblock)
+    (reported fs : List Found) (bits : List Bool) (count : ℕ) (items others : List ItemValue)
+    → Holding c s recent stored (due_count_of c reported) bits (reported ++ fs)
     → IsHanded c stored stored' others
     → count ≤ due_count_of c reported → AreItemsOf c bits (drop count (due_of c reported)) items
-    → AreItemsOf c bits (drop count (due_of c (reported ++ f ∷ []))) (items ++ others)
-batch-items c stands part stored stored' reported f bits count items others h (inl (few, same, none)) least were =
-    let now : List Found = reported ++ f ∷ [] in
-    let wait = waiting-count c stands part stored (due_count_of c reported) bits now h in
+    → AreItemsOf c bits (drop count (due_of c (reported ++ fs))) (items ++ others)
+batch-items c s recent stored stored' reported fs bits count items others h (inl (few, same, none)) least were =
+    let now : List Found = reported ++ fs in
+    let wait = waiting-count c s recent stored (due_count_of c reported) bits now h in
     let still = not_full c.batch (length reported) (length now) h.within (subst (λ n. n < c.batch) wait few) in
-    let due_now : due_of c now ≡ due_of c reported = ap (λ n. take n now) still ∙ due-before c reported f in
+    let due_now : due_of c now ≡ due_of c reported = ap (λ n. take n now) still ∙ due-before c reported fs in
     subst (λ (fs : List Found). AreItemsOf c bits (drop count fs) (items ++ others)) (sym due_now)
     (subst (λ (l : List ItemValue). AreItemsOf c bits (drop count (due_of c reported)) l)
     (sym (ap (λ l. items ++ l) none ∙ append-nil items)) were)
-batch-items c stands part stored stored' reported f bits count items others h (inr (many, nothing, are)) least were =
-    let now : List Found = reported ++ f ∷ [] in
-    let wait = waiting-count c stands part stored (due_count_of c reported) bits now h in
+batch-items c s recent stored stored' reported fs bits count items others h (inr (many, nothing, are)) least were =
+    let now : List Found = reported ++ fs in
+    let wait = waiting-count c s recent stored (due_count_of c reported) bits now h in
     let whole = full c.batch (length reported) (length now) h.within (sym wait ∙ many) in
     let all : due_of c now ≡ now = ap (λ n. take n now) whole ∙ take-length now in
     subst (λ (fs : List Found). AreItemsOf c bits fs (items ++ others))
-    (sym (ap (drop count) all ∙ due-split c reported f count least))
+    (sym (ap (drop count) all ∙ due-split c reported fs count least))
     (items-append c bits (drop count (due_of c reported)) (drop (due_count_of c reported) now) items others were
     (items-of c bits (drop (due_count_of c reported) now) others
     (subst (λ (ks : List StoredCodeblock). AreItemsFor c ks others) h.waiting are)))
 
-take-take : (a c : ℕ) (xs : List Found) → a ≤ c → take a (take c xs) ≡ take a xs
+pub take-take : {A : Type 0} (a c : ℕ) (xs : List A) → a ≤ c → take a (take c xs) ≡ take a xs
 take-take zero c xs le = refl
 take-take (suc a) zero xs le = absurd (omega arith)
 take-take (suc a) (suc c) [] le = refl
@@ -240,10 +207,10 @@ take-take (suc a) (suc c) (x ∷ xs) le = ap (λ l. x ∷ l) (take-take a c xs (
 
 -- places reported that are whole batches are first ones of all that are due
 due-first : (c : Configuration) (bits : List Bool) (reported : List Found)
-    → take (length reported) (places (rules_of c) bits) ≡ reported → due_count_of c reported ≡ length reported
+    → take (length reported) (places_in c bits) ≡ reported → due_count_of c reported ≡ length reported
     → due c bits ≡ reported ++ drop (length reported) (due c bits)
 due-first c bits reported first whole =
-    let all : List Found = places (rules_of c) bits in
+    let all : List Found = places_in c bits in
     let rest : List Found = drop (length reported) all in
     let parts : all ≡ reported ++ rest = sym (take-append-drop (length reported) all) ∙ ap (λ l. l ++ rest) first in
     let size : length all ≡ length reported + length rest = ap length parts ∙ length-append reported rest in
@@ -255,23 +222,24 @@ due-first c bits reported first whole =
     sym (take-append-drop (length reported) (due c bits)) ∙ ap (λ l. l ++ drop (length reported) (due c bits)) prefix
 
 -- the taker failed at an item of a full batch
-pub batch-broke : (c : Configuration) (stands : List Bool → List Found → Type 0) (part : List Bool)
+pub batch-broke : (c : Configuration) (s : Finding) (recent : List Bool)
     (stored : List StoredCodeblock)
-    (reported : List Found) (f : Found) (bits : List Bool) (count number : ℕ) (items others : List ItemValue)
-    → Holding c stands part stored (due_count_of c reported) bits (reported ++ f ∷ []) → length stored ≡ c.batch
+    (reported fs : List Found) (bits : List Bool) (count number : ℕ) (items others : List ItemValue)
+    → Holding c s recent stored (due_count_of c reported) bits (reported ++ fs) → length stored ≡ c.batch
     → AreItemsFor c (take number stored) others
     → count ≤ due_count_of c reported → AreItemsOf c bits (drop count (due_of c reported)) items
     → AreFirstItemsOf c bits (drop count (due c bits)) (items ++ others)
-batch-broke c stands part stored reported f bits count number items others h many are least were =
-    let now : List Found = reported ++ f ∷ [] in
-    let wait = waiting-count c stands part stored (due_count_of c reported) bits now h in
+batch-broke c s recent stored reported fs bits count number items others h many are least were =
+    let now : List Found = reported ++ fs in
+    let wait = waiting-count c s recent stored (due_count_of c reported) bits now h in
     let whole = full c.batch (length reported) (length now) h.within (sym wait ∙ many) in
     let waiting : List Found = drop (due_count_of c reported) now in
     let within = h.within in
     let rest : List Found = drop (length now) (due c bits) in
     let split : drop count (due c bits) ≡ (drop count (due_of c reported) ++ waiting) ++ rest =
-    ap (drop count) (due-first c bits now h.first whole) ∙ drop-append-le count now rest (omega (arith, least, within))
-    ∙ ap (λ l. l ++ rest) (due-split c reported f count least) in
+    ap (drop count) (due-first c bits now (found-first c s recent stored (due_count_of c reported) bits now h) whole)
+    ∙ drop-append-le count now rest (omega (arith, least, within))
+    ∙ ap (λ l. l ++ rest) (due-split c reported fs count least) in
     let last : AreFirstItemsOf c bits waiting others =
     first-of c bits number waiting others (items-of c bits (take number waiting) others
     (subst (λ (ks : List StoredCodeblock). AreItemsFor c ks others)
@@ -314,22 +282,23 @@ pub due-end : (c : Configuration) (bits : List Bool) (count : ℕ)
     → EndBefore (rules_of c) (length bits) (drop count (due c bits))
 due-end c bits count =
     let P : Found → Type 0 = λ f. f.place + 32 + (rules_of c).block_bits ≤ length bits in
-    drop-all P count (due c bits) (take-all P (due_count c bits) (places (rules_of c) bits)
-    (places-end (rules_of c) bits))
+    drop-all P count (due c bits) (take-all P (due_count c bits) (places_in c bits)
+    (places_in-end c bits))
 
 pub due-more : (c : Configuration) (bits more : List Bool) → due c (bits ++ more) ≡ due c bits
     ++ beyond (due c bits) (due c (bits ++ more))
 due-more c bits more =
-    let go = places-append (rules_of c) bits more in
-    let fs = places (rules_of c) bits in
+    let fs = places_in c bits in
+    let rest = drop (length fs) (places_in c (bits ++ more)) in
+    let is = places_in-append c bits more in
     let a : ℕ = due_count c bits in
     let b : ℕ = due_count c (bits ++ more) in
-    let le : a ≤ b = let grows : length (places (rules_of c) (bits ++ more)) ≡ length fs + length go.rest =
-    ap length go.is ∙ length-append fs go.rest in
-    subst (λ (n : ℕ). a ≤ in_batches c.batch n) (sym grows) (batches-more c.batch (length fs) (length go.rest)) in
+    let le : a ≤ b = let grows : length (places_in c (bits ++ more)) ≡ length fs + length rest =
+    ap length is ∙ length-append fs rest in
+    subst (λ (n : ℕ). a ≤ in_batches c.batch n) (sym grows) (batches-more c.batch (length fs) (length rest)) in
     let first : take a (due c (bits ++ more)) ≡ due c bits =
-    take-take a b (places (rules_of c) (bits ++ more)) le ∙ ap (take a) go.is
-    ∙ take-append-le a fs go.rest (batches-le c.batch (length fs)) in
+    take-take a b (places_in c (bits ++ more)) le ∙ ap (take a) is
+    ∙ take-append-le a fs rest (batches-le c.batch (length fs)) in
     sym (take-append-drop a (due c (bits ++ more))) ∙ (λ i. first i
     ++ drop (sym (length-due c bits) i) (due c (bits ++ more)))
 
@@ -384,84 +353,42 @@ first-of-all c bits more rest items are =
     (first-more c (bits ++ more) rest first items (due-end c (bits ++ more) (length (due c bits))) are))
 
 -- ---- the end
-pub items-last : (c : Configuration) (stands : List Bool → List Found → Type 0) (part : List Bool)
+pub items-last : (c : Configuration) (s : Finding) (recent : List Bool)
     (stored : List StoredCodeblock) (bits : List Bool) (items : List ItemValue)
-    → Holding c stands part stored (due_count c bits) bits (places (rules_of c) bits) → AreItemsFor c stored items
-    → AreItemsOf c bits (beyond (due c bits) (places (rules_of c) bits)) items
-items-last c stands part stored bits items h are =
-    let waiting : List Found = drop (due_count c bits) (places (rules_of c) bits) in
-    subst (λ (fs : List Found). AreItemsOf c bits fs items) (sym (after-due c bits (places (rules_of c) bits)))
+    → Holding c s recent stored (due_count c bits) bits (places_in c bits) → AreItemsFor c stored items
+    → AreItemsOf c bits (beyond (due c bits) (places_in c bits)) items
+items-last c s recent stored bits items h are =
+    let waiting : List Found = drop (due_count c bits) (places_in c bits) in
+    subst (λ (fs : List Found). AreItemsOf c bits fs items) (sym (after-due c bits (places_in c bits)))
     (items-of c bits waiting items (subst (λ (ks : List StoredCodeblock). AreItemsFor c ks items) h.waiting are))
 
-pub first-last : (c : Configuration) (stands : List Bool → List Found → Type 0) (part : List Bool)
+pub first-last : (c : Configuration) (s : Finding) (recent : List Bool)
     (stored : List StoredCodeblock) (bits : List Bool) (count : ℕ) (items : List ItemValue)
-    → Holding c stands part stored (due_count c bits) bits (places (rules_of c) bits)
+    → Holding c s recent stored (due_count c bits) bits (places_in c bits)
     → AreItemsFor c (take count stored) items
-    → AreFirstItemsOf c bits (beyond (due c bits) (places (rules_of c) bits)) items
-first-last c stands part stored bits count items h are =
-    let waiting : List Found = drop (due_count c bits) (places (rules_of c) bits) in
-    subst (λ (fs : List Found). AreFirstItemsOf c bits fs items) (sym (after-due c bits (places (rules_of c) bits)))
+    → AreFirstItemsOf c bits (beyond (due c bits) (places_in c bits)) items
+first-last c s recent stored bits count items h are =
+    let waiting : List Found = drop (due_count c bits) (places_in c bits) in
+    subst (λ (fs : List Found). AreFirstItemsOf c bits fs items) (sym (after-due c bits (places_in c bits)))
     (first-of c bits count waiting items (items-of c bits (take count waiting) items
     (subst (λ (ks : List StoredCodeblock). AreItemsFor c ks items)
     (ap (take count) h.waiting ∙ take-map' (stored_at c bits) count waiting) are)))
 
-pub stands-new : (c : Configuration) (stands : List Bool → List Found → Type 0) (part : List Bool)
-    (stored : List StoredCodeblock)
-    → stands [] [] → part ≡ [] → stored ≡ []
-    → Holding c stands part stored (due_count c []) [] (places (rules_of c) [])
-stands-new c stands part stored reported none nothing =
-    let no : places (rules_of c) [] ≡ [] = places_from-nil (rules_of c) 0 0 None in record {
-      search = subst (λ (fs : List Found). stands [] fs) (sym no) reported;
-      first = take-length (places (rules_of c) []);
-      within = batches-le c.batch (length (places (rules_of c) []));
+-- no bits
+pub stands-new : (c : Configuration) (s : Finding) (recent : List Bool) (stored : List StoredCodeblock)
+    → s ≡ record { rules = rules_of c; columns = columns_of c; passed = 0; last = None } → recent ≡ [] → stored ≡ []
+    → Holding c s recent stored (due_count c []) [] (places_in c [])
+stands-new c s recent stored new none nothing =
+    let no : places_in c [] ≡ [] = places_after-nil (rules_of c) (columns_of c) (sound_in c []) 0 None in
+    subst (λ (s : Finding). Holding c s recent stored (due_count c []) [] (places_in c [])) (sym new)
+    (subst (λ (recent : List Bool). Holding c
+    (record { rules = rules_of c; columns = columns_of c; passed = 0; last = None }) recent stored (due_count c []) []
+    (places_in c [])) (sym none)
+    (record {
+      passed = omega arith;
+      left = refl;
+      places = λ more. ap (λ fs. fs ++ places_in c more) (sym no);
+      within = batches-le c.batch (length (places_in c []));
       waiting = nothing ∙ ap (map (stored_at c [])) (sym (drop-nil (in_batches c.batch 0)))
           ∙ ap (λ (fs : List Found). map (stored_at c []) (drop (in_batches c.batch (length fs)) fs)) (sym no);
-      prefix = [];
-      parts = sym none;
-    }
-
--- ---- further bits are given, of which the search reports nothing yet
--- the codeblock under way has the last of them
-more-held : (c : Configuration) (stands stands' : List Bool → List Found
-    → Type 0) (part part' : List Bool) (stored stored' : List StoredCodeblock)
-    (handed : ℕ) (bits more prefix : List Bool) → Holding c stands part stored handed bits (places (rules_of c) bits)
-    → stored' ≡ stored → stands' (bits ++ more) (places (rules_of c) bits) → bits ++ more ≡ prefix ++ part'
-    → Holding c stands' part' stored' handed (bits ++ more) (places (rules_of c) bits)
-more-held c stands stands' part part' stored stored' handed bits more prefix h same reported parts = record {
-  search = reported;
-  first = first-places c bits more;
-  within = h.within;
-  waiting = same ∙ h.waiting ∙ sym (stored-longer c bits more handed);
-  prefix = prefix;
-  parts = parts;
-}
-
--- to the codeblock under way
-pub more-inside : (c : Configuration) (stands stands' : List Bool → List Found
-    → Type 0) (part part' : List Bool) (stored stored' : List StoredCodeblock)
-    (handed : ℕ) (bits more : List Bool) → Holding c stands part stored handed bits (places (rules_of c) bits)
-    → part' ≡ part ++ more → stored' ≡ stored → stands' (bits ++ more) (places (rules_of c) bits)
-    → Holding c stands' part' stored' handed (bits ++ more) (places (rules_of c) bits)
-more-inside c stands stands' part part' stored stored' handed bits more h grows same reported =
-    more-held c stands stands' part part' stored stored' handed bits more h.prefix h same reported
-    (ap (λ l. l ++ more) h.parts ∙ append_assoc h.prefix part more ∙ ap (λ l. h.prefix ++ l) (sym grows))
-
--- where none is under way, and the last bits begin one
-pub more-begun : (c : Configuration) (stands stands' : List Bool → List Found
-    → Type 0) (part part' : List Bool) (stored stored' : List StoredCodeblock)
-    (handed : ℕ) (bits before more : List Bool) → Holding c stands part stored handed bits (places (rules_of c) bits)
-    → more ≡ before ++ part' → stored' ≡ stored → stands' (bits ++ more) (places (rules_of c) bits)
-    → Holding c stands' part' stored' handed (bits ++ more) (places (rules_of c) bits)
-more-begun c stands stands' part part' stored stored' handed bits before more h ends same reported =
-    more-held c stands stands' part part' stored stored' handed bits more (bits ++ before) h same reported
-    (ap (λ l. bits ++ l) ends ∙ sym (append_assoc bits before part'))
-
--- where none is under way
-pub more-outside : (c : Configuration) (stands stands' : List Bool → List Found
-    → Type 0) (part part' : List Bool) (stored stored' : List StoredCodeblock)
-    (handed : ℕ) (bits more : List Bool) → Holding c stands part stored handed bits (places (rules_of c) bits)
-    → length part' ≡ 0 → stored' ≡ stored → stands' (bits ++ more) (places (rules_of c) bits)
-    → Holding c stands' part' stored' handed (bits ++ more) (places (rules_of c) bits)
-more-outside c stands stands' part part' stored stored' handed bits more h none same reported =
-    more-held c stands stands' part part' stored stored' handed bits more (bits ++ more) h same reported
-    (sym (append-nil (bits ++ more)) ∙ ap (λ l. (bits ++ more) ++ l) (sym (nil_from_length part' none)))
+    }))

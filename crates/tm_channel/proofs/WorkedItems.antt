@@ -1,5 +1,5 @@
 -- Worked values of the receiver's definitions, computed.
-use Rattle.std.proofs.Common.{◌≡◌, ◌<◌, ℕ, true, false, List, [], ◌∷◌, ◌++◌, refl, sym, ap, ◌∙◌, arith, None, inl, inr}
+use Rattle.std.proofs.Common.{◌≡◌, ◌<◌, ℕ, Bool, true, false, List, [], ◌∷◌, ◌++◌, refl, sym, ap, ◌∙◌, subst, arith, None, inl, inr}
 use Rattle.std.specs.Prelude.{replicate}
 use Rattle.std.proofs.Math.Bool.{xor}
 use Rattle.std.proofs.lemmas.Bool.{cases_eq}
@@ -19,9 +19,11 @@ use Rattle.tm_rs_code.proofs.DistanceLaw.{same_of_distance}
 use Rattle.tm_rs_code.proofs.Numbers.{AreElements-replicate}
 use Rattle.tm_rs_code.proofs.Register.{value_at-zeros}
 use Rattle.tm_rs_solve.specs.declared.answers.Answer.TheVariants.{Fixed, Beyond}
-use Rattle.tm_sync.specs.Places.{wrong_bits, match_of, are_verified, place_at, places_from}
-use Rattle.tm_codeblock.specs.ReceivedCodeblock.{codeblock_in, received_columns, frame_of}
-use Rattle.tm_channel.specs.Items.{AreItems}
+use Rattle.tm_sync.specs.Places.{wrong_bits, match_of, are_verified, place_at, places_from, places}
+use Rattle.tm_sync.specs.Rescan.{place_here, places_after}
+use Rattle.tm_codeblock.specs.ReceivedCodeblock.{codeblock_in, received_columns, frame_of, rules_of}
+use Rattle.tm_codeblock.proofs.PlacesIn.{places_in-off}
+use Rattle.tm_channel.specs.Items.{ItemValue, AreItems, AreItemsOf}
 use Rattle.tm_channel.proofs.HasItems.{fixed-left}
 use Rattle.tm_channel.specs.SentStream.{IsSent}
 
@@ -47,6 +49,11 @@ coded = record bare { code = Rs16; basis = Poly; repair = 1 }
 abbrev interleaved_two : Configuration
 interleaved_two = record coded { depth = 2; frame_length = 4 }
 
+-- items where no place is looked for inside a codeblock
+without : (c : Configuration) (bits : List Bool) (items : List ItemValue) → c.rescan ≡ false
+    → AreItemsOf c bits (places (rules_of c) bits) items → AreItems c bits items
+without c bits items off are = subst (λ fs. AreItemsOf c bits fs items) (sym (places_in-off c bits off)) are
+
 -- a marker with two wrong bits right after a codeblock is bridged
 row_bridged : AreItems bare (bits_of (0x1A ∷ 0xCF ∷ 0xFC ∷ 0x1D ∷ 0x7B ∷ 0x1A ∷ 0xCF ∷ 0xFC ∷ 0x1E ∷ 0x01 ∷ []))
     (record {
@@ -60,10 +67,22 @@ row_bridged : AreItems bare (bits_of (0x1A ∷ 0xCF ∷ 0xFC ∷ 0x1D ∷ 0x7B �
       frame = 0x01 ∷ [];
     } ∷ [])
 unfolding low_bits wrong_bits match_of are_verified place_at places_from codeblock_in received_columns frame_of
-row_bridged = (
+row_bridged = without bare _ _ refl (
   record { place = refl; words = []; nearest = tt; frame = refl },
   (record { place = refl; words = []; nearest = tt; frame = refl }, tt),
 )
+
+-- but not what is the inverted marker, where places are looked for inside codeblocks too
+row_not_bridged : AreItems (record bare { rescan = true })
+    (bits_of (0x1A ∷ 0xCF ∷ 0xFC ∷ 0x1D ∷ 0x7B ∷ 0xE5 ∷ 0x30 ∷ 0x03 ∷ 0xE2 ∷ 0x01 ∷ []))
+    (record {
+      found = record { place = 0; distance = 0; bridged = false; inverted = false };
+      answers = [];
+      frame = 0x7B ∷ [];
+    } ∷ [])
+unfolding low_bits wrong_bits match_of are_verified place_at place_here places_after codeblock_in received_columns
+    frame_of
+row_not_bridged = (record { place = refl; words = []; nearest = tt; frame = refl }, tt)
 
 -- an inverted marker, where either polarity is taken: the codeblock is complemented
 row_inverted : AreItems (record bare { polarity = Find }) (bits_of (0xE5 ∷ 0x30 ∷ 0x03 ∷ 0xE2 ∷ 0x84 ∷ []))
@@ -73,7 +92,8 @@ row_inverted : AreItems (record bare { polarity = Find }) (bits_of (0xE5 ∷ 0x3
       frame = 0x7B ∷ [];
     } ∷ [])
 unfolding low_bits wrong_bits match_of are_verified place_at places_from codeblock_in received_columns frame_of
-row_inverted = (record { place = refl; words = []; nearest = tt; frame = refl }, tt)
+row_inverted = without (record bare { polarity = Find }) _ _ refl
+    (record { place = refl; words = []; nearest = tt; frame = refl }, tt)
 
 -- the randomizer's first octet is FF
 row_randomized : AreItems (record bare { randomize = true }) (bits_of (0x1A ∷ 0xCF ∷ 0xFC ∷ 0x1D ∷ 0x84 ∷ []))
@@ -84,7 +104,8 @@ row_randomized : AreItems (record bare { randomize = true }) (bits_of (0x1A ∷ 
     } ∷ [])
 unfolding low_bits wrong_bits match_of are_verified place_at places_from codeblock_in received_columns frame_of
     sequence_bit xor
-row_randomized = (record { place = refl; words = []; nearest = tt; frame = refl }, tt)
+row_randomized = without (record bare { randomize = true }) _ _ refl
+    (record { place = refl; words = []; nearest = tt; frame = refl }, tt)
 
 -- ---- with an outer code
 
@@ -101,7 +122,7 @@ row_fixed : AreItems coded (bits_of (0x1A ∷ 0xCF ∷ 0xFC ∷ 0x1D ∷ 0x07 �
       frame = 0 ∷ [];
     } ∷ [])
 unfolding low_bits wrong_bits match_of are_verified place_at places_from codeblock_in received_columns frame_of
-row_fixed = (
+row_fixed = without coded _ _ refl (
   record {
     place = refl;
     words = replicate 33 0 ∷ [];
@@ -144,7 +165,7 @@ row_beyond : AreItems (record coded { repair = 0 }) (bits_of (0x1A ∷ 0xCF ∷ 
       frame = [];
     } ∷ [])
 unfolding low_bits wrong_bits match_of are_verified place_at places_from codeblock_in received_columns frame_of off
-row_beyond = (
+row_beyond = without (record coded { repair = 0 }) _ _ refl (
   record {
     place = refl;
     words = off ∷ [];
@@ -163,7 +184,7 @@ row_passed : AreItems (record coded { repair = 0; pass_bad = true })
       frame = 0 ∷ [];
     } ∷ [])
 unfolding low_bits wrong_bits match_of are_verified place_at places_from codeblock_in received_columns frame_of off
-row_passed = (
+row_passed = without (record coded { repair = 0; pass_bad = true }) _ _ refl (
   record {
     place = refl;
     words = off ∷ [];
@@ -238,6 +259,7 @@ row_sent = record {
     );
   };
   frames = ((refl, one-octet 0x7B (omega arith)), ((refl, one-octet 0x01 (omega arith)), tt));
+  alone = tt;
 }
   where
     one-octet : (x : ℕ) → x < 256 → AreOctets (x ∷ [])

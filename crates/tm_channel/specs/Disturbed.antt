@@ -12,7 +12,7 @@ use Rattle.tm_channel.specs.SentStream.{SentUnit}
 
 -- Frames of one octet, after which 16 check symbols stand: up to eight wrong symbols of a codeblock
 -- are repaired. Markers with one wrong bit match, and inverted ones; one in a row is bridged. A
--- further marker verifies a place that is searched for.
+-- further marker verifies a place that is searched for. Codeblocks are looked for inside others too.
 abbrev pub link : Configuration
 link = record (configuration_of default_raw) {
   code = Rs8;
@@ -28,6 +28,7 @@ link = record (configuration_of default_raw) {
   ahead = 0;
   polarity = Find;
   verify = 1;
+  rescan = true;
 }
 
 -- a unit with a wrong bit in its marker and one in its third symbol; one that verifies it; one with

@@ -2,8 +2,7 @@
 use Rattle.std.specs.Prelude.{ℕ, ◌*◌, ◌/◌, Bool, List, length, take}
 use Rattle.tm_config.specs.Configuration.{Configuration}
 use Rattle.tm_sync.specs.declared.found.Found.{Found}
-use Rattle.tm_sync.specs.Places.{places}
-use Rattle.tm_codeblock.specs.ReceivedCodeblock.{rules_of}
+use Rattle.tm_codeblock.specs.ReceivedCodeblock.{places_in}
 
 -- of so many items, those that are in whole batches of this size
 abbrev pub in_batches : ℕ → ℕ → ℕ
@@ -19,7 +18,7 @@ due_of c found = take (due_count_of c found) found
 
 -- those of the places of bits
 abbrev pub due_count : Configuration → List Bool → ℕ
-due_count c bits = due_count_of c (places (rules_of c) bits)
+due_count c bits = due_count_of c (places_in c bits)
 
 abbrev pub due : Configuration → List Bool → List Found
-due c bits = due_of c (places (rules_of c) bits)
+due c bits = due_of c (places_in c bits)

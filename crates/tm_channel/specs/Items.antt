@@ -6,8 +6,8 @@ use Rattle.tm_rs_solve.specs.declared.answers.Answer.{Answer}
 use Rattle.tm_rs_solve.specs.declared.answers.Answer.TheVariants.{Fixed, Beyond}
 use Rattle.tm_rs_solve.specs.Answers.{found}
 use Rattle.tm_sync.specs.declared.found.Found.{Found}
-use Rattle.tm_sync.specs.Places.{places, complemented_place}
-use Rattle.tm_codeblock.specs.ReceivedCodeblock.{rules_of, codeblock_at, received_columns, frame_of}
+use Rattle.tm_sync.specs.Places.{complemented_place}
+use Rattle.tm_codeblock.specs.ReceivedCodeblock.{codeblock_at, received_columns, frame_of, places_in}
 
 -- what is said of one codeblock: where it stands, an answer for each column, and its frame
 pub record ItemValue : Type 0 where
@@ -63,7 +63,7 @@ AreFirstItemsOf c bits (f ∷ fs) (item ∷ items) =
 
 -- the items of received bits
 abbrev pub AreItems : Configuration → List Bool → List ItemValue → Type 0
-AreItems c bits items = AreItemsOf c bits (places (rules_of c) bits) items
+AreItems c bits items = AreItemsOf c bits (places_in c bits) items
 
 -- the frames of items, one after the other
 abbrev pub frames_of : List ItemValue → List ℕ

@@ -4,6 +4,7 @@ pub mod Due
 pub mod Receive
 pub mod Handing
 pub mod SentStream
+pub mod SoundCodeblocks
 pub mod Disturbed
 pub mod Receiving
 pub mod Most

@@ -4,7 +4,7 @@ use Rattle.std.specs.Prelude.{◌≡◌, false, ◌==◌, ◌+◌, ◌-◌, ◌<
 use Rattle.tm_base.specs.Handed.{Handed, Item, items_of}
 use Rattle.tm_base.specs.Takers.{HandedOver, HandedPart}
 use Rattle.tm_config.specs.Configuration.{Configuration}
-use Rattle.tm_sync.specs.Searching.{Searching}
+use Rattle.tm_sync.specs.Finding.{Finding, Recent}
 use Rattle.tm_sync.specs.Bits.{bits_bound}
 use Rattle.tm_viterbi.specs.WindowBlock.{WindowBlock}
 use Rattle.tm_viterbi.specs.Clean.{kept_bits}
@@ -25,14 +25,14 @@ use Rattle.tm_channel.specs.Receiving.{Batching, Stands, HoldsMore, waiting_bits
 
 -- what contracts see of a receiver of bits
 pub record BitReceiving : Type 0 where
-  pub search : Searching
-  -- the bits that the search may look at again
-  pub room : List ℕ
+  pub finder : Finding
+  -- the bits that are not passed yet
+  pub recent : Recent
   pub batch : Batching
 
 -- it was given these bits
 abbrev pub BitReceiverStandsFor : BitReceiving → List Bool → Type 0
-BitReceiverStandsFor r = Stands r.search r.room r.batch
+BitReceiverStandsFor r = Stands r.finder r.recent r.batch
 
 -- what contracts see of both stages of a receiver: the inner code, and the search for codeblocks in
 -- its bits
@@ -159,18 +159,18 @@ FinishChooses before now = (given : List ℕ) (done : List (Handed ItemValue))
 
 -- ---- codeblocks that are whole
 
--- Whatever bits it stood for, and whichever were given then, of which the search reported nothing:
--- it stands for all now, and these are the items that are due with the last ones.
+-- Whatever bits it stood for, and whichever were given then, of which the search passed none: it
+-- stands for all now, and these are the items that are due with the last ones.
 abbrev pub Settles : BitReceiving → BitReceiving → List ItemValue → Type 0
 Settles before now items = (bits more : List Bool) → length (bits ++ more) < bits_bound
-    → HoldsMore before.search before.room before.batch (due_count before.batch.config bits) bits
+    → HoldsMore before.finder before.recent before.batch (due_count before.batch.config bits) bits
     more
     → BitReceiverStandsFor now (bits ++ more) × AreFurther before.batch.config bits more items
 
 -- these are first ones of the items that are due with the last ones
 abbrev pub SettlesPart : BitReceiving → List ItemValue → Type 0
 SettlesPart before tried = (bits more : List Bool) → length (bits ++ more) < bits_bound
-    → HoldsMore before.search before.room before.batch (due_count before.batch.config bits) bits
+    → HoldsMore before.finder before.recent before.batch (due_count before.batch.config bits) bits
     more
     → AreFirstFurther before.batch.config bits more tried
 

@@ -3,9 +3,8 @@ use Rattle.std.specs.Prelude.{ℕ, Bool, List}
 use Rattle.tm_config.specs.Configuration.{Configuration}
 use Rattle.tm_inner.specs.Inner.{Inner, AreInnerDue, inner_bits}
 use Rattle.tm_inner.specs.Receiving.{AreInnerFirst}
-use Rattle.tm_sync.specs.Places.{places}
 use Rattle.tm_viterbi.specs.WindowBlock.{WindowBlock}
-use Rattle.tm_codeblock.specs.ReceivedCodeblock.{rules_of}
+use Rattle.tm_codeblock.specs.ReceivedCodeblock.{places_in}
 use Rattle.tm_channel.specs.Items.{ItemValue, AreItemsOf, AreFirstItemsOf, AreItems}
 use Rattle.tm_channel.specs.Due.{due}
 
@@ -32,11 +31,11 @@ pub record ReceiveFirst (c : Configuration) (phase : ℕ) (octets : List ℕ)
   pub blocks : List WindowBlock
   pub are_first : AreInnerFirst c phase octets blocks
   pub are_items : AreFirstItemsOf c (inner_bits c octets blocks)
-      (places (rules_of c) (inner_bits c octets blocks)) items
+      (places_in c (inner_bits c octets blocks)) items
 
 -- these are the first of the items of received octets
 pub record ReceivePrefix (c : Configuration) (phase : ℕ) (octets : List ℕ)
     (items : List ItemValue) : Type 0 where
   pub bits : List Bool
   pub inner : Inner c phase octets bits
-  pub are_items : AreFirstItemsOf c bits (places (rules_of c) bits) items
+  pub are_items : AreFirstItemsOf c bits (places_in c bits) items

@@ -1,14 +1,16 @@
 -- What a receiver keeps of the bits that it was given, and which items it has handed over of them.
-use Rattle.std.specs.Prelude.{◌≡◌, ℕ, ◌+◌, ◌-◌, ◌*◌, ◌<◌, ◌≤◌, Bool, false, List, [], ◌∷◌, ◌++◌, length, take, drop, map, get_or, unwrap_or, nat_lt, if◌then◌else◌, ◌⊎◌}
+use Rattle.std.specs.Prelude.{◌≡◌, ℕ, ◌+◌, ◌-◌, ◌*◌, ◌/◌, ◌<◌, ◌≤◌, Bool, true, List, [], ◌∷◌, ◌++◌, length, take, drop, map, get_or, nat_lt, if◌then◌else◌, ◌⊎◌, Option, Some, None}
 use Rattle.tm_base.specs.Bits.{bits_of}
 use Rattle.tm_base.specs.Marker.{marker_size}
 use Rattle.tm_base.specs.Pieces.{beyond}
 use Rattle.tm_config.specs.Configuration.{Configuration, codeblock_length}
+use Rattle.tm_sync.specs.declared.found.Columns.{Columns}
 use Rattle.tm_sync.specs.declared.found.Found.{Found}
-use Rattle.tm_sync.specs.Places.{places, verify_bits}
-use Rattle.tm_sync.specs.Searching.{Searching, SearchStandsFor, inside_of, is_pending}
+use Rattle.tm_sync.specs.Places.{settled_by}
+use Rattle.tm_sync.specs.Rescan.{reach}
+use Rattle.tm_sync.specs.Finding.{Finding, Recent, IsWhole, places_left}
 use Rattle.tm_sync.specs.Bits.{bits_bound}
-use Rattle.tm_codeblock.specs.ReceivedCodeblock.{rules_of, codeblock_in}
+use Rattle.tm_codeblock.specs.ReceivedCodeblock.{rules_of, codeblock_in, columns_of, places_in, sound_in}
 use Rattle.tm_channel.specs.Items.{ItemValue, IsItem, AreItemsOf, AreFirstItemsOf}
 use Rattle.tm_channel.specs.Due.{due_count, due}
 
@@ -40,12 +42,12 @@ AreFirstDue c Stood piece items = (bits : List Bool) → length (bits ++ piece) 
 -- bits was known
 abbrev pub AreLast : Configuration → (List Bool → Type 0) → List ItemValue → Type 0
 AreLast c Stood items = (bits : List Bool) → Stood bits
-    → AreItemsOf c bits (beyond (due c bits) (places (rules_of c) bits)) items
+    → AreItemsOf c bits (beyond (due c bits) (places_in c bits)) items
 
 -- the same of the first ones
 abbrev pub AreFirstLast : Configuration → (List Bool → Type 0) → List ItemValue → Type 0
 AreFirstLast c Stood items = (bits : List Bool) → Stood bits
-    → AreFirstItemsOf c bits (beyond (due c bits) (places (rules_of c) bits)) items
+    → AreFirstItemsOf c bits (beyond (due c bits) (places_in c bits)) items
 
 -- whatever bits the receiver stood for, it stands for these and the piece
 abbrev pub GoesOn : (List Bool → Type 0) → (List Bool → Type 0) → List Bool → Type 0
@@ -88,76 +90,79 @@ IsHanded c before stored items =
     ((length before < c.batch) × (stored ≡ before) × (items ≡ []))
     ⊎ ((length before ≡ c.batch) × (stored ≡ []) × AreItemsFor c before items)
 
--- What is stored of these bits where the search reported these of their places, the first ones, and
--- the items of the first `handed` of them were handed over: the codeblocks of the others wait, and
--- the codeblock under way has the last bits.
-pub record Holding (c : Configuration) (stands : List Bool → List Found
-    → Type 0) (part : List Bool) (stored : List StoredCodeblock)
-    (handed : ℕ) (bits : List Bool) (reported : List Found) : Type 0 where
-  pub search : stands bits reported
-  pub first : take (length reported) (places (rules_of c) bits) ≡ reported
-  pub within : handed ≤ length reported
-  pub waiting : stored ≡ map (stored_at c bits) (drop handed reported)
-  pub prefix : List Bool
-  pub parts : bits ≡ prefix ++ part
-
--- what contracts see of a batch of codeblocks: the bits of the one under way, those that are
--- stored, and the items that were written when these were repaired
+-- what contracts see of a batch of codeblocks: those that are stored, and the items that were
+-- written when these were repaired
 pub record Batching : Type 0 where
   pub config : Configuration
-  pub part : List Bool
   pub stored : List StoredCodeblock
   pub items : List ItemValue
 
--- these bits were given to a search with its room and to a batch, the search reported these of
--- their places, and the codeblocks of all of these but the first `handed` ones are stored
-abbrev pub HoldsReported : Searching → List ℕ → Batching → ℕ → List Bool → List Found → Type 0
-HoldsReported s room b handed bits reported =
-    Holding b.config (SearchStandsFor s room) b.part b.stored handed bits reported
+-- each is repaired as it is stored, where places are looked for inside codeblocks
+abbrev pub AreWritten : Batching → Type 0
+AreWritten b = b.config.rescan ≡ true → AreItemsFor b.config b.stored b.items
 
--- the search reported all of their places
-abbrev pub Holds : Searching → List ℕ → Batching → ℕ → List Bool → Type 0
-Holds s room b handed bits = HoldsReported s room b handed bits (places (rules_of b.config) bits)
+-- Of these bits a search found these places, the first ones, and has not passed these bits, the
+-- last ones; the items of the first `handed` places were handed over, and the codeblocks of the
+-- others are stored. Whatever bits come, the further places are those that the search finds in what
+-- it has not passed.
+pub record Holding (c : Configuration) (s : Finding) (recent : List Bool)
+    (stored : List StoredCodeblock) (handed : ℕ) (bits : List Bool) (found : List Found)
+    : Type 0 where
+  pub passed : s.passed ≤ length bits
+  pub left : recent ≡ drop s.passed bits
+  pub places : (more : List Bool) → places_in c (bits ++ more)
+      ≡ found ++ places_left s (sound_in c (bits ++ more)) (recent ++ more)
+  pub within : handed ≤ length found
+  pub waiting : stored ≡ map (stored_at c bits) (drop handed found)
 
--- then `more` bits were given too, of which the search reported nothing yet
-abbrev pub HoldsMore : Searching → List ℕ → Batching → ℕ → List Bool → List Bool → Type 0
+-- these bits were given to a search with its room and to a batch, and the search found these of
+-- their places
+abbrev pub HoldsFound : Finding → Recent → Batching → ℕ → List Bool → List Found → Type 0
+HoldsFound s room b handed bits found =
+    Holding b.config s room.bits b.stored handed bits found
+
+-- it found all of their places
+abbrev pub Holds : Finding → Recent → Batching → ℕ → List Bool → Type 0
+Holds s room b handed bits = HoldsFound s room b handed bits (places_in b.config bits)
+
+-- then `more` bits were given too, of which the search passed none yet
+abbrev pub HoldsMore : Finding → Recent → Batching → ℕ → List Bool → List Bool → Type 0
 HoldsMore s room b handed bits more =
-    HoldsReported s room b handed (bits ++ more) (places (rules_of b.config) bits)
+    HoldsFound s room b handed (bits ++ more) (places_in b.config bits)
 
 -- these bits were given to a search and a batch, which was handed over whenever it was full
-abbrev pub Stands : Searching → List ℕ → Batching → List Bool → Type 0
+abbrev pub Stands : Finding → Recent → Batching → List Bool → Type 0
 Stands s room b bits = Holds s room b (due_count b.config bits) bits
 
--- The bits of the codeblock that is under way or whole are gathered, as far as they were given. Or
--- codeblocks are whole that were verified together, with a marker after the last of them: of these
--- no bits are.
-abbrev pub IsGathered : Searching → List Bool → Type 0
-IsGathered s part = let inside = unwrap_or (inside_of s) 0 in
-    ((inside ≤ s.rules.block_bits) × (length part ≡ inside))
-    ⊎ ((part ≡ []) × ((count : ℕ) × (count ≤ s.rules.verify)
-    × (inside ≡ count * (marker_size + s.rules.block_bits))))
+-- a search, its room and a batch agree, whatever bits were given; the room has some octets more
+-- than the search may have to keep
+pub record Agree (s : Finding) (room : Recent) (b : Batching) : Type 0 where
+  pub rules : s.rules ≡ rules_of b.config
+  pub columns : s.columns ≡ columns_of b.config
+  pub whole : IsWhole s room.bits
+  pub sized : settled_by s.rules.verify s.rules.block_bits + 14 ≤ 8 * room.size
+  pub written : AreWritten b
 
--- a search, its room and a batch agree, whatever bits were given, and codeblocks may be whole
-pub record Agree (s : Searching) (room : List ℕ) (b : Batching) : Type 0 where
-  pub same : s.rules ≡ rules_of b.config
-  pub sized : length room ≡ verify_bits s.rules
-  pub gathered : IsGathered s b.part
-  pub most : length b.part ≤ 8 * codeblock_length b.config
-
--- they agree, no codeblock is whole that is not stored, and the batch is not full
-pub record IsReady (s : Searching) (room : List ℕ) (b : Batching) : Type 0 where
-  pub same : s.rules ≡ rules_of b.config
-  pub sized : length room ≡ verify_bits s.rules
-  pub within : unwrap_or (inside_of s) 0 ≤ s.rules.block_bits
-  pub long : length b.part ≡ unwrap_or (inside_of s) 0
-  pub free : is_pending s ≡ false
+-- they agree, the search has passed all that it can, and the batch is not full
+pub record IsReady (s : Finding) (room : Recent) (b : Batching) : Type 0 where
+  pub agree : Agree s room b
+  pub short : length room.bits < settled_by s.rules.verify s.rules.block_bits
   pub few : length b.stored < b.config.batch
 
--- how many bits may wait at most where a batch lacks so many codeblocks: as many as these have with
--- their markers, and none where one worker decodes
+-- how many bits so many codeblocks have with their markers at least: two may lie nearly in the room
+-- of one, where they are looked for inside others
+abbrev pub least_bits_at : Option Columns → ℕ → ℕ → ℕ
+least_bits_at None unit count = count * unit
+least_bits_at (Some columns) unit count =
+    unit + (count - 1) / 2 * (unit - reach columns + 1)
+
+abbrev pub least_bits : Configuration → ℕ → ℕ
+least_bits c = least_bits_at (columns_of c) (marker_size + (rules_of c).block_bits)
+
+-- how many bits may wait at most where a batch lacks so many codeblocks: as many as these have at
+-- least with their markers, and none where one worker decodes
 abbrev pub waiting_bits : Configuration → ℕ → ℕ
-waiting_bits c count =
-    if nat_lt 1 c.workers then count * (marker_size + (rules_of c).block_bits) else 0
+waiting_bits c count = if nat_lt 1 c.workers then least_bits c count else 0
 
 -- ---- bits that are taken
 

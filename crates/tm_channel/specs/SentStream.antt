@@ -1,6 +1,6 @@
 -- Bits in which channel access data units were sent, with gaps and disturbance, and the items that
 -- they come to.
-use Rattle.std.specs.Prelude.{◌≡◌, ℕ, ◌+◌, ◌*◌, ◌≤◌, Bool, false, if◌then◌else◌, nat_le, List, [], ◌∷◌, ◌++◌, length, map, None, replicate}
+use Rattle.std.specs.Prelude.{◌≡◌, ℕ, ◌+◌, ◌*◌, ◌≤◌, Bool, false, if◌then◌else◌, nat_le, List, [], ◌∷◌, ◌++◌, length, map, None, IfSome, replicate}
 use Rattle.std.specs.List.{AllByRecursion}
 use Rattle.tm_base.specs.Bits.{AreOctets, bits_of}
 use Rattle.tm_base.specs.Marker.{marker_size}
@@ -11,8 +11,9 @@ use Rattle.tm_rs_solve.specs.declared.answers.Answer.{Answer}
 use Rattle.tm_rs_solve.specs.declared.answers.Answer.TheVariants.{Fixed}
 use Rattle.tm_sync.specs.declared.found.Found.{Found}
 use Rattle.tm_sync.specs.Marked.{Entry, IsMarked, places_of}
+use Rattle.tm_sync.specs.PlacesInside.{HasNoneInside, MayStand}
 use Rattle.tm_codeblock.specs.Cadu.{codeblock_of, cadu}
-use Rattle.tm_codeblock.specs.ReceivedCodeblock.{rules_of, codeblock_in, received_columns}
+use Rattle.tm_codeblock.specs.ReceivedCodeblock.{rules_of, codeblock_in, received_columns, columns_of, sound_in}
 use Rattle.tm_channel.specs.Items.{ItemValue}
 
 -- a transfer frame of a configuration
@@ -29,15 +30,23 @@ pub record SentUnit : Type 0 where
 abbrev pub entries_of : List SentUnit → List Entry
 entries_of units = map (λ (u : SentUnit). u.received) units
 
+-- the places of their markers
+abbrev pub unit_places : Configuration → List SentUnit → List Found
+unit_places c units = places_of (rules_of c) 0 None (entries_of units)
+
+-- where places are looked for inside codeblocks too, each of these is bridged only where it may be,
+-- and no marker counts inside one
+abbrev pub StandAlone : Configuration → List Bool → List Found → Type 0
+StandAlone c bits fs = IfSome (columns_of c) (λ columns.
+    AllByRecursion (MayStand (rules_of c) columns bits) fs
+    × AllByRecursion (HasNoneInside (rules_of c) columns (sound_in c bits) bits) fs)
+
 -- the bits are these units, and after them a last gap
 pub record IsSent (c : Configuration) (bits : List Bool) (units : List SentUnit)
     (last : List Bool) : Type 0 where
   pub marked : IsMarked (rules_of c) bits (entries_of units) last
   pub frames : AllByRecursion (λ u. IsFrame c u.frame) units
-
--- the places of their markers
-abbrev pub unit_places : Configuration → List SentUnit → List Found
-unit_places c units = places_of (rules_of c) 0 None (entries_of units)
+  pub alone : StandAlone c bits (unit_places c units)
 
 -- the columns of the codeblock that was sent
 abbrev pub sent_columns : Configuration → List ℕ → List (List ℕ)

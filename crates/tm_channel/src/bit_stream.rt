@@ -1,11 +1,10 @@
 // Bits in, items out, with no codeblock whole between two calls.
-ghost use Rattle.std.specs.Prelude.{◌≡◌, ◌*◌, ◌<◌, ◌≤◌, [], drop, length, None, OnOk, OnErr};
+ghost use Rattle.std.specs.Prelude.{◌≡◌, ◌+◌, ◌*◌, ◌<◌, ◌≤◌, [], drop, length, None, OnOk, OnErr};
 ghost use Rattle.tm_base.specs.Bits.{bits_of};
 ghost use Rattle.tm_base.specs.Outside.{HasCause};
-ghost use Rattle.tm_sync.specs.Places.{verify_bits};
-ghost use Rattle.tm_sync.specs.Searching.{SearchStandsFor, inside_of};
 ghost use Rattle.tm_sync.specs.Bits.{bits_bound};
-ghost use Rattle.tm_codeblock.specs.ReceivedCodeblock.{rules_of};
+ghost use Rattle.tm_sync.specs.Places.{settled_by};
+ghost use Rattle.tm_codeblock.specs.ReceivedCodeblock.{columns_of, rules_of};
 ghost use Rattle.tm_channel.specs.Receiving.{waiting_bits};
 ghost use Rattle.tm_channel.specs.OctetReceiving.{AreSpare, BitReceiverStandsFor, Received, ReceivedPart, ReceivedLast, ReceivedLastPart};
 
@@ -15,7 +14,7 @@ use crate::store::Codeblocks;
 use crate::workers::Workers;
 use std::marker::Model;
 use tm_base::Failed;
-use tm_sync::Search;
+use tm_sync::{Finder, RecentBits};
 
 /// A receiver of bits between two calls.
 #[derive(Drop)]
@@ -30,31 +29,34 @@ impl Model for BitStream {
     ghost Value = { BitReceiving };
 
     ghost view = { λ s. record {
-      search = s.receiver.search;
-      room = s.receiver.room.items;
+      finder = s.receiver.finder;
+      recent = s.receiver.recent;
       batch = s.receiver.batch;
     } };
 
-    ghost invariant = { λ s. IsReady s.receiver.search s.receiver.room.items s.receiver.batch };
+    ghost invariant = { λ s. IsReady s.receiver.finder s.receiver.recent s.receiver.batch };
 }
 
 impl BitStream {
-    /// A receiver that was given no bits. `room` is the search's own.
-    pub fn new(search: Search, room: Vec<u8>, batch: Codeblocks) -> BitStream
-        requires rules { search.rules ≡ rules_of batch.config }
-        requires inside { inside_of search ≡ None }
-        requires sized { length room.items ≡ verify_bits search.rules }
-        requires stands { SearchStandsFor search room.items [] [] }
-        requires part { batch.part ≡ [] }
-        requires stored { batch.stored ≡ [] }
+    /// A receiver that was given no bits. There is room for a few octets more than the search may have to keep.
+    pub fn new(finder: Finder, recent: RecentBits, batch: Codeblocks) -> BitStream
+        requires finder { finder ≡ record {
+          rules = rules_of batch.config;
+          columns = columns_of batch.config;
+          passed = 0;
+          last = None;
+        } }
+        requires recent { recent.bits ≡ [] }
+        requires sized { settled_by finder.rules.verify finder.rules.block_bits + 14 ≤ 8 * recent.size }
+        requires batch { batch ≡ record { config = batch.config; stored = []; items = [] } }
         requires some { 0 < batch.config.batch }
         ensures config { result.batch.config ≡ batch.config }
         ensures stands { BitReceiverStandsFor result [] }
     {
         BitStream {
             receiver: BitReceiver {
-                search,
-                room,
+                finder,
+                recent,
                 batch,
             },
         }
@@ -86,19 +88,13 @@ impl BitStream {
     }
 
     /// How many further bits make no item due, whatever they are: one fewer than the codeblocks that the batch lacks
-    /// have with their markers, less those given that may be part of the first of them; none with one worker.
+    /// have at least with their markers, less those that are not passed; none with one worker.
     pub fn spare(&self) -> u64
         ensures value { AreSpare self.now result }
         ensures most { result ≤ waiting_bits self.now.batch.config self.now.batch.config.batch }
     {
         let lacking = self.receiver.batch.bits_lacking();
-        match self.receiver.search.inside() {
-            Some(count) => lacking.saturating_sub(33).saturating_sub(count),
-            None => {
-                let left = lacking.saturating_sub(32);
-                left.saturating_sub(self.receiver.room.as_slice().len() as u64)
-            }
-        }
+        lacking.saturating_sub(self.receiver.recent.count() as u64 + 1)
     }
 
     /// Hands over the items that were not due before the end of the bits was known.

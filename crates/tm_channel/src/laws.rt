@@ -1,25 +1,26 @@
 // What holds of received octets, over the definitions alone.
 ghost use Rattle.std.specs.Prelude.{◌≡◌, ◌*◌, ◌++◌, ℕ, Bool, true, false, List, [], ◌∷◌, None, Option, length, map, replicate};
-ghost use Rattle.std.specs.List.{concat};
+ghost use Rattle.std.specs.List.{AllByRecursion, concat};
 ghost use Rattle.tm_base.specs.Bits.{AreOctets, bits_of};
 ghost use Rattle.tm_base.specs.Handed.{Handed};
 ghost use Rattle.tm_config.specs.Accepted.{IsAccepted};
 ghost use Rattle.tm_viterbi.specs.declared.block.Start.TheVariants.{Any};
 ghost use Rattle.tm_conv.specs.declared.rates.Rate.TheVariants.{R12};
 ghost use Rattle.tm_config.specs.declared.values.Sought.TheVariants.{Find};
-ghost use Rattle.tm_config.specs.Configuration.{Configuration};
+ghost use Rattle.tm_config.specs.Configuration.{Configuration, codeblock_length};
 ghost use Rattle.tm_windows.specs.declared.choosing.Chosen.{Chosen};
 ghost use Rattle.tm_inner.specs.Inner.{Inner, IsStartKnown};
 ghost use Rattle.tm_viterbi.specs.Clean.{complemented_octets};
 ghost use Rattle.tm_inner.specs.Phase.{IsChosen, with_phase};
 ghost use Rattle.tm_codeblock.specs.Frames.{whole_frames};
-ghost use Rattle.tm_codeblock.specs.ReceivedCodeblock.{received_columns};
+ghost use Rattle.tm_codeblock.specs.ReceivedCodeblock.{is_sound, received_columns};
 ghost use Rattle.tm_channel.specs.Sent.{cadus, sent, sent_phase};
-ghost use Rattle.tm_channel.specs.Items.{ItemValue, frames_of, complemented_item, dropped_item, dropping};
+ghost use Rattle.tm_channel.specs.Items.{ItemValue, frames_of, complemented_item, dropped_item, dropping, is_given};
 ghost use Rattle.tm_channel.specs.declared.totals.Totals.{Totals};
 ghost use Rattle.tm_channel.specs.Handing.{AreReceived, AreReceivedDue, AreReceivedFirst, AreReceivedPrefix, clean_totals};
 ghost use Rattle.tm_channel.specs.Receive.{Receive, ReceiveDue, ReceiveFirst, ReceivePrefix};
-ghost use Rattle.tm_channel.specs.SentStream.{AreAsSent, AreNear, AreWithin, IsSent, SentUnit, clean_items, found_frames, sent_columns, unit_frames, unit_places};
+ghost use Rattle.tm_channel.specs.SentStream.{AreAsSent, AreNear, AreWithin, IsFrame, IsNear, IsSent, SentUnit, clean_items, found_frames, sent_columns, unit_frames, unit_places};
+ghost use Rattle.tm_channel.specs.SoundCodeblocks.{IsFoundAt, IsSoundAt};
 ghost use Rattle.tm_channel.specs.Disturbed as disturbed;
 
 use tm_conv::{best_path_law, complement_law};
@@ -27,8 +28,8 @@ use tm_inner::{clean_inner_law, due_bits_law, inner_law};
 use tm_viterbi::complemented_blocks_law;
 use tm_windows::{closed_prefix_law, due_windows_law, phase_law, whole_window_law};
 
-/// Received octets come to one list of items. Where what is left of frames with an uncorrectable column is passed too,
-/// these are the same items but for such frames. It does nothing.
+/// Received octets come to one list of items, and each frame that is given is whole. Where what is left of frames with
+/// an uncorrectable column is passed too, these are the same items but for such frames. It does nothing.
 pub fn items_law()
     ensures exists { (c : Configuration) (phase : ℕ) (octets : List ℕ) → IsAccepted c
         → (items : List ItemValue) × Receive c phase octets items }
@@ -36,6 +37,9 @@ pub fn items_law()
         → Receive c phase octets items → Receive c phase octets others → items ≡ others }
     ensures passed { (c : Configuration) (phase : ℕ) (octets : List ℕ) (items : List ItemValue)
         → Receive c phase octets items → Receive (dropping c) phase octets (map dropped_item items) }
+    ensures whole { (c : Configuration) (phase : ℕ) (octets : List ℕ) (items : List ItemValue) → IsAccepted c
+        → Receive c phase octets items
+        → AllByRecursion (λ item. is_given c item.answers ≡ true → length item.frame ≡ c.frame_length) items }
 {
     inner_law();
 }
@@ -113,10 +117,26 @@ pub fn disturbed_law()
     inner_law();
 }
 
+/// Where codeblocks are looked for inside others too, and no further markers are to verify one: each whole codeblock that
+/// is correctable and follows a marker has its item, whatever comes before; but where that marker stands inside another
+/// correctable one, and either before the last symbols of it or where a marker matches right after it. A codeblock that
+/// was sent for a frame is correctable, if it was disturbed within the repair bound. It does nothing.
+pub fn found_law()
+    ensures found { (c : Configuration) (phase : ℕ) (octets : List ℕ) (bits : List Bool) (items : List ItemValue)
+        (at : ℕ) (inverted : Bool)
+        → c.rescan ≡ true → c.verify ≡ 0 → Inner c phase octets bits → Receive c phase octets items
+        → IsSoundAt c bits at inverted → IsFoundAt c bits at inverted items }
+    ensures near { (c : Configuration) (frame codeblock : List ℕ) → IsAccepted c → IsFrame c frame
+        → length codeblock ≡ codeblock_length c → IsNear c frame codeblock → is_sound c codeblock ≡ true }
+{
+    inner_law();
+}
+
 /// There are octets of which `disturbed_law` speaks: of an accepted configuration with no inner code and a given phase,
-/// where a further marker verifies each place that is searched for. In them stands a unit with a wrong bit in its
-/// marker and a wrong symbol, right after it one that verifies it and one whose marker is bridged, and after a gap two
-/// inverted ones. No column is disturbed beyond the repair bound. It does nothing.
+/// where a further marker verifies each place that is searched for, and codeblocks are looked for inside others too. In
+/// them stands a unit with a wrong bit in its marker and a wrong symbol, right after it one that verifies it and one
+/// whose marker is bridged, and after a gap two inverted ones. No column is disturbed beyond the repair bound. The first
+/// codeblock is one of which `found_law` speaks, where no marker is to verify it. It does nothing.
 pub fn disturbed_octets_law()
     ensures accepted { IsAccepted disturbed.link }
     ensures verify { disturbed.link.verify ≡ 1 }
@@ -132,6 +152,7 @@ pub fn disturbed_octets_law()
     ensures wrong { AreWithin 0 (received_columns disturbed.link (0 ∷ 0 ∷ 1 ∷ replicate 14 0))
         (sent_columns disturbed.link disturbed.frame) → ⊥ }
     ensures near { AreNear disturbed.link (unit_places disturbed.link disturbed.units) disturbed.units }
+    ensures sound { IsSoundAt (record disturbed.link { verify = 0 }) (bits_of disturbed.octets) 0 false }
 {}
 
 /// The items of what is sent for octets, where none is skipped, nothing was disturbed and it is known where the first

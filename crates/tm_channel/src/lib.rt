@@ -21,11 +21,12 @@ mod workers;
 
 pub use item::{Item, ItemTaker, are_fixed};
 pub use laws::{
-    clean_law, disturbed_law, disturbed_octets_law, due_items_law, first_items_law, items_law,
-    polarity_law, received_law,
+    clean_law, disturbed_law, disturbed_octets_law, due_items_law, first_items_law, found_law,
+    items_law, polarity_law, received_law,
 };
 pub use receiver::{Receiver, RecvError, receive_all};
 pub use sender::Sender;
+pub use store::waiting_bits;
 pub use tm_codeblock::{basis_of, cadu};
 pub use tm_config::{Config, ConfigError, Raw};
 pub use tm_inner::{InnerEnd, InnerReceiver, InnerSender, SendError, inner_all};

@@ -1,5 +1,5 @@
 // The receiver: octets in, items out.
-ghost use Rattle.std.specs.Prelude.{◌≡◌, ◌≢◌, ◌↔◌, ◌⊎◌, ℕ, ◌+◌, ◌<◌, ◌≤◌, true, false, List, [], length, None, IfOk, OnOk, IsErrOf, Err, IsTrue};
+ghost use Rattle.std.specs.Prelude.{◌≡◌, ◌≢◌, ◌↔◌, ◌⊎◌, ℕ, ◌+◌, ◌*◌, ◌<◌, ◌≤◌, true, false, List, [], length, None, IfOk, OnOk, IsErrOf, Err, IsTrue};
 ghost use Rattle.std.specs.Thread.{IsSync};
 ghost use Rattle.tm_base.specs.Handed.{Handed, on_handed};
 ghost use Rattle.tm_base.specs.Outside.{Rose};
@@ -7,9 +7,8 @@ ghost use Rattle.tm_base.specs.Takers.{HandedOver, HandedPart};
 ghost use Rattle.tm_base.specs.Limits.{most_workers};
 ghost use Rattle.tm_inner.specs.InnerDecoding.{HasWorkers};
 ghost use Rattle.tm_inner.specs.Phase.{IsChosenSoFar};
-ghost use Rattle.tm_sync.specs.Places.{verify_bits};
-ghost use Rattle.tm_sync.specs.Searching.{SearchStandsFor, inside_of};
-ghost use Rattle.tm_codeblock.specs.ReceivedCodeblock.{rules_of};
+ghost use Rattle.tm_sync.specs.Places.{settled_by};
+ghost use Rattle.tm_codeblock.specs.ReceivedCodeblock.{columns_of, rules_of};
 ghost use Rattle.tm_workers.specs.Batch.{EachBecomes, IsBatch};
 ghost use Rattle.tm_workers.specs.Words.{Decodes};
 ghost use Rattle.tm_viterbi.specs.WindowSizes.{stream_bound};
@@ -31,11 +30,11 @@ use std::marker::Model;
 use std::thread::Threads;
 use thiserror::Error;
 use tm_base::{Failed, NoMemory};
-use tm_codeblock::{codeblock_size, finds_polarity};
+use tm_codeblock::{codeblock_size, columns_of, finds_polarity};
 use tm_config::Config;
 use tm_inner::{InnerReceiver, held_bits};
 use tm_rs_code::Params;
-use tm_sync::Search;
+use tm_sync::{Finder, RecentBits};
 use tm_viterbi::AllError;
 use tm_windows::Chosen;
 use tm_workers::{Gate, OpenGate, Word, decode_batch};
@@ -112,7 +111,7 @@ impl Receiver {
         let Ok(batch) = Codeblocks::open(alloc, config) else {
             return Err(NoMemory);
         };
-        let room = (batch.bits_lacking() + held_bits(&config)) as usize + PIECE;
+        let room = (held_bits(&config) + batch.bits_lacking()) as usize + PIECE;
         let Ok(kept) = KeptBits::open(alloc, room) else {
             return Err(NoMemory);
         };
@@ -287,24 +286,29 @@ impl Receiver {
     }
 }
 
-// The search for the codeblocks of a configuration, and its room.
-fn open_search(alloc: Global, config: &Config) -> Result<(Search, Vec<u8>), NoMemory>
-    ensures rules { IfOk result (λ opened. opened.0.rules ≡ rules_of config.now) }
-    ensures inside { IfOk result (λ opened. inside_of opened.0 ≡ None) }
-    ensures sized { IfOk result (λ opened. length opened.1.items ≡ verify_bits opened.0.rules) }
-    ensures stands { IfOk result (λ opened. SearchStandsFor opened.0 opened.1.items [] []) }
+// The search for the codeblocks of a configuration, and the room for the bits that it has not passed.
+fn open_search(alloc: Global, config: &Config) -> Result<(Finder, RecentBits), NoMemory>
+    ensures finder { IfOk result (λ opened. opened.0
+        ≡ record { rules = rules_of config.now; columns = columns_of config.now; passed = 0; last = None }) }
+    ensures recent { IfOk result (λ opened. opened.1.bits ≡ []) }
+    ensures sized { IfOk result (λ opened.
+        settled_by opened.0.rules.verify opened.0.rules.block_bits + 14 ≤ 8 * opened.1.size) }
 {
-    let search = Search::new(
+    let size = codeblock_size(config);
+    let finder = Finder::new(
         config.tolerance() as u8,
         config.fly() as u8,
         finds_polarity(config),
-        8 * codeblock_size(config) as u32,
+        8 * size as u32,
         config.verify() as u8,
+        columns_of(config),
     );
-    let Ok(room) = vec![in alloc; 0; search.room()] else {
+    // A place is settled by its marker and codeblock and by those that verify it; a piece of octets follows these.
+    let units = 1 + config.verify() as usize;
+    let Ok(room) = vec![in alloc; 0; units * (4 + size) + PIECE] else {
         return Err(NoMemory);
     };
-    Ok((search, room))
+    Ok((finder, RecentBits::new(room)))
 }
 
 /// Hands over the symbol phase of octets, fewer than 2^60, where it is to be found, and all their items. Answers what

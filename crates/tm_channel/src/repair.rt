@@ -2,13 +2,15 @@
 ghost use Rattle.std.specs.Prelude.{◌≢◌, ◌≡◌, ◌<◌, ◌≤◌, ◌*◌, length, map, take};
 ghost use Rattle.tm_config.specs.Configuration.{codeblock_length, most_batch};
 ghost use Rattle.tm_codeblock.specs.ReceivedCodeblock.{column_count};
+ghost use Rattle.tm_channel.specs.Items.{IsItem};
 ghost use Rattle.tm_channel.specs.Receiving.{AreItemsFor};
 ghost use Rattle.tm_channel.specs.Storing.{AreDecoded, AreRead, item_in, stored_in};
 
 use crate::column_words::read_columns;
 use crate::slot::Slot;
-use crate::workers::Workers;
+use crate::workers::{InOrder, Workers};
 use std::alloc::Global;
+use std::slice::from_ref;
 use tm_codeblock::{codeblock_size, column_count, has_code, params_of};
 use tm_config::{Config, OuterCode};
 use tm_workers::Word;
@@ -39,6 +41,21 @@ pub fn repair<P: Workers>(
     let words = &mut words[..size];
     decode(by, alloc, config, slots, words);
     write_items(config, words, slots);
+}
+
+/// Repairs the codeblock of a slot, one column after another, and writes its item.
+pub fn repair_slot(alloc: Global, config: &Config, slot: &mut Slot, words: &mut [Word])
+    requires words { column_count config.now ≤ length words.old }
+    ensures stored { stored_in (codeblock_length config.now) slot.new
+        ≡ stored_in (codeblock_length config.now) slot.old }
+    ensures item { IsItem config.now slot.old.found (take (codeblock_length config.now) slot.old.octets)
+        (item_in config.now slot.new) }
+    ensures words { length words.new ≡ length words.old }
+{
+    let count = column_count(config);
+    let words = &mut words[..count];
+    decode(&InOrder, alloc, config, from_ref(slot), words);
+    slot.write_item(config, words);
 }
 
 // Decodes the columns of all codeblocks.

@@ -1,6 +1,6 @@
 // A codeblock that is whole, and what came of it.
-ghost use Rattle.std.specs.Prelude.{◌≡◌, ◌<◌, ◌≤◌, length, take};
-ghost use Rattle.tm_base.specs.Bits.{bits_of};
+ghost use Rattle.std.specs.Prelude.{◌≡◌, ◌<◌, ◌≤◌, ◌+◌, ◌*◌, drop, length, take};
+ghost use Rattle.tm_base.specs.Marker.{marker_size};
 ghost use Rattle.tm_config.specs.Configuration.{codeblock_length, longest_codeblock};
 ghost use Rattle.tm_codeblock.specs.ReceivedCodeblock.{column_count};
 ghost use Rattle.tm_channel.specs.Items.{IsItem};
@@ -12,7 +12,7 @@ use crate::item::{Item, are_fixed};
 use tm_codeblock::{column_count, has_code, read_codeblock};
 use tm_config::{Config, LONGEST_CODEBLOCK};
 use tm_rs_solve::Answer;
-use tm_sync::Found;
+use tm_sync::{Found, RecentBits};
 use tm_workers::Word;
 
 /// A codeblock that is whole, and room for its item.
@@ -25,14 +25,16 @@ pub struct Slot {
 }
 
 impl Slot {
-    /// Writes the codeblock that was received as these octets at this place.
-    pub fn fill(&mut self, config: &Config, found: Found, size: usize, received: &[u8])
-        requires size { length received.now ≡ size }
+    /// Writes the codeblock of this place, which the bits begin with.
+    pub fn fill(&mut self, config: &Config, found: Found, size: usize, recent: &RecentBits)
+        requires whole { marker_size + 8 * size ≤ length recent.now.bits }
         requires most { size ≤ longest_codeblock }
-        ensures { stored_in size self.new ≡ stored_of config.now found (bits_of received.now) }
+        ensures { stored_in size self.new
+            ≡ stored_of config.now found (take (8 * size) (drop marker_size recent.now.bits)) }
     {
         self.found = found;
-        read_codeblock(config, found.inverted, received, &mut self.octets[..size]);
+        recent.copy(32, &mut self.octets[..size]);
+        read_codeblock(config, found.inverted, &mut self.octets[..size]);
     }
 
     /// Writes the item of the codeblock, whose columns were decoded in these words.

@@ -1,33 +1,31 @@
-// The codeblock under way, and those of a batch that are whole.
-ghost use Rattle.std.specs.Prelude.{◌≡◌, ◌<◌, ◌≤◌, ◌+◌, ◌-◌, ◌*◌, [], ◌∷◌, ◌++◌, IfOk, length};
-ghost use Rattle.tm_base.specs.Bits.{bits_of, low_bits};
+// The codeblocks of a batch.
+ghost use Rattle.std.specs.Prelude.{◌≡◌, ◌<◌, ◌≤◌, ◌+◌, ◌-◌, ◌*◌, true, [], ◌∷◌, ◌++◌, IfOk, drop, length, take};
 ghost use Rattle.tm_base.specs.Marker.{marker_size};
 ghost use Rattle.tm_config.specs.Configuration.{longest_codeblock, most_batch, codeblock_length};
-ghost use Rattle.tm_codeblock.specs.RoomBits.{room_bits};
-ghost use Rattle.tm_channel.specs.Receiving.{AreItemsFor, IsItemAt, stored_of, waiting_bits};
+ghost use Rattle.tm_codeblock.specs.ReceivedCodeblock.{codeblock_in, is_sound};
+ghost use Rattle.tm_channel.specs.Receiving.{AreItemsFor, AreWritten, IsItemAt, least_bits, stored_of, waiting_bits};
 
-use crate::item::Item;
-use crate::repair::repair;
+use crate::item::{Item, are_fixed};
+use crate::repair::{repair, repair_slot};
 use crate::slot::Slot;
 use crate::workers::Workers;
 use std::alloc::{AllocError, Global};
 use std::marker::Model;
-use tm_codeblock::{Gathering, codeblock_size, column_count};
+use tm_codeblock::{codeblock_size, column_count, columns_of};
 use tm_config::{Config, LONGEST_CODEBLOCK};
 use tm_gf256::Gf;
 use tm_rs_solve::Answer;
-use tm_sync::{Found, NO_PLACE};
+use tm_sync::{Found, NO_PLACE, RecentBits};
 use tm_workers::Word;
 
-/// Room for the codeblock under way and for a batch of whole ones, which are repaired at once. A batch has as many as
-/// the configuration says.
+/// Room for a batch of codeblocks, which are repaired at once; but each as it is kept, where others are looked for
+/// inside it. A batch has as many as the configuration says.
 #[derive(Drop)]
 pub struct Codeblocks {
     config: Config,
     alloc: Global,
     // The octets of a codeblock.
     size: usize,
-    gathering: Gathering,
     slots: Vec<Slot>,
     count: usize,
     // The columns of all codeblocks, for their repair.
@@ -45,7 +43,6 @@ impl Model for Codeblocks {
 
     ghost view = { λ s. record {
       config = s.config;
-      part = s.gathering;
       stored = map (stored_in s.size) (take s.count s.slots.items);
       items = map (item_in s.config) (take s.count s.slots.items);
     } };
@@ -60,7 +57,7 @@ impl Codeblocks {
     /// Room for codeblocks of this configuration, with none in it. It takes all its memory here.
     pub fn open(alloc: Global, config: Config) -> Result<Codeblocks, AllocError>
         ensures { IfOk result (λ codeblocks. codeblocks
-            ≡ record { config = config; part = []; stored = []; items = [] }) }
+            ≡ record { config = config; stored = []; items = [] }) }
     {
         let word = Word {
             symbols: [Gf(0); 255],
@@ -77,80 +74,50 @@ impl Codeblocks {
             config,
             alloc,
             size: codeblock_size(&config),
-            gathering: Gathering::new(),
             slots: vec![in alloc; slot; room]?,
             count: 0,
             words: vec![in alloc; word; room * column_count(&config)]?,
         })
     }
 
-    /// Begins the codeblock under way with the lowest `count` bits of an octet.
-    pub fn begin(&mut self, octet: u8, count: u32)
-        requires { count < 8 }
-        ensures config { self.new.config ≡ self.old.config }
-        ensures part { self.new.part ≡ low_bits count octet }
-        ensures stored { self.new.stored ≡ self.old.stored }
-    {
-        self.gathering.begin(octet, count);
-    }
-
-    /// Adds a bit to the codeblock under way.
-    pub fn push_bit(&mut self, bit: bool)
-        requires { length self.old.part < 8 * codeblock_length self.old.config }
-        ensures config { self.new.config ≡ self.old.config }
-        ensures part { self.new.part ≡ self.old.part ++ bit ∷ [] }
-        ensures stored { self.new.stored ≡ self.old.stored }
-    {
-        // So that the proof has the invariant of the store.
-        let _size = self.size;
-        self.gathering.push_bit(bit);
-    }
-
-    /// Adds the bits of octets to it.
-    pub fn push_octets(&mut self, octets: &[u8])
-        requires { length self.old.part + 8 * length octets.now ≤ 8 * codeblock_length self.old.config }
-        ensures config { self.new.config ≡ self.old.config }
-        ensures part { self.new.part ≡ self.old.part ++ bits_of octets.now }
-        ensures stored { self.new.stored ≡ self.old.stored }
-    {
-        // So that the proof has the invariant of the store.
-        let _size = self.size;
-        self.gathering.push_octets(octets);
-    }
-
-    /// Takes the codeblock under way, of which nothing was gathered, out of a room that holds the bits given, bit i as
-    /// 0 or 1 in octet i % size: those from bit `from` on.
-    pub fn recall(&mut self, room: &[u8], from: u64)
-        requires none { self.old.part ≡ [] }
-        requires some { 0 < length room.now }
-        ensures config { self.new.config ≡ self.old.config }
-        ensures part { self.new.part ≡ room_bits room.now from (8 * codeblock_length self.old.config) }
-        ensures stored { self.new.stored ≡ self.old.stored }
-    {
-        self.gathering.recall(8 * self.size, room, from);
-    }
-
-    /// Keeps the codeblock under way, which is whole, as that of this place.
-    pub fn keep(&mut self, found: Found)
+    /// Keeps the codeblock of this place, which the bits begin with, and answers whether it is sound; where none are
+    /// looked for inside codeblocks that is not asked, and it is not repaired yet.
+    pub fn keep(&mut self, found: Found, recent: &RecentBits) -> bool
         requires room { length self.old.stored < self.old.config.batch }
-        requires whole { length self.old.part ≡ 8 * codeblock_length self.old.config }
+        requires whole { marker_size + 8 * codeblock_length self.old.config ≤ length recent.now.bits }
+        requires written { AreWritten self.old }
         ensures config { self.new.config ≡ self.old.config }
-        ensures part { self.new.part ≡ [] }
-        ensures stored { self.new.stored ≡ self.old.stored ++ stored_of self.old.config found self.old.part ∷ [] }
+        ensures stored { self.new.stored ≡ self.old.stored ++ stored_of self.old.config found
+            (take (8 * codeblock_length self.old.config) (drop marker_size recent.now.bits)) ∷ [] }
+        ensures written { AreWritten self.new }
+        ensures sound { self.old.config.rescan ≡ true → result
+            ≡ is_sound self.old.config (codeblock_in self.old.config found.inverted
+            (take (8 * codeblock_length self.old.config) (drop marker_size recent.now.bits))) }
     {
         let size = self.size;
-        let received = self.gathering.octets();
-        self.slots[self.count].fill(&self.config, found, size, received);
-        self.gathering.clear();
-        self.count += 1;
+        let index = self.count;
+        self.slots[index].fill(&self.config, found, size, recent);
+        self.count = index + 1;
+        if !self.config.values().rescan {
+            return true;
+        }
+        repair_slot(
+            self.alloc,
+            &self.config,
+            &mut self.slots[index],
+            self.words.as_mut_slice(),
+        );
+        are_fixed(self.slots[index].item(&self.config).answers)
     }
 
-    /// How many bits the codeblock under way lacks.
-    pub fn lacking(&self) -> usize
-        requires { length self.now.part ≤ 8 * codeblock_length self.now.config }
-        ensures { length self.now.part + result ≡ 8 * codeblock_length self.now.config }
+    /// Keeps the last codeblock no longer.
+    pub fn drop_last(&mut self)
+        requires some { 0 < length self.old.stored }
+        ensures config { self.new.config ≡ self.old.config }
+        ensures stored { self.new.stored ≡ take (length self.old.stored - 1) self.old.stored }
+        ensures written { AreWritten self.old → AreWritten self.new }
     {
-        8 * self.size - self.gathering.count()
+        self.count -= 1;
     }
 
     /// How many codeblocks a batch has.
@@ -168,26 +135,28 @@ impl Codeblocks {
         self.count
     }
 
-    /// How many bits the codeblocks that the batch lacks have with their markers; none with one worker.
+    /// How many bits the codeblocks that the batch lacks, one or more, have at least with their markers: none with one
+    /// worker.
     pub fn bits_lacking(&self) -> u64
+        requires some { length self.now.stored < self.now.config.batch }
         ensures value { result ≡ waiting_bits self.now.config (self.now.config.batch - length self.now.stored) }
         ensures all { self.now.stored ≡ [] → result ≡ waiting_bits self.now.config self.now.config.batch }
         ensures most { result ≤ most_batch * (marker_size + 8 * longest_codeblock) }
     {
-        if self.config.workers() < 2 {
-            return 0;
-        }
-        ((self.slots.len() - self.count) * (32 + 8 * self.size)) as u64
+        waiting_bits(&self.config, (self.slots.len() - self.count) as u64)
     }
 
-    /// Repairs all codeblocks that are stored, by these workers, and writes their items.
+    /// Repairs all codeblocks that are stored, by these workers, and writes their items, where that is not done yet.
     pub fn repair<P: Workers>(&mut self, by: &P)
-        requires { P.is_ready by.now }
+        requires workers { P.is_ready by.now }
+        requires written { AreWritten self.old }
         ensures config { self.new.config ≡ self.old.config }
-        ensures part { self.new.part ≡ self.old.part }
         ensures stored { self.new.stored ≡ self.old.stored }
         ensures repaired { AreItemsFor self.new.config self.new.stored self.new.items }
     {
+        if self.config.values().rescan {
+            return;
+        }
         repair(
             by,
             self.alloc,
@@ -210,9 +179,42 @@ impl Codeblocks {
     /// Keeps no codeblock any longer.
     pub fn clear(&mut self)
         ensures config { self.new.config ≡ self.old.config }
-        ensures part { self.new.part ≡ self.old.part }
         ensures stored { self.new.stored ≡ [] }
+        ensures written { AreWritten self.new }
     {
         self.count = 0;
+    }
+}
+
+/// How many bits may wait at most where a batch lacks so many codeblocks: as many as these have at least with their
+/// markers, and none where one worker decodes.
+pub fn waiting_bits(config: &Config, count: u64) -> u64
+    requires some { 0 < count }
+    requires most { count ≤ most_batch }
+    ensures value { result ≡ waiting_bits config.now count }
+    ensures most { result ≤ most_batch * (marker_size + 8 * longest_codeblock) }
+{
+    if config.workers() > 1 {
+        least_bits(config, count)
+    } else {
+        0
+    }
+}
+
+// How many bits so many codeblocks have at least with their markers: two may lie nearly in the room of one, where they
+// are looked for inside others.
+fn least_bits(config: &Config, count: u64) -> u64
+    requires some { 0 < count }
+    requires most { count ≤ most_batch }
+    ensures value { result ≡ least_bits config.now count }
+    ensures most { result ≤ most_batch * (marker_size + 8 * longest_codeblock) }
+{
+    let unit = 32 + 8 * codeblock_size(config) as u64;
+    match columns_of(config) {
+        None => count * unit,
+        Some(columns) => {
+            let reach = u64::from(columns.stride * columns.strength);
+            unit + (count - 1) / 2 * (unit - reach + 1)
+        }
     }
 }

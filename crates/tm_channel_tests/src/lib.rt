@@ -11,4 +11,6 @@ mod receiving;
 #[cfg(test)]
 mod sync;
 #[cfg(test)]
+mod waiting;
+#[cfg(test)]
 mod windows;

@@ -1,4 +1,4 @@
-use Rattle.tm_channel.proofs.DisturbedOctets.{accepted, phase-given, inner-bits, units-sent, places-are, column-wrong, units-near}
+use Rattle.tm_channel.proofs.DisturbedOctets.{accepted, phase-given, inner-bits, units-sent, places-are, column-wrong, units-near, first-sound}
 use Rattle.tm_channel.proofs.laws.disturbed_octets_law.Goals as goal
 
 pub returns-clause-accepted : goal.returns-clause-accepted
@@ -21,3 +21,6 @@ returns-clause-wrong c = column-wrong
 
 pub returns-clause-near : goal.returns-clause-near
 returns-clause-near c = units-near
+
+pub returns-clause-sound : goal.returns-clause-sound
+returns-clause-sound c = first-sound

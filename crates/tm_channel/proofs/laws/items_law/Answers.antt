@@ -1,6 +1,7 @@
 use Rattle.tm_channel.proofs.DroppedItems.{received-dropped}
 use Rattle.tm_channel.proofs.HasItems.{has-items}
 use Rattle.tm_channel.proofs.ReceivedOctets.{received-only}
+use Rattle.tm_channel.proofs.WholeFrames.{received-whole}
 use Rattle.tm_channel.proofs.laws.items_law.Goals as goal
 
 pub returns-clause-exists : goal.returns-clause-exists
@@ -11,3 +12,6 @@ returns-clause-one c = received-only c.inner_law.ensures.one
 
 pub returns-clause-passed : goal.returns-clause-passed
 returns-clause-passed c = received-dropped
+
+pub returns-clause-whole : goal.returns-clause-whole
+returns-clause-whole c = received-whole

@@ -2,7 +2,7 @@ use Rattle.std.proofs.Common.{◌++◌, ◌+◌, ◌∙◌, List, ℕ, take, dro
 use Rattle.std.proofs.lemmas.List.{take_all}
 use Rattle.tm_channel.specs.OctetReceiving.{Received, ReceivedPart}
 use Rattle.tm_channel.proofs.ReceivedPieces.{part-all, part-then, received-none, received-then}
-use Rattle.tm_channel.proofs.Stepping.{all-ones, next-ones, next_octets, ones}
+use Rattle.tm_channel.proofs.Ones.{all-ones, next-ones, next_octets, ones}
 use Rattle.tm_channel.proofs.packed.take_bits.Goals as goal
 
 pub loop-done-init : goal.loop-done-init

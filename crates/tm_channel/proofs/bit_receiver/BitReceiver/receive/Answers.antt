@@ -1,95 +1,161 @@
-use Rattle.std.proofs.Common.{◌+◌, ◌∙◌, length, arith, ap, refl, subst}
-use Rattle.tm_config.specs.Configuration.{Configuration}
+use Rattle.std.proofs.Common.{◌≡◌, ◌+◌, ◌-◌, ◌*◌, ◌/◌, ◌%◌, ◌<◌, ◌≤◌, ℕ, Bool, List, ◌∙◌, drop, take, length, arith, ap, refl, subst, length-take-le, length-drop}
+use Rattle.tm_base.specs.Bits.{bits_of}
+use Rattle.tm_sync.specs.Finding.{Recent}
 use Rattle.tm_channel.specs.OctetReceiving.{BitReceiving, Received, ReceivedPart}
 use Rattle.tm_channel.specs.Receiving.{bits_between}
 use Rattle.tm_channel.specs.declared.bit_receiver.BitReceiver.{BitReceiver}
-use Rattle.tm_channel.proofs.Between.{between-all, between-joined, between-none, between-rest}
+use Rattle.tm_channel.proofs.Between.{between-all, between-joined, between-none, between-octets, between-rest}
+use Rattle.tm_channel.proofs.Holding.{agree-more, holds-more}
 use Rattle.tm_channel.proofs.ReceivedPieces.{part-all, part-pushed, part-then, received-none, received-pushed, received-then}
 use Rattle.tm_channel.proofs.bit_receiver.BitReceiver.receive.Goals as goal
 
 -- what contracts see of it
 abbrev receiving : BitReceiver → BitReceiving
-receiving r = record { search = r.search; room = r.room.items; batch = r.batch }
+receiving r = record { finder = r.finder; recent = r.recent; batch = r.batch }
 
-pub loop-at-init : goal.loop-at-init
-loop-at-init g c =
-    let start = receiving c.args.self.now in record {
-      first = omega arith;
-      within = c.requires.from;
+-- the bits of whole octets after the first ones
+abbrev piece_of : ℕ → ℕ → ℕ → List ℕ → List Bool
+piece_of first count begun octets = drop begun (bits_of (take ((first + count) - first) (drop first octets)))
+
+-- there is room for some octets
+room-left : (size bits settled : ℕ) → bits < settled → settled + 14 ≤ 8 * size → 0 < size - (bits + 14) / 8
+room-left size bits settled short sized = omega (arith, short, sized)
+
+pub loop-first-init : goal.loop-first-init
+loop-first-init g c =
+    let start = receiving c.args.self.now in
+    let from : c.args.from ≡ 8 * (c.args.from / 8) + c.args.from % 8 = omega arith in record {
+      first = omega (arith, from);
+      begun = omega arith;
+      within = omega (arith, from, c.requires.from);
       ready = c.requires.ready;
       faults = refl;
-      received = subst (Received g.T.ItemTaker.took start start c.args.taker.now c.args.taker.now)
+      received = subst (λ to. Received g.T.ItemTaker.took start start c.args.taker.now c.args.taker.now
+          (bits_between c.args.from to c.args.octets.now)) from
+          (subst (Received g.T.ItemTaker.took start start c.args.taker.now c.args.taker.now)
           (between-none c.args.from c.args.octets.now)
-          (received-none g.T.ItemTaker.took start c.args.taker.now);
+          (received-none g.T.ItemTaker.took start c.args.taker.now));
     }
 
-pub keep_all-requires-clause-few : goal.keep_all-requires-clause-few
-keep_all-requires-clause-few g c =
-    let ready = c.loop-at.invariant.ready in
+pub push-requires-clause-from : goal.push-requires-clause-from
+push-requires-clause-from g c =
+    let i = c.loop-first.invariant in
+    let some = room-left c.loop-first.self.recent.size (length c.loop-first.self.recent.bits) _ i.ready.short
+    i.ready.agree.sized in
     omega (
       arith,
-      ready.few,
-      ap length c.push-at.ensures.stored,
-      ap (λ (k : Configuration). k.batch) c.push-at.ensures.config,
+      some,
+      c.free.ensures,
+      c.min.ensures,
+      c.loop-first-test.true,
+      i.begun,
+      length-take-le ((c.loop-first.first + c.min.result) - c.loop-first.first)
+          (drop c.loop-first.first c.args.octets.now)
+          (omega (arith, c.min.ensures, length-drop c.loop-first.first c.args.octets.now)),
     )
 
-pub loop-at-preserved : goal.loop-at-preserved
-loop-at-preserved g c =
-    let i = c.loop-at.invariant in
+pub push-requires-clause-room : goal.push-requires-clause-room
+push-requires-clause-room g c =
+    omega (
+      arith,
+      c.free.ensures,
+      c.min.ensures,
+      length-take-le ((c.loop-first.first + c.min.result) - c.loop-first.first)
+          (drop c.loop-first.first c.args.octets.now)
+          (omega (arith, c.min.ensures, length-drop c.loop-first.first c.args.octets.now)),
+    )
+
+pub keep_all-requires-clause-agree : goal.keep_all-requires-clause-agree
+keep_all-requires-clause-agree g c =
+    let r = c.loop-first.self in
+    agree-more r.finder r.recent c.push.new.self r.batch
+    (piece_of c.loop-first.first c.min.result c.loop-first.begun c.args.octets.now)
+    (ap (λ (l : Recent). l.size) c.push.ensures) (ap (λ (l : Recent). l.bits) c.push.ensures)
+    c.loop-first.invariant.ready.agree
+
+pub loop-first-preserved : goal.loop-first-preserved
+loop-first-preserved g c =
+    let i = c.loop-first.invariant in
     let octets = c.args.octets.now in
-    let at = c.loop-at.at in
-    let to = at + c.push-at.result in
+    let first = c.loop-first.first in
+    let begun = c.loop-first.begun in
+    let end = first + c.min.result in
     let took = g.T.ItemTaker.took in
     let start = receiving c.args.self.now in
-    let before = receiving c.loop-at.self in
-    let middle = receiving c.push-at.new.self in
+    let before = receiving c.loop-first.self in
+    let middle : BitReceiving = record { finder = before.finder; recent = c.push.new.self; batch = before.batch } in
     let now = receiving c.keep_all.new.self in
     let some = c.in-Ok.ensures.all in
-    let first = i.first in
-    let pushed = received-pushed took before middle now c.loop-at.taker c.keep_all.new.taker
-    (bits_between at to octets) some.0
-    c.push-at.ensures.config c.push-at.ensures.holds c.keep_all.ensures.config some.2 some.1 in record {
-      first = omega (arith, first);
-      within = c.push-at.ensures.within;
+    let room = room-left before.recent.size (length before.recent.bits) _ i.ready.short i.ready.agree.sized in
+    let rises : 0 < c.min.result = omega (arith, room, c.free.ensures, c.min.ensures, c.loop-first-test.true) in
+    let from = i.first in
+    let odd = i.begun in
+    let pushed = received-pushed took before middle now c.loop-first.taker c.keep_all.new.taker
+    (piece_of first c.min.result begun octets) some.0 refl
+    (λ handed bits few h. holds-more before.finder before.recent c.push.new.self before.batch
+    (piece_of first c.min.result begun octets) (ap (λ (l : Recent). l.bits) c.push.ensures) handed bits h)
+    c.keep_all.ensures.config some.2 some.1 in record {
+      first = omega (arith, from, odd, rises);
+      begun = omega arith;
+      within = omega (arith, c.min.ensures, c.loop-first-test.true);
       ready = c.keep_all.ensures.ready;
       faults = c.in-Ok.ensures.cause.same ∙ i.faults;
       received = subst (Received took start now c.args.taker.now c.keep_all.new.taker)
-          (between-joined c.args.from at to octets first (omega arith))
-          (received-then took start before now c.args.taker.now c.loop-at.taker c.keep_all.new.taker
-          (bits_between c.args.from at octets)
-          (bits_between at to octets) i.received pushed);
+          (between-joined c.args.from (8 * first + begun) (8 * end + 0) octets from (omega (arith, odd, rises)))
+          (received-then took start before now c.args.taker.now c.loop-first.taker c.keep_all.new.taker
+          (bits_between c.args.from (8 * first + begun) octets) (bits_between (8 * first + begun) (8 * end + 0) octets)
+          i.received
+          (subst (Received took before now c.loop-first.taker c.keep_all.new.taker)
+          (between-octets first end begun octets (omega arith) (omega (arith, odd, rises))) pushed));
     }
+
+pub loop-first-smaller : goal.loop-first-smaller
+loop-first-smaller g c =
+    let i = c.loop-first.invariant in
+    let r = c.loop-first.self in
+    let room = room-left r.recent.size (length r.recent.bits) _ i.ready.short i.ready.agree.sized in
+    omega (arith, room, c.free.ensures, c.min.ensures, c.loop-first-test.true)
 
 pub returns-in-Err-clause-part : goal.returns-in-Err-clause-part
 returns-in-Err-clause-part g c =
-    let i = c.loop-at.invariant in
+    let i = c.loop-first.invariant in
     let octets = c.args.octets.now in
-    let at = c.loop-at.at in
-    let to = at + c.push-at.result in
+    let first = c.loop-first.first in
+    let begun = c.loop-first.begun in
+    let end = first + c.min.result in
     let took = g.T.ItemTaker.took in
     let broke = g.T.ItemTaker.broke in
     let start = receiving c.args.self.now in
-    let before = receiving c.loop-at.self in
-    let middle = receiving c.push-at.new.self in
+    let before = receiving c.loop-first.self in
+    let middle : BitReceiving = record { finder = before.finder; recent = c.push.new.self; batch = before.batch } in
     let now = receiving c.keep_all.new.self in
     let some = c.in-Err.ensures.broke in
-    let first = i.first in
-    let pushed = part-pushed took broke before middle now c.loop-at.taker c.keep_all.new.taker
-    (bits_between at to octets) some.0
-    c.push-at.ensures.config c.push-at.ensures.holds c.keep_all.ensures.config some.2 some.1 in
+    let room = room-left before.recent.size (length before.recent.bits) _ i.ready.short i.ready.agree.sized in
+    let rises : 0 < c.min.result = omega (arith, room, c.free.ensures, c.min.ensures, c.loop-first-test.true) in
+    let from = i.first in
+    let odd = i.begun in
+    let pushed = part-pushed took broke before middle now c.loop-first.taker c.keep_all.new.taker
+    (piece_of first c.min.result begun octets) some.0 refl
+    (λ handed bits few h. holds-more before.finder before.recent c.push.new.self before.batch
+    (piece_of first c.min.result begun octets) (ap (λ (l : Recent). l.bits) c.push.ensures) handed bits h)
+    c.keep_all.ensures.config some.2 some.1 in
     let part = subst (ReceivedPart took broke start now c.args.taker.now c.keep_all.new.taker)
-    (between-joined c.args.from at to octets first (omega arith))
-    (part-then took broke start before now c.args.taker.now c.loop-at.taker c.keep_all.new.taker
-    (bits_between c.args.from at octets)
-    (bits_between at to octets) i.received pushed) in
+    (between-joined c.args.from (8 * first + begun) (8 * end + 0) octets from (omega (arith, odd, rises)))
+    (part-then took broke start before now c.args.taker.now c.loop-first.taker c.keep_all.new.taker
+    (bits_between c.args.from (8 * first + begun) octets) (bits_between (8 * first + begun) (8 * end + 0) octets)
+    i.received
+    (subst (ReceivedPart took broke before now c.loop-first.taker c.keep_all.new.taker)
+    (between-octets first end begun octets (omega arith) (omega (arith, odd, rises))) pushed)) in
     subst (ReceivedPart took broke start now c.args.taker.now c.keep_all.new.taker)
-    (between-rest c.args.from to octets (omega (arith, first)))
-    (part-all took broke start now c.args.taker.now c.keep_all.new.taker (bits_between c.args.from to octets) _ part)
+    (between-rest c.args.from (8 * end + 0) octets (omega (arith, from, odd, rises)))
+    (part-all took broke start now c.args.taker.now c.keep_all.new.taker (bits_between c.args.from (8 * end + 0) octets)
+    _ part)
 
 pub returns-clause-handed : goal.returns-clause-handed
 returns-clause-handed g c =
     let start = receiving c.args.self.now in
-    let now = receiving c.loop-at.self in
-    subst (Received g.T.ItemTaker.took start now c.args.taker.now c.loop-at.taker)
-    (between-all c.args.from c.loop-at.at c.args.octets.now (omega (arith, c.loop-at-test.false)))
-    c.loop-at.invariant.received
+    let now = receiving c.loop-first.self in
+    subst (Received g.T.ItemTaker.took start now c.args.taker.now c.loop-first.taker)
+    (between-all c.args.from (8 * c.loop-first.first + c.loop-first.begun) c.args.octets.now
+    (omega (arith, c.loop-first-test.false)))
+    c.loop-first.invariant.received

@@ -1,6 +1,5 @@
 use Rattle.std.proofs.Common.{sym, subst, Result, Ok, Err, OnOk, OnErr}
 use Rattle.tm_base.specs.declared.outside.Failed.{Failed}
-use Rattle.tm_sync.specs.Searching.{SearchStandsFor}
 use Rattle.tm_channel.specs.OctetReceiving.{BitReceiving, ReceivedLast, ReceivedLastPart}
 use Rattle.tm_channel.proofs.Streaming.{items-last, first-last}
 use Rattle.tm_channel.proofs.bit_stream.BitStream.hand_last.Goals as goal
@@ -9,7 +8,7 @@ use Rattle.tm_channel.proofs.bit_stream.BitStream.hand_last.Goals.{in-Ok, in-Err
 pub returns-clause-handed : goal.returns-clause-handed
 returns-clause-handed g c =
     let r = c.self.inside.receiver in
-    let before : BitReceiving = record { search = r.search; room = r.room.items; batch = r.batch } in
+    let before : BitReceiving = record { finder = r.finder; recent = r.recent; batch = r.batch } in
     let b = r.batch in
     let Said : BitReceiving → Result (Unit {0}) Failed → Type 0 =
     λ s result. OnOk result (ReceivedLast g.T.ItemTaker.took s c.args.taker.now c.hand_all.new.taker) in
@@ -20,8 +19,7 @@ returns-clause-handed g c =
           let said : Said before (Ok tt) = record {
             items = some.0;
             handed = some.2;
-            last = λ bits h. items-last b.config (SearchStandsFor r.search r.room.items) b.part
-                b.stored bits some.0 h some.1;
+            last = λ bits h. items-last b.config r.finder r.recent.bits b.stored bits some.0 h some.1;
           } in
           subst (Said before) (sym w.result-is) said
           )
@@ -31,7 +29,7 @@ returns-clause-handed g c =
 pub returns-clause-part : goal.returns-clause-part
 returns-clause-part g c =
     let r = c.self.inside.receiver in
-    let before : BitReceiving = record { search = r.search; room = r.room.items; batch = r.batch } in
+    let before : BitReceiving = record { finder = r.finder; recent = r.recent; batch = r.batch } in
     let b = r.batch in
     let Said : BitReceiving → Result (Unit {0}) Failed → Type 0 =
     λ s result. OnErr result
@@ -45,8 +43,7 @@ returns-clause-part g c =
             tried = some.1;
             handed = some.3;
             first =
-                λ bits h. first-last b.config
-                (SearchStandsFor r.search r.room.items) b.part b.stored bits some.0 some.1 h some.2;
+                λ bits h. first-last b.config r.finder r.recent.bits b.stored bits some.0 some.1 h some.2;
           } in
           subst (Said before) (sym w.result-is) said
           )
