@@ -32,13 +32,14 @@ use Rattle.tm_channel.specs.Receive.{Receive}
 use Rattle.tm_channel.specs.SentStream.{SentUnit, AreRepaired, AreWithin, AreAsSent, AreNear, sent_columns, unit_codeblock, unit_places, clean_answers, clean_items, found_frames}
 use Rattle.tm_channel.proofs.ReceivedOctets.{SentItems, SentFrames}
 use Rattle.tm_channel.proofs.SentPhase.{sent-skip}
+use Rattle.tm_channel.proofs.SoundItems.{FoundItems}
 use Rattle.tm_driver.specs.Meaning.{Ends, WroteOutput, taken_by}
 use Rattle.tm_driver.specs.Statuses.{status_of}
 use Rattle.tm_driver.specs.declared.ending.Ending.{Ending}
 use Rattle.tm_driver.specs.declared.ending.Ending.TheVariants.{Done, Bad, BadWindow, LeftOver, SourceFault, SinkFault, PastLimit}
 use Rattle.tm_cli.specs.Decode.{HasBad, decode_meaning}
 use Rattle.tm_cli.specs.Report.{bad, report_text}
-use Rattle.tm_cli.specs.Link.{KeepsCleanLink, KeepsDisturbedLink, KeepsComplementedInput, KeepsComplementedSymbols}
+use Rattle.tm_cli.specs.Link.{KeepsCleanLink, KeepsDisturbedLink, KeepsComplementedInput, KeepsComplementedSymbols, KeepsFound}
 
 -- octets come to one list of bits, of blocks and of items
 abbrev OneBits : Type 0
@@ -304,6 +305,19 @@ came-free one_phase one e status c octets taken taken_now noted noted_now ok sai
     came one_phase one e status c octets (sent_phase c) taken taken_now noted noted_now ok said ends read
     (subst (λ (o : Option Chosen). IsChosen c octets o) (known r.chosen r.choice) r.choice)
 
+-- what the octets come to is that of any bits and blocks that they have
+notes-are : OneBits → OneBlocks → (status : ℕ) (c : Configuration) (octets : List ℕ) (chosen : Option Chosen)
+    (taken taken_now noted noted_now : Option (List ℕ)) → (r : Came status c octets chosen taken taken_now noted noted_now)
+    → (bits : List Bool) (inner : Inner c (skip_of chosen) octets bits)
+    → Wrote noted noted_now (report_text (with_phase chosen r.items) (totals_of c bits inner.blocks))
+notes-are one_bits one_blocks status c octets chosen taken taken_now noted noted_now r bits inner =
+    let same : r.bits ≡ bits = one_bits c (skip_of chosen) octets r.bits bits r.inner inner in
+    let all : r.inner.blocks ≡ inner.blocks =
+    one_blocks c (skip_of chosen) octets r.inner.blocks inner.blocks r.inner.left inner.left r.inner.are_blocks
+    inner.are_blocks in
+    subst (λ (t : Totals). Wrote noted noted_now (report_text (with_phase chosen r.items) t))
+    (r.counted ∙ (λ i. totals_of c (same i) (all i))) r.notes
+
 -- ---- links
 
 pub keeps-clean : SentPhase → OnePhase → OneHanded → CleanTotals → CleanItems → CleanFrames
@@ -338,16 +352,11 @@ pub keeps-disturbed : OnePhase → OneHanded → OneBits → OneBlocks → SentI
 keeps-disturbed one_phase one one_bits one_blocks sent_items sent_frames e status c octets taken taken_now noted
     noted_now ok said ends read = λ bits units last chosen choice inner is.
     let r = came one_phase one e status c octets chosen taken taken_now noted noted_now ok said ends read choice in
-    let as_sent = sent_items c (skip_of chosen) octets bits units last r.items ok inner is r.receive in
-    let same : r.bits ≡ bits = one_bits c (skip_of chosen) octets r.bits bits r.inner inner in
-    let all : r.inner.blocks ≡ inner.blocks =
-    one_blocks c (skip_of chosen) octets r.inner.blocks inner.blocks r.inner.left inner.left r.inner.are_blocks
-    inner.are_blocks in (
+    let as_sent = sent_items c (skip_of chosen) octets bits units last r.items ok inner is r.receive in (
       r.items,
       as_sent,
       r.out,
-      subst (λ (t : Totals). Wrote noted noted_now (report_text (with_phase chosen r.items) t))
-          (r.counted ∙ (λ i. totals_of c (same i) (all i))) r.notes,
+      notes-are one_bits one_blocks status c octets chosen taken taken_now noted noted_now r bits inner,
       λ near. (
         r.good (near-good c (unit_places c units) units r.items as_sent near),
         subst (Wrote taken taken_now) (sent_frames c (skip_of chosen) octets bits units last r.items ok inner is
@@ -403,4 +412,19 @@ keeps-complemented_symbols complemented_phases one_phase one totals_of_both fram
       r.good (ap bad items ∙ bad-complemented clean ∙ clean-good c 0 sent_frames),
       subst (Wrote taken taken_now) (ap frames_of items ∙ frames-complemented clean ∙ frames c 0 sent_frames) r.out,
       subst (Wrote noted noted_now) (λ i. report_text (with_phase (sent_phase c) (items i)) (count i)) r.notes,
+    )
+
+pub keeps-found : OnePhase → OneHanded → OneBits → OneBlocks → FoundItems
+    → (e : Ending) (status : ℕ) (c : Configuration) (octets : List ℕ)
+    (taken taken_now noted noted_now : Option (List ℕ))
+    → IsAccepted c → status ≡ status_of e → Ends e (decode_meaning c) c.limit octets
+    (taken_by taken taken_now noted noted_now) → (status ≡ 0) ⊎ (status ≡ 1)
+    → KeepsFound c octets taken taken_now noted noted_now
+keeps-found one_phase one one_bits one_blocks found e status c octets taken taken_now noted noted_now ok said ends
+    read = λ bits chosen on alone choice inner.
+    let r = came one_phase one e status c octets chosen taken taken_now noted noted_now ok said ends read choice in (
+      r.items,
+      r.out,
+      notes-are one_bits one_blocks status c octets chosen taken taken_now noted noted_now r bits inner,
+      λ at inverted is. found c (skip_of chosen) octets bits r.items at inverted on alone inner r.receive is,
     )

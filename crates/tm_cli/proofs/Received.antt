@@ -15,9 +15,8 @@ use Rattle.tm_inner.proofs.GivenPieces.{few-soft}
 use Rattle.tm_inner.proofs.HandedPieces.{needed-some}
 use Rattle.tm_inner.proofs.PhasePieces.{items_of-with_phase}
 use Rattle.tm_sync.specs.declared.found.Found.{Found}
-use Rattle.tm_sync.specs.Places.{places}
-use Rattle.tm_sync.proofs.Longer.{places-count}
-use Rattle.tm_codeblock.specs.ReceivedCodeblock.{rules_of}
+use Rattle.tm_channel.proofs.Apart.{places_in-count}
+use Rattle.tm_codeblock.specs.ReceivedCodeblock.{places_in}
 use Rattle.tm_channel.specs.Due.{due_count, due}
 use Rattle.tm_channel.specs.Items.{ItemValue, AreItemsOf, AreFirstItemsOf}
 use Rattle.tm_channel.specs.Receive.{ReceiveDue, ReceiveFirst, ReceivePrefix}
@@ -59,8 +58,8 @@ all-count c bits (f ∷ fs) (item ∷ items) are = omega (arith, all-count c bit
 few-places : (c : Configuration) (octets : List ℕ) (bits : List Bool) → length bits ≤ 8 * length octets
     → length (due c bits) ≤ 8 * length octets
 few-places c octets bits few =
-    let fs = places (rules_of c) bits in
-    omega (arith, length-take (due_count c bits) fs, places-count (rules_of c) bits, few)
+    let fs = places_in c bits in
+    omega (arith, length-take (due_count c bits) fs, places_in-count c bits, few)
 
 few-due : (c : Configuration) (octets : List ℕ) (phase : ℕ) (items : List ItemValue) → ReceiveDue c phase octets items
     → length items ≤ 8 * length octets
@@ -76,8 +75,8 @@ few-first c octets phase items r =
     let bits = inner_bits c octets r.blocks in
     omega (
       arith,
-      first-count c bits (places (rules_of c) bits) items r.are_items,
-      places-count (rules_of c) bits,
+      first-count c bits (places_in c bits) items r.are_items,
+      places_in-count c bits,
       first-few c phase octets r.blocks r.are_first,
     )
 
@@ -91,8 +90,8 @@ few-prefix : (c : Configuration) (octets : List ℕ) (phase : ℕ) (items : List
 few-prefix c octets phase items r =
     omega (
       arith,
-      first-count c r.bits (places (rules_of c) r.bits) items r.are_items,
-      places-count (rules_of c) r.bits,
+      first-count c r.bits (places_in c r.bits) items r.are_items,
+      places_in-count c r.bits,
       few-bits c octets phase r.bits r.inner,
     )
 
@@ -101,8 +100,8 @@ few-all : (c : Configuration) (totals : Totals) (octets : List ℕ) (phase : ℕ
 few-all c totals octets phase items r =
     omega (
       arith,
-      all-count c r.0 (places (rules_of c) r.0) items r.3,
-      places-count (rules_of c) r.0,
+      all-count c r.0 (places_in c r.0) items r.3,
+      places_in-count c r.0,
       few-bits c octets phase r.0 r.1,
     )
 

@@ -1,5 +1,5 @@
 -- What `decode` makes of octets in which transfer frames were sent.
-use Rattle.std.specs.Prelude.{◌≡◌, ℕ, ◌*◌, Bool, List, length, map, Option, Some, None}
+use Rattle.std.specs.Prelude.{◌≡◌, ℕ, ◌*◌, Bool, true, List, length, map, Option, Some, None}
 use Rattle.std.specs.List.{concat}
 use Rattle.tm_base.specs.Bits.{AreOctets}
 use Rattle.tm_base.specs.Written.{Wrote}
@@ -16,6 +16,7 @@ use Rattle.tm_viterbi.specs.Clean.{complemented_octets}
 use Rattle.tm_channel.specs.Handing.{clean_totals, totals_of}
 use Rattle.tm_channel.specs.Items.{ItemValue, AreItems, frames_of, complemented_item}
 use Rattle.tm_channel.specs.SentStream.{SentUnit, IsSent, AreAsSent, AreNear, unit_frames, unit_places, clean_items, found_frames}
+use Rattle.tm_channel.specs.SoundCodeblocks.{IsFoundAt, IsSoundAt}
 use Rattle.tm_cli.specs.Report.{report_text}
 
 -- Octets that `encode` sends for an input come back as its whole frames, where nothing was
@@ -78,3 +79,17 @@ KeepsComplementedSymbols status c octets taken taken_now noted noted_now =
     (with_phase (sent_phase c) (map complemented_item
     (clean_items c 0 (found_frames c (whole_frames c.frame_length input)))))
     (clean_totals c (8 * length (cadus c input))))
+
+-- Where codeblocks are looked for inside others too, and no further markers are to verify one, the
+-- output is the frames, and the notes are the report, of items among which each whole codeblock has
+-- its own that is correctable and follows a marker, whatever comes before; but where that marker
+-- stands inside another correctable one, and not at its end.
+abbrev pub KeepsFound : Configuration → List ℕ → (taken taken_now noted noted_now : Option (List ℕ))
+    → Type 0
+KeepsFound c octets taken taken_now noted noted_now =
+    (bits : List Bool) (chosen : Option Chosen) → c.rescan ≡ true → c.verify ≡ 0
+    → IsChosen c octets chosen → (inner : Inner c (skip_of chosen) octets bits)
+    → (items : List ItemValue)
+    × Wrote taken taken_now (frames_of items)
+    × Wrote noted noted_now (report_text (with_phase chosen items) (totals_of c bits inner.blocks))
+    × ((at : ℕ) (inverted : Bool) → IsSoundAt c bits at inverted → IsFoundAt c bits at inverted items)

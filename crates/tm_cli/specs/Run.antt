@@ -13,7 +13,7 @@ use Rattle.tm_path_commands.specs.Shown.{ShowsLeast, PassesCertified}
 use Rattle.tm_cli.specs.Commands.{Command, meaning_of, reads}
 use Rattle.tm_cli.specs.Commands.Command.{Encode, Decode, Check}
 use Rattle.tm_cli.specs.Lines.{refusal_text}
-use Rattle.tm_cli.specs.Link.{KeepsCleanLink, KeepsDisturbedLink, KeepsComplementedInput, KeepsComplementedSymbols}
+use Rattle.tm_cli.specs.Link.{KeepsCleanLink, KeepsDisturbedLink, KeepsComplementedInput, KeepsComplementedSymbols, KeepsFound}
 use Rattle.tm_cli.specs.Refusal.{reason_of, refusal_of}
 use Rattle.tm_cli.specs.declared.refusal.Refusal.{Refusal}
 
@@ -97,6 +97,9 @@ pub record Answers (status : ℕ) (command : Command) (c : Configuration) (call 
   pub complemented_symbols : command ≡ Decode → (status ≡ 0) ⊎ (status ≡ 1)
       → KeepsComplementedSymbols status c octets call.out.taken call.out_now.taken call.notes.taken
       call.notes_now.taken
+  -- and where codeblocks are looked for inside others, each that is correctable is found
+  pub found : command ≡ Decode → (status ≡ 0) ⊎ (status ≡ 1)
+      → KeepsFound c octets call.out.taken call.out_now.taken call.notes.taken call.notes_now.taken
   -- where `check` answers 0, the paths of the certificate cost the least; what `certify` writes
   -- passes
   pub shown : command ≡ Check → status ≡ 0 → ShowsLeast c octets call.out.taken call.out_now.taken

@@ -13,6 +13,10 @@ fn laws(_rt: HostRuntime) {
     tm_sync::longer_law();
     tm_sync::few_places_law();
     tm_sync::no_verify_law();
+    tm_sync::rescan_law();
+    tm_sync::found_law();
+    tm_sync::marked_inside_law();
+    tm_sync::difference_law();
     tm_viterbi::one_list_law();
     tm_viterbi::due_law();
     tm_viterbi::closed_windows_law();
@@ -30,5 +34,7 @@ fn laws(_rt: HostRuntime) {
     tm_channel::received_law();
     tm_channel::clean_law();
     tm_channel::disturbed_law();
+    tm_channel::disturbed_octets_law();
+    tm_channel::found_law();
     tm_channel::polarity_law();
 }

@@ -1,4 +1,4 @@
-use Rattle.tm_cli.proofs.Links.{keeps-clean, keeps-disturbed, keeps-complemented_input, keeps-complemented_symbols}
+use Rattle.tm_cli.proofs.Links.{keeps-clean, keeps-disturbed, keeps-complemented_input, keeps-complemented_symbols, keeps-found}
 use Rattle.tm_cli.proofs.link.link_law.Goals as goal
 
 pub returns-clause-clean : goal.returns-clause-clean
@@ -20,3 +20,8 @@ pub returns-clause-complemented_symbols : goal.returns-clause-complemented_symbo
 returns-clause-complemented_symbols c =
     keeps-complemented_symbols c.polarity_law.ensures.phase c.phase_law.ensures.one c.received_law.ensures.one
     c.polarity_law.ensures.totals c.clean_law.ensures.frames c.polarity_law.ensures.half_rate
+
+pub returns-clause-found : goal.returns-clause-found
+returns-clause-found c =
+    keeps-found c.phase_law.ensures.one c.received_law.ensures.one c.inner_law.ensures.one
+    c.inner_law.ensures.blocks c.found_law.ensures.found

@@ -88,6 +88,9 @@ returns-in-Ok-clause-answered g c = λ job asked _.
       complemented_symbols =
           λ asks. c.link_law.ensures.complemented_symbols ending c.status.result config h.0 taken now noted noted_now
           read.2 is (decodes asks);
+      found =
+          λ asks. c.link_law.ensures.found ending c.status.result config h.0 taken now noted noted_now read.2 is
+          (decodes asks);
       shown =
           λ asks. c.certificate_law.ensures.shown ending c.status.result config h.0 taken now noted noted_now is
           (checks asks);
