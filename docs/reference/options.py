@@ -4,7 +4,7 @@ from inner import PATTERNS
 
 COMMANDS = "encode decode report trace bits certify check erased word soak".split()
 OPTIONS = """code depth length inner invert soft randomize basis limit tolerance fly polarity repair
-             start skip phase keep ahead workers batch pack verify bad""".split()
+             start skip phase keep ahead workers batch pack verify rescan bad""".split()
 SOAK_OPTIONS = "seed frames hits".split()
 
 class Refused(Exception):
@@ -76,6 +76,7 @@ def configuration(given):
     # Whether octets have eight bits, and are no symbols.
     c.packed = chosen(given, "pack", ("on", "off"), "on") == "on" and c.inner == "none"
     c.verify = number(given, "verify", 0, 7, 0)
+    c.rescan = chosen(given, "rescan", ("on", "off"), "off") == "on"
     c.pass_bad = chosen(given, "bad", ("drop", "pass"), "drop") == "pass"
     c.codeword = c.length // c.depth + 2 * c.E  # symbols of a codeword, as they are sent
     c.codeblock = c.codeword * c.depth          # octets of a codeblock
