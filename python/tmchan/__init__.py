@@ -14,7 +14,13 @@ from .link import Decoder, Item, Link, Phase, Received, Receiver, Sender, Totals
 from .reed_solomon import Decoded, randomize, rs_decode, rs_encode
 from .search import Found, find
 
-__version__ = _version()
+
+def __getattr__(name: str) -> str:
+    if name == "__version__":
+        return _version()
+    raise AttributeError(f"module {__name__!r} has no attribute {name!r}")
+
+
 __all__ = [
     "Closed",
     "Decoded",

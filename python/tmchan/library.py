@@ -1,7 +1,8 @@
 """libtmchan by ctypes. All that the package knows of include/tmchan.h stands here: structs, numbers, names and answers.
 
 The library is looked for in this order: the file that the environment's LIBTMCHAN names; libtmchan.so beside this file,
-as in a wheel; out/libtmchan.so of the clone that this file stands in; the loader's libtmchan.so.0.2.
+as in a wheel; out/libtmchan.so of the clone, or lib/libtmchan.so of the folder, in whose python/ this file stands; the
+loader's libtmchan.so.0.2. It is loaded with the first call, so that what needs none needs no library.
 """
 import contextlib
 import ctypes
@@ -166,8 +167,8 @@ _CALLS = {
 
 def _load():
     here = os.path.dirname(os.path.abspath(__file__))
-    clone = os.path.dirname(os.path.dirname(here))
-    files = [os.path.join(here, "libtmchan.so"), os.path.join(clone, "out", "libtmchan.so")]
+    above = os.path.dirname(os.path.dirname(here))
+    files = [os.path.join(folder, "libtmchan.so") for folder in (here, f"{above}/out", f"{above}/lib")]
     named = os.environ.get("LIBTMCHAN") or next((it for it in files if os.path.exists(it)), NAME)
     try:
         loaded = ctypes.CDLL(named)
@@ -188,7 +189,17 @@ def _text(version):
     return f"{version >> 16}.{version >> 8 & 255}.{version & 255}"
 
 
-_LIBRARY = _load()
+class _Calls:
+    """The calls of the library."""
+
+    def __getattr__(self, name):
+        # (this is called where there is no such attribute yet)
+        loaded = _load()
+        self.__dict__.update({f"tmchan_{it}": getattr(loaded, f"tmchan_{it}") for it in _CALLS})
+        return self.__dict__[name]
+
+
+_LIBRARY = _Calls()
 
 
 def version():
