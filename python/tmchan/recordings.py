@@ -86,6 +86,11 @@ class Symbols:
         """The soft octets that are left. What is no whole element, and with swap no whole pair, is dropped."""
         return self._paired(self._octets.finish())
 
+    @property
+    def left(self) -> tuple[int, int]:
+        """How many octets wait for a whole element, and how many symbols for a whole pair."""
+        return len(self._unread), len(self._unpaired)
+
     def _paired(self, symbols: bytes) -> bytes:
         if not self._swap:
             return symbols
