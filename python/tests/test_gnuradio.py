@@ -5,7 +5,7 @@ import sys
 import warnings
 
 import pytest
-from links import TOP, frames, levels, tmchan
+from links import TOP, frames, levels, noise, tmchan
 
 numpy = pytest.importorskip("numpy")
 with warnings.catch_warnings():
@@ -80,6 +80,89 @@ def test_options_are_checked():
             make(depth=7)
         with pytest.raises(KeyError):
             make("float64") if make is gnuradio.receiver else make(output="float64")
+
+
+def test_without_an_inner_code():
+    link = tmchan.Link(length=100, inner="none")
+    packed = link.send(SENT)
+    bits = numpy.unpackbits(numpy.frombuffer(packed, numpy.uint8))
+    for source, options in (
+        (blocks.vector_source_f((bits * 2.0 - 1).tolist()), dict(input="float")),
+        (blocks.vector_source_b((bits * 255).tolist()), dict(input="u8")),
+        (blocks.vector_source_b(list(packed)), dict(input="u8", pack="on")),
+    ):
+        block = gnuradio.receiver(length=100, inner="none", **options)
+        came = run(source, block, messages=block)
+        assert [bytes(pmt.u8vector_elements(pmt.cdr(it))) for it in came] + [it.frame for it in block.rest] == SENT
+    for options in (dict(input="i8"), dict(input="u8", nrz_m=True), dict(input="u8", swap=True)):
+        with pytest.raises(ValueError, match="pack"):
+            gnuradio.receiver(inner="none", pack="on", **options)
+
+
+def numbers(floats, every, **options):
+    """What comes out of a receiver's two streams, and its PDUs."""
+    block, rate, lock, store = (
+        gnuradio.receiver(every=every, **options),
+        blocks.vector_sink_f(),
+        blocks.vector_sink_f(),
+        blocks.message_debug(),
+    )
+    graph = gr.top_block()
+    graph.connect(blocks.vector_source_f(floats.tolist()), block)
+    graph.connect((block, 0), rate)
+    graph.connect((block, 1), lock)
+    graph.msg_connect((block, "frames"), (store, "store"))
+    graph.run()
+    count = store.num_messages() + sum(it.good for it in block.rest)
+    return numpy.array(rate.data()), numpy.array(lock.data()), count
+
+
+@pytest.mark.parametrize("inner", ["1/2", "7/8", "none"])
+def test_rate_and_lock(inner):
+    """Frames, noise, frames: in lock over each, and out of it before and between."""
+    link = tmchan.Link(length=100, inner=inner, pack="off")
+    floats = levels(link.send(SENT), 8 if inner != "none" else 20)
+    # (of one in four codeblocks five symbols are wrong)
+    size = len(floats) // len(SENT)
+    if inner == "none":
+        for at in range(0, len(floats), 4 * size):
+            floats[at + 100 : at + 140 : 8] *= -1
+    gap = noise(30 * size, 3)
+    every = 500
+    options = dict(length=100, inner=inner, keep=512, ahead=64)
+    rate, lock, count = numbers(numpy.concatenate([gap, floats, gap, floats]), every, **options)
+    total = 2 * len(gap) + 2 * len(floats)
+    assert len(rate) == len(lock) == total // every and set(lock) == {0, 1} and count >= 2 * len(SENT) - 4
+    # How late it may be: by two codeblocks and a window.
+    late = 2 * size + 3 * 576 * 2
+    parts = {True: [], False: []}
+    begin = 0
+    for is_signal, length in ((False, len(gap)), (True, len(floats))) * 2:
+        parts[is_signal].append(lock[(begin + late) // every + 1 : (begin + length) // every])
+        begin += length
+    assert all((it == 1).all() and len(it) > 20 for it in parts[True])
+    assert all((it == 0).all() and len(it) > 20 for it in parts[False])
+    before = numpy.isnan(rate)
+    assert before[: len(gap) // every].all() and not before[(len(gap) + late) // every + 1 :].any()
+    if inner == "none":
+        assert set(numpy.round(rate[~before] * 132).astype(int)) == {0, 5}
+    # The same, however the stream is cut: a number says what was known when its symbols had come.
+    again = numbers(numpy.concatenate([gap, floats, gap, floats]), every, **options)
+    assert numpy.array_equal(again[0], rate, equal_nan=True) and numpy.array_equal(again[1], lock)
+
+
+def test_rate_of_uncorrectable_codewords():
+    floats = levels(tmchan.Link(length=100, inner="none", pack="off").send(SENT[:40]), 20)
+    size = len(floats) // 40
+    for at in range(20 * size, 30 * size, size):
+        floats[at + 200 : at + 800] *= -1
+    rate, lock, count = numbers(floats, size, length=100, inner="none")
+    assert count == 30 and (lock[1:] == 1).all() and len(lock) == 40
+    assert numpy.array_equal(numpy.round(rate[1:] * 132), [0] * 19 + [17] * 10 + [0] * 10)
+    rate, lock, count = numbers(floats, size, length=132, inner="none", code="none")
+    assert count == 40 and numpy.isnan(rate).all() and (lock[1:] == 1).all()
+    with pytest.raises(ValueError, match="every"):
+        gnuradio.receiver(every=-1)
 
 
 def environment():

@@ -50,5 +50,9 @@ class Reception:
         return found + self._receiver.finish()
 
     @property
+    def is_open(self) -> bool:
+        return self._receiver.is_open
+
+    @property
     def totals(self) -> Optional[Totals]:
         return self._receiver.totals

@@ -151,7 +151,7 @@ def _forms(recording: _Recording, form: Optional[str], places: list[float], say:
             names = ["unpacked"]
         else:
             names = ["u8", "i8", "packed", "packed-lsb"] + ["i16"] * (numpy is not None)
-    say("form: " + ", ".join(f"{it} ({FORMS[it].text})" for it in names))
+    say("form: " + (f"{names[0]} ({FORMS[names[0]].text})" if len(names) == 1 else f"one of {', '.join(names)}"))
     return [_Form(name, swap) for name in names for swap in (False, True)]
 
 
