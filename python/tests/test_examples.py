@@ -83,7 +83,6 @@ def test_find_options_prints_what_the_guide_says(tmp_path):
     (tmp_path / "out").mkdir()
     (tmp_path / "out" / "recording").write_bytes(noisy)
     guide = pathlib.Path(TOP, "docs", "GUIDE.md").read_text()
-    printed = guide.split("    $ examples/find-options out/recording\n")[1].split("\n\nIt tries")[0]
+    printed = guide.split("```text\n$ examples/find-options out/recording\n")[1].split("\n```")[0]
     status, written, said = run("find-options", "out/recording", folder=tmp_path)
-    lines = [line.rstrip() for line in written.decode().splitlines()]
-    assert (status, said) == (0, "") and lines == [line[4:] for line in printed.split("\n")]
+    assert (status, said, written.decode()) == (0, "", printed + "\n")
