@@ -77,6 +77,16 @@ def frames(count, size, seed=1):
     ]
 
 
+def coded(bits, is_inverted=True):
+    """The symbols of bits by the convolutional code at rate 1/2, the second ones inverted or not."""
+    register, symbols = [0] * 6, []
+    for bit in bits:
+        u = [bit, *register]
+        symbols += [u[0] ^ u[1] ^ u[2] ^ u[3] ^ u[6], u[0] ^ u[2] ^ u[3] ^ u[5] ^ u[6] ^ is_inverted]
+        register = u[:6]
+    return symbols
+
+
 def levels(symbols, decibels, seed=1):
     """Symbols as floats, -1 and 1 without noise, at so many decibels of Es/N0."""
     numpy = pytest.importorskip("numpy")
@@ -107,6 +117,7 @@ __all__ = [
     "PROGRAM",
     "TOP",
     "UNSET",
+    "coded",
     "frames",
     "levels",
     "lines_of",

@@ -248,30 +248,68 @@ def test_raw_forms(tmp_path):
     )
 
 
+def printed_lines(path, *words):
+    """The commands that tmchan-find prints, run in the recording's folder, and the frames of each."""
+    status, written, said = run("find", *words, str(path))
+    assert (status, said) == (0, ""), written
+    lines = [line.strip() for line in written.decode().split("receives it:")[1].splitlines()]
+    folder = path.parent
+    bin_folder = folder / "bin"
+    bin_folder.mkdir(exist_ok=True)
+    (bin_folder / "tmchan-receive").write_text(f"#!/bin/sh\nexec '{sys.executable}' -m tmchan receive \"$@\"\n")
+    (bin_folder / "tmchan-receive").chmod(0o755)
+    if PROGRAM and not (bin_folder / "tmchan").exists():
+        (bin_folder / "tmchan").symlink_to(PROGRAM)
+    environment = {**os.environ, "PYTHONPATH": os.pathsep.join(sys.path), "PATH": f"{bin_folder}:{os.environ['PATH']}"}
+    for command in lines:
+        if command.startswith("tmchan-receive ") or ("tmchan decode" in command and PROGRAM):
+            # (of bad codeblocks the status says so)
+            ran = subprocess.run(command, shell=True, cwd=folder, env=environment, stderr=subprocess.DEVNULL)
+            assert ran.returncode in (0, 1)
+            yield command, (folder / "frames").read_bytes()
+    assert any("tmchan decode" in it for it in lines)
+
+
 def test_find_prints_lines_that_work(tmp_path):
     pytest.importorskip("numpy")
     head = b"not symbols, but 31 octets more"
     floats = levels(LINK.send(SENT * 4), 4)
     path = tmp_path / "it's a pass"
     path.write_bytes(head + soft(floats).tobytes())
-    status, written, said = run("find", "--input", "u8", "--from", str(len(head)), str(path))
-    assert (status, said) == (0, "")
-    lines = [line.strip() for line in written.decode().splitlines()]
-    line = next(it for it in lines if it.startswith("tmchan-receive "))
-    bin_folder = tmp_path / "bin"
-    bin_folder.mkdir()
-    (bin_folder / "tmchan-receive").write_text(f"#!/bin/sh\nexec '{sys.executable}' -m tmchan receive \"$@\"\n")
-    (bin_folder / "tmchan-receive").chmod(0o755)
-    if PROGRAM:
-        (bin_folder / "tmchan").symlink_to(PROGRAM)
-    environment = {**os.environ, "PYTHONPATH": os.pathsep.join(sys.path), "PATH": f"{bin_folder}:{os.environ['PATH']}"}
-    for command in [line] + [it for it in lines if "tmchan decode" in it and PROGRAM]:
-        subprocess.run(command, shell=True, check=True, cwd=tmp_path, env=environment, stderr=subprocess.DEVNULL)
-        assert (tmp_path / "frames").read_bytes() == b"".join(SENT * 4)
-    assert any("tmchan decode" in it for it in lines)
+    came = list(printed_lines(path, "--input", "u8", "--from", str(len(head))))
+    assert [frames for _, frames in came] == [b"".join(SENT * 4)] * (1 + bool(PROGRAM))
     path.write_bytes(soft(noise(30_000)).tobytes())
     status, written, _ = run("find", "--places", "1", str(path))
     assert status == 1 and b"No options were found" in written
+
+
+@pytest.mark.long
+def test_find_prints_lines_that_work_for_hard_recordings(tmp_path):
+    """Noise before, between and behind, the second half inverted, and a symbol that is lost; from an offset."""
+    numpy = pytest.importorskip("numpy")
+    sent = frames(120, 200)
+    floats = levels(tmchan.Link(depth=2, length=200).send(sent), 3)
+    half = len(floats) // 2
+    given = numpy.concatenate([noise(150_000), floats[:half], noise(77_777, 4), numpy.delete(-floats[half:], 99_999)])
+    path = tmp_path / "pass"
+    path.write_bytes(b"head" + soft(given).tobytes())
+    count = 0
+    for command, written in printed_lines(path, "--from", "4"):
+        came = {written[at : at + 200] for at in range(0, len(written), 200)}
+        assert len(came & set(sent)) >= 110 and came <= set(sent)
+        if "tmchan decode" in command:
+            assert "--phase follow" in command and "--polarity find" in command and "tail -c +5 " in command
+        count += 1
+    assert count == 1 + bool(PROGRAM)
+
+
+def test_find_on_standard_input():
+    pytest.importorskip("numpy")
+    given = soft(levels(LINK.send(SENT * 2), 4)).tobytes()
+    for words, line in (([], "    tmchan decode "), (["--from", "7"], "    tail -c +8 | tmchan decode ")):
+        status, written, said = run("find", *words, "-", given=given)
+        assert (status, said) == (0, "") and " < " not in written.decode()
+        assert any(it.startswith(line) and it.endswith("> frames") for it in written.decode().splitlines())
 
 
 def test_receive_finds_what_is_not_given(tmp_path):

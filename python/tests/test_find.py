@@ -1,6 +1,6 @@
 """What is found of recordings, made anew for each condition, and whether the options that are found get the frames."""
 import pytest
-from links import frames, levels, noise, right, soft, tmchan
+from links import coded, frames, levels, noise, right, soft, tmchan
 
 numpy = pytest.importorskip("numpy")
 long = pytest.mark.long
@@ -139,6 +139,26 @@ def test_slips():
 
 
 @long
+def test_slips_between_the_places_that_are_looked_at():
+    """Two of them, so that the phase is the same before and after."""
+    sent = frames(120, 446)
+    floats = recording(HALF, sent, 4, lambda it: numpy.delete(it, [50_001, 105_000]))
+    found = check(soft(floats).tobytes(), sent, 117, "--input u8 --depth 2")
+    assert found.link.options["phase"] == "follow"
+
+
+@long
+def test_a_carrier_before_and_after():
+    """Its symbols are all of one kind, and the convolutional code has a path of these."""
+    carrier = noise(200_001) / 2 - 1
+    for head in (carrier, 0 * carrier - 1):
+        floats = recording(HALF, SENT, 3, lambda it: numpy.concatenate([head, it, head, head]))
+        found = check(soft(floats).tobytes(), SENT, 38, "--input u8 --depth 2")
+        assert found.link.options["phase"] == "follow"
+    assert "no inner code is seen" in tmchan.find(soft(carrier).tobytes(), places=2).reason
+
+
+@long
 def test_marks_of_change():
     """NRZ-M before the inner code."""
     bits, changed, last = tmchan.Link(depth=2, inner="none", pack="off").send(b"".join(SENT)), [], 0
@@ -147,16 +167,6 @@ def test_marks_of_change():
         changed.append(last)
     encoded = bytes(255 * it for it in coded(changed))
     check(soft(levels(encoded, 3)).tobytes(), SENT, 39, "--input u8 --nrz-m --depth 2")
-
-
-def coded(bits):
-    """The symbols of bits by the convolutional code at rate 1/2, the second ones inverted."""
-    register, symbols = [0] * 6, []
-    for bit in bits:
-        u = [bit, *register]
-        symbols += [u[0] ^ u[1] ^ u[2] ^ u[3] ^ u[6], u[0] ^ u[2] ^ u[3] ^ u[5] ^ u[6] ^ 1]
-        register = u[:6]
-    return symbols
 
 
 @pytest.mark.parametrize(
@@ -173,6 +183,25 @@ def test_too_noisy(options, decibels):
     )
     with pytest.raises(ValueError, match="too noisy"):
         list(found.receive(b""))
+
+
+@long
+@pytest.mark.parametrize("form", ["f32", "packed"])
+def test_too_noisy_without_an_inner_code(form):
+    """A codeword has 80 wrong symbols, and a marker one or two wrong bits."""
+    floats = recording(tmchan.Link(depth=5, inner="none", pack="off"), frames(40, 1115), 1.5, lambda it: it[1003:])
+    given = floats if form == "f32" else numpy.packbits(floats > 0)
+    found = tmchan.find(given.tobytes())
+    assert found.link is None and found.words() == []
+    assert "too noisy for its code" in found.reason and "of the bits are wrong" in found.reason
+
+
+@long
+def test_no_code_is_proposed_where_markers_alone_are_seen():
+    """At each noise at which markers stand at even distances, and no codeblock decodes."""
+    for decibels in (-4.5, -4, -3.5, -3, -2.5):
+        found = tmchan.find(soft(recording(tmchan.Link(depth=5), frames(60, 1115), decibels)).tobytes())
+        assert found.link is None and ("no sync markers" in found.reason or "too noisy" in found.reason)
 
 
 def test_nothing_to_find():

@@ -1,11 +1,13 @@
 """The blocks for GNU Radio, in flowgraphs that run, and the files of gnuradio-companion."""
+import argparse
 import os
 import subprocess
 import sys
+import time
 import warnings
 
 import pytest
-from links import TOP, frames, levels, noise, tmchan
+from links import TOP, coded, frames, levels, noise, tmchan
 
 numpy = pytest.importorskip("numpy")
 with warnings.catch_warnings():
@@ -198,3 +200,132 @@ def test_the_flowgraph(tmp_path):
         timeout=100,
     )
     assert ran.stdout.count("pdu length =       1115 bytes") in (28, 29, 30)
+
+
+SATYAML = [
+    {"framing": "CCSDS Concatenated", "RS basis": "dual"},
+    {"framing": "CCSDS Concatenated", "frame size": 114, "RS basis": "conventional", "precoding": "differential"},
+    {"framing": "CCSDS Concatenated", "frame size": 892, "RS basis": "dual", "RS interleaving": 4, "scrambler": "none"},
+    {"framing": "CCSDS Concatenated", "RS basis": "dual", "convolutional": "NASA-DSN"},
+    {"framing": "CCSDS Concatenated", "RS basis": "conventional", "convolutional": "CCSDS uninverted"},
+    {"framing": "CCSDS Concatenated", "RS basis": "dual", "convolutional": "NASA-DSN uninverted", "scrambler": "CCSDS"},
+    {"framing": "CCSDS Concatenated", "RS basis": "dual", "convolutional": "CCSDS"},
+    {"framing": "CCSDS Reed-Solomon", "frame size": 1115, "RS basis": "dual", "RS interleaving": 5},
+    {"framing": "CCSDS Reed-Solomon", "frame size": 114, "RS basis": "conventional"},
+    {"framing": "CCSDS Reed-Solomon", "RS basis": "dual", "precoding": "differential", "scrambler": "none"},
+    {"framing": "CCSDS Uncoded", "frame size": 300},
+    {"framing": "CCSDS Uncoded", "frame size": 300, "scrambler": "none", "precoding": "differential"},
+]
+
+
+def options_of(transmitter):
+    """The receiver's options of a SatYAML file's transmitter, by the table of docs/PYTHON.md."""
+    with open(os.path.join(TOP, "docs", "PYTHON.md"), encoding="utf-8") as file:
+        table = file.read().split("<!-- satyaml -->")[1].split("<!-- -->")[0]
+    rows = [[cell.strip().strip("`") for cell in line.split("|")[1:-1]] for line in table.strip().splitlines()[2:]]
+    found, used = {}, set()
+    for word, options, default in rows:
+        key, value = word.split(": ")
+        if key not in transmitter and default:
+            found.update(eval(f"dict({default})"))
+        elif key in transmitter and value in (str(transmitter[key]), "N"):
+            used.add(key)
+            found.update(eval(f"dict({options.replace('=N', f'={transmitter[key]}')})"))
+    assert used == set(transmitter)
+    return found
+
+
+def sent_by(options, octets):
+    """The symbols of frames, as floats."""
+    link = {name: value for name, value in options.items() if name not in ("swap", "nrz_m")}
+    if options["nrz_m"]:
+        # 1 where the signal changes, before the inner code
+        bits = numpy.frombuffer(tmchan.Link(**{**link, "inner": "none", "invert": None}, pack="off").send(octets), "u1")
+        changed = numpy.bitwise_xor.accumulate(bits & 1)
+        symbols = coded(changed.tolist(), options["invert"] == "on") if link["inner"] == "1/2" else changed
+        symbols = 255 * numpy.array(symbols, "u1")
+    else:
+        symbols = numpy.frombuffer(tmchan.Link(**link, pack="off").send(octets), "u1")
+    if options.get("swap"):
+        symbols = symbols.reshape(-1, 2)[:, ::-1].reshape(-1)
+    return symbols
+
+
+class Waiting(gr.sync_block):
+    """Gives floats, and then waits for the word to end, since a flowgraph that ends drops messages on their way."""
+
+    def __init__(self, floats):
+        gr.sync_block.__init__(self, "waiting", None, [numpy.float32])
+        self.left, self.may_end = floats.astype(numpy.float32), False
+
+    def work(self, _, outputs):
+        number = min(len(self.left), len(outputs[0]))
+        outputs[0][:number], self.left = self.left[:number], self.left[number:]
+        if not number:
+            time.sleep(0.01)
+        return number or (-1 if self.may_end else 0)
+
+
+def by_gr_satellites(floats, transmitter):
+    """The frames of the deframer that gr-satellites chooses, with the words passed on as it does."""
+    pytest.importorskip("satellites")
+    blocks.byte_t = getattr(blocks, "byte_t", gr.types.byte_t)
+    from satellites.core.gr_satellites_flowgraph import gr_satellites_flowgraph
+
+    names = {"frame size": "frame_size", "RS basis": "rs_basis", "RS interleaving": "rs_interleaving"}
+    words = {names.get(key, key): value for key, value in transmitter.items() if key != "framing"}
+    options = argparse.Namespace(syncword_threshold=4, verbose_rs=False)
+    deframer = gr_satellites_flowgraph._deframer_hooks[transmitter["framing"]](options=options, **words)
+    graph, source, store = gr.top_block(), Waiting(floats), blocks.message_debug()
+    graph.connect(source, deframer)
+    graph.msg_connect((deframer, "out"), (store, "store"))
+    graph.start()
+    seen, still = 0, 0
+    while len(source.left) or still < 10:
+        time.sleep(0.1)
+        seen, still = store.num_messages(), still + 1 if store.num_messages() == seen else 0
+    source.may_end = True
+    graph.wait()
+    return [bytes(pmt.u8vector_elements(pmt.cdr(store.get_message(it)))) for it in range(store.num_messages())]
+
+
+@pytest.mark.long
+@pytest.mark.parametrize("transmitter", SATYAML, ids=lambda it: ", ".join(map(str, it.values())))
+def test_words_of_satyaml(transmitter):
+    options = options_of(transmitter)
+    # (gr-satellites keeps its last symbols)
+    sent = frames(60, options["length"])
+    floats = levels(sent_by(options, b"".join(sent)).tobytes(), 12)
+    theirs = by_gr_satellites(floats, transmitter)
+    block = gnuradio.receiver(**options)
+    came = run(blocks.vector_source_f(floats.tolist()), block, messages=block)
+    ours = [bytes(pmt.u8vector_elements(pmt.cdr(it))) for it in came] + [it.frame for it in block.rest]
+    # (before the first bit of NRZ-M it takes a 0, as was sent)
+    assert ours == sent
+    assert len(set(theirs) & set(sent)) >= 50
+
+
+@pytest.mark.long
+def test_a_data_sink_of_gr_satellites(tmp_path):
+    """It takes the receiver's PDUs as those of a deframer."""
+    pytest.importorskip("satellites")
+    blocks.byte_t = getattr(blocks, "byte_t", gr.types.byte_t)
+    from satellites.components import datasinks
+
+    block, sink = gnuradio.receiver(length=100, keep=512), datasinks.kiss_file_sink(str(tmp_path / "frames.kss"))
+    graph, source = gr.top_block(), Waiting(levels(LINK.send(SENT), 8))
+    graph.connect(source, block)
+    graph.msg_connect((block, "frames"), (sink, "in"))
+    graph.start()
+    while len(source.left):
+        time.sleep(0.1)
+    time.sleep(1)
+    source.may_end = True
+    graph.wait()
+    del graph, sink
+    written = (tmp_path / "frames.kss").read_bytes()
+    assert all(b"\xc0\x00" + kiss(it) + b"\xc0" in written for it in SENT[:190])
+
+
+def kiss(frame):
+    return frame.replace(b"\xdb", b"\xdb\xdd").replace(b"\xc0", b"\xdb\xdc")

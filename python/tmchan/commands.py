@@ -545,11 +545,10 @@ def program_line(found: Found, name: str, start: int) -> str:
         options["pack"] = "on"
     options["soft"] = "i8" if found.form == "i8" else "u8"
     words = shlex.join(["tmchan", "decode", *Link(**options).words()])
-    return (
-        f"tail -c +{start + 1} {shlex.quote(name)} | {words} > frames"
-        if start
-        else f"{words} < {shlex.quote(name)} > frames"
-    )
+    file = "" if name == "-" else shlex.quote(name)
+    if start:
+        return f"tail -c +{start + 1} {file}".rstrip() + f" | {words} > frames"
+    return words + f" < {file}" * bool(file) + " > frames"
 
 
 def look(words: list[str]) -> int:

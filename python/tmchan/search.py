@@ -184,14 +184,17 @@ def _inner_codes(recording: _Recording, forms: list[_Form], place: float, given:
         for rate in PERIODS:
             if given.get("inner", rate) != rate or (form.swap and rate != "1/2"):
                 continue
-            drawn = None
+            drawn: Optional[float] = None
             for invert in ("on", "off"):
                 if _word(given.get("invert", invert)) != invert:
                     continue
                 cost = _share(symbols, rate, invert)[0]
-                # (to invert each second sum changes nothing where there is no code)
-                drawn = drawn or _share(bytes(order), rate, invert)[0] or 1.0
-                tried.append(_Inner(form, rate, invert, cost, drawn))
+                # To invert each second sum changes nothing where there is no code, unless symbols of one kind are more,
+                # as of a carrier alone.
+                if drawn is None or cost < NO_CODE * drawn:
+                    drawn = _share(bytes(order), rate, invert)[0]
+                # (symbols that are all the same are a codeword in any order)
+                tried.append(_Inner(form, rate, invert, cost or 1e-9, drawn or 1e-9))
     return sorted(tried, key=lambda it: (it.cost / it.drawn, it.cost))
 
 
@@ -408,7 +411,7 @@ def _way(
                 None,
                 reason=f"it is too noisy for its code: codeblocks have {octets} octets, as of "
                 f"{' or '.join(codes)}, and "
-                f"{100 * wrong:.1f} % of the bits behind the inner code are wrong",
+                f"{100 * wrong:.1f} % of the bits{' behind the inner code' * (way.inner != 'none')} are wrong",
             )
         rows = _rows(bits, uncoded, {**receiving, "start": "zero", "phase": "given"}, say)
     if not rows:
@@ -422,6 +425,12 @@ def _way(
         key=lambda it: round(it.entropy, 1),
     )
     options = {**receiving, **best.options}
+    if options["phase"] == "find" and not nrz_m:
+        # (there may be slips between two of the places that were looked at)
+        good = [
+            sum(it.good for it in Link(**{**options, "phase": phase}).receive(symbols)) for phase in ("find", "follow")
+        ]
+        options["phase"] = "follow" if good[1] > good[0] else "find"
     if Link(**{**options, "length": None}).frame_length == options["length"]:
         del options["length"]
     return Found(Link(**options), way.form.name, way.form.swap, nrz_m, first, best.good, best.bad)
