@@ -55,6 +55,11 @@ class Found(NamedTuple):
     bad: int = 0
     reason: str = ""
 
+    @property
+    def is_coded(self) -> bool:
+        """Whether there is an outer code."""
+        return self.link is not None and self.link.options["code"] != "none"
+
     def receiver(self, scale: Union[None, float, str] = "mean") -> Reception:
         """A receiver of the recording: octets as they stand in its file, or arrays, go in, and codeblocks come out."""
         if self.link is None:
@@ -210,20 +215,17 @@ def _bits(symbols: bytes, way: _Inner, phase: str = "follow") -> bytes:
 
 
 def _codeblock(bits: bytes) -> tuple[int, int, int, int]:
-    """The codeblock's octets, by the distance at which most markers stand; how many stand so; how many there are; and
-    how many of those are inverted."""
+    """The codeblock's octets, by the distance of which most distances of markers are multiples, since some markers are
+    missed; how many these are; how many markers there are; and how many of those are inverted."""
     best = (0, 0, 0, 0)
     for tolerance in (0, 3):
         link = Link(code="none", length=1, inner="none", pack="off", tolerance=tolerance, polarity="find")
         found = list(link.receive(bits))
         apart = collections.Counter(b.place - a.place for a, b in zip(found, found[1:]))
-        size, number = next(
-            ((bits, number) for bits, number in apart.most_common(3) if bits % 8 == 0 and bits >= 40), (0, 0)
-        )
-        if number > best[1]:
-            best = (size // 8 - 4, number, len(found), sum(it.inverted for it in found))
-        if best[1] >= FEW:
-            break
+        for size, _ in apart.most_common(8):
+            number = sum(it for distance, it in apart.items() if distance % size == 0)
+            if number > best[1] and size % 8 == 0 and size >= 40:
+                best = (size // 8 - 4, number, len(found), sum(it.inverted for it in found))
     return best
 
 
@@ -257,6 +259,16 @@ def _wrong_bits(bits: bytes, octets: int) -> float:
     # (at a place that no longer holds a marker is not noisy, but missing: some sixteen of its bits differ)
     near = [it.distance for it in found if it.distance <= 8]
     return sum(near) / (32 * len(near)) if near else 1.0
+
+
+class _Reason(NamedTuple):
+    """Why nothing was found in one way: the higher its rank, the further it came."""
+
+    rank: int
+    text: str
+
+
+TOO_NOISY = 3
 
 
 class _Row(NamedTuple):
@@ -330,7 +342,7 @@ def find(
         return Found(None, reason="there are fewer than 1000 symbols to look at")
     if recording.count(forms[0].name) <= SAMPLE:
         along = along[:1]
-    reason = "no inner code is seen, and no sync markers stand at even distances"
+    reason = _Reason(0, "no inner code is seen, and no sync markers stand at even distances")
     # How often a code was seen and led no further. (A look without an inner code is at fewer places, since it takes
     # more symbols.)
     seen = 0
@@ -350,23 +362,25 @@ def find(
         best = None
         for way in ways:
             found = _way(recording, way, place, symbols, given, say)
-            if found.link is not None and (best is None or found.good > best.good):
+            if isinstance(found, _Reason):
+                reason = found if found.rank > reason.rank else reason
+                continue
+            if best is None or found.good > best.good:
                 best = found
-            if found.reason and way.inner != "none":
-                reason = found.reason
-            if best is not None and best.link is not None and best.link.options["code"] != "none":
+            if found.is_coded:
                 break
-        if best is not None:
+        # (where a code is too noisy in one way, it is not absent in another)
+        if best is not None and (best.is_coded or reason.rank < TOO_NOISY):
             return best
         seen += bool(fitting)
         if seen == PLACES or (fitting and recording.count(fitting[0].form.name) <= symbols):
             break
-    return Found(None, reason=reason)
+    return Found(None, reason=reason.text)
 
 
 def _way(
     recording: _Recording, way: _Inner, place: float, count: int, given: dict[str, Any], say: Callable[[str], None]
-) -> Found:
+) -> Union[Found, _Reason]:
     """What a part of the recording is, decoded in one way: from a place on, and where the recording ends before, of
     what stands before it."""
     size = recording.count(way.form.name)
@@ -389,7 +403,8 @@ def _way(
         )
     )
     if number < FEW:
-        return Found(None, reason=f"there is a code ({way}), and no sync markers stand at even distances")
+        rank = int(way.inner != "none")
+        return _Reason(rank, f"there is a code ({way}), and no sync markers stand at even distances")
     receiving = {**RECORDING, "inner": way.inner}
     if way.inner == "none":
         receiving.update(start="zero", phase="given", pack="off")
@@ -407,15 +422,14 @@ def _way(
         wrong = _wrong_bits(bits, octets)
         if coded and wrong > NOISY:
             codes = sorted({f"{it['code']} at depth {it['depth']}" for it in coded})
-            return Found(
-                None,
-                reason=f"it is too noisy for its code: codeblocks have {octets} octets, as of "
-                f"{' or '.join(codes)}, and "
+            return _Reason(
+                TOO_NOISY,
+                f"it is too noisy for its code: codeblocks have {octets} octets, as of {' or '.join(codes)}, and "
                 f"{100 * wrong:.1f} % of the bits{' behind the inner code' * (way.inner != 'none')} are wrong",
             )
         rows = _rows(bits, uncoded, {**receiving, "start": "zero", "phase": "given"}, say)
     if not rows:
-        return Found(None, reason=f"codeblocks have {octets} octets, and no code fits")
+        return _Reason(2, f"codeblocks have {octets} octets, and no code fits")
     # Each codeword of rs16 is one of rs8 too: of codes with as many good codeblocks the first is taken. Where the
     # randomizer fits both on and off, as it can with codewords that are not shortened, the frames tell.
     most = max(it.good for it in rows)
