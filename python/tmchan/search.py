@@ -373,7 +373,9 @@ def find(
         if best is not None and (best.is_coded or reason.rank < TOO_NOISY):
             return best
         seen += bool(fitting)
-        if seen == PLACES or (fitting and recording.count(fitting[0].form.name) <= symbols):
+        # (what was looked at is all there is)
+        is_all = ways and max(recording.count(it.form.name) for it in ways) <= symbols
+        if seen == PLACES or (is_all and (fitting or reason.rank == TOO_NOISY)):
             break
     return Found(None, reason=reason.text)
 
