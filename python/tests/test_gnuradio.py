@@ -123,9 +123,10 @@ def numbers(floats, every, **options):
 def test_rate_and_lock(inner):
     """Frames, noise, frames: in lock over each, and out of it before and between."""
     link = tmchan.Link(length=100, inner=inner, pack="off")
-    floats = levels(link.send(SENT), 8 if inner != "none" else 20)
+    sent = SENT[:80]
+    floats = levels(link.send(sent), 8 if inner != "none" else 20)
     # (of one in four codeblocks five symbols are wrong)
-    size = len(floats) // len(SENT)
+    size = len(floats) // len(sent)
     if inner == "none":
         for at in range(0, len(floats), 4 * size):
             floats[at + 100 : at + 140 : 8] *= -1
@@ -134,7 +135,7 @@ def test_rate_and_lock(inner):
     options = dict(length=100, inner=inner, keep=512, ahead=64)
     rate, lock, count = numbers(numpy.concatenate([gap, floats, gap, floats]), every, **options)
     total = 2 * len(gap) + 2 * len(floats)
-    assert len(rate) == len(lock) == total // every and set(lock) == {0, 1} and count >= 2 * len(SENT) - 4
+    assert len(rate) == len(lock) == total // every and set(lock) == {0, 1} and count >= 2 * len(sent) - 4
     # How late it may be: by two codeblocks and a window.
     late = 2 * size + 3 * 576 * 2
     parts = {True: [], False: []}
@@ -181,16 +182,42 @@ def test_the_example():
     assert ran.returncode == 0 and ran.stdout.startswith("20 of 20 frames are right, 0 came that nobody sent")
 
 
-def test_the_flowgraph(tmp_path):
+def compiled(file, folder):
     grcc = next((it for it in ("/usr/bin/grcc", "/usr/local/bin/grcc") if os.path.exists(it)), None)
     if not grcc:
         pytest.skip("there is no grcc")
-    subprocess.run(
-        [grcc, "-o", str(tmp_path), f"{TOP}/examples/gnuradio/link.grc"],
-        env=environment(),
-        check=True,
-        stdout=subprocess.DEVNULL,
+    subprocess.run([grcc, "-o", str(folder), str(file)], env=environment(), check=True, stdout=subprocess.DEVNULL)
+
+
+def test_a_flowgraph_with_rate_and_lock(tmp_path):
+    """The example, with the receiver's numbers in two files."""
+    with open(f"{TOP}/examples/gnuradio/link.grc", encoding="utf-8") as file:
+        graph = file.read()
+    sinks = "".join(
+        f"- name: {it}\n  id: blocks_file_sink\n  parameters: {{file: '{tmp_path}/{it}', type: float, vlen: '1'}}\n"
+        "  states: {coordinate: [0, 0], rotation: 0, state: enabled}\n"
+        for it in ("rate", "lock")
     )
+    graph = graph.replace("input: float, invert", "every: '1000', input: float, invert")
+    begin = "\nconnections:\n"
+    graph = graph.replace(begin, sinks + begin + "- [receiver, '0', rate, '0']\n- [receiver, '1', lock, '0']\n")
+    (tmp_path / "measured.grc").write_text(graph.replace("id: link", "id: measured"))
+    compiled(tmp_path / "measured.grc", tmp_path)
+    subprocess.run(
+        [sys.executable, str(next(tmp_path.glob("*.py"))), "--frames", "30"],
+        env=environment(),
+        stdin=subprocess.DEVNULL,
+        stdout=subprocess.DEVNULL,
+        check=True,
+        timeout=100,
+    )
+    rate, lock = (numpy.fromfile(tmp_path / it, numpy.float32) for it in ("rate", "lock"))
+    assert len(rate) == len(lock) > 100 and set(lock) <= {0, 1} and 0 <= numpy.nanmax(rate) < 0.1
+    assert lock[len(lock) // 2 :].all()
+
+
+def test_the_flowgraph(tmp_path):
+    compiled(f"{TOP}/examples/gnuradio/link.grc", tmp_path)
     ran = subprocess.run(
         [sys.executable, str(tmp_path / "link.py"), "--frames", "30"],
         env=environment(),
