@@ -200,8 +200,8 @@ def test_too_noisy_without_an_inner_code(form):
 @long
 def test_no_code_is_proposed_where_markers_alone_are_seen():
     """At each noise at which markers stand at even distances, and no codeblock decodes."""
-    for decibels in (-4.5, -4, -3.5, -3, -2.5):
-        found = tmchan.find(soft(recording(tmchan.Link(depth=5), frames(60, 1115), decibels)).tobytes())
+    for decibels in (-3.5, -3):
+        found = tmchan.find(soft(recording(tmchan.Link(depth=5), frames(40, 1115), decibels)).tobytes(), places=3)
         assert found.link is None and ("no sync markers" in found.reason or "too noisy" in found.reason)
 
 
