@@ -148,7 +148,8 @@ def test_rate_and_lock(inner):
     before = numpy.isnan(rate)
     assert before[: len(gap) // every].all() and not before[(len(gap) + late) // every + 1 :].any()
     if inner == "none":
-        assert set(numpy.round(rate[~before] * 132).astype(int)) == {0, 5}
+        # (behind the last frame a place is taken without a marker, and that is uncorrectable)
+        assert set(numpy.round(rate[~before] * 132).astype(int)) == {0, 5, 17}
     # The same, however the stream is cut: a number says what was known when its symbols had come.
     again = numbers(numpy.concatenate([gap, floats, gap, floats]), every, **options)
     assert numpy.array_equal(again[0], rate, equal_nan=True) and numpy.array_equal(again[1], lock)
