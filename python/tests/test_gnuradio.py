@@ -309,7 +309,7 @@ def by_gr_satellites(floats, transmitter):
     graph.msg_connect((deframer, "out"), (store, "store"))
     graph.start()
     seen, still = 0, 0
-    while len(source.left) or still < 10:
+    while len(source.left) or still < 20:
         time.sleep(0.1)
         seen, still = store.num_messages(), still + 1 if store.num_messages() == seen else 0
     source.may_end = True
@@ -321,8 +321,8 @@ def by_gr_satellites(floats, transmitter):
 @pytest.mark.parametrize("transmitter", SATYAML, ids=lambda it: ", ".join(map(str, it.values())))
 def test_words_of_satyaml(transmitter):
     options = options_of(transmitter)
-    # (gr-satellites keeps its last symbols)
-    sent = frames(60, options["length"])
+    # (gr-satellites keeps its last symbols, so that the last forty are not counted there)
+    sent = frames(100, options["length"])
     floats = levels(sent_by(options, b"".join(sent)).tobytes(), 12)
     theirs = by_gr_satellites(floats, transmitter)
     block = gnuradio.receiver(**options)
@@ -330,7 +330,7 @@ def test_words_of_satyaml(transmitter):
     ours = [bytes(pmt.u8vector_elements(pmt.cdr(it))) for it in came] + [it.frame for it in block.rest]
     # (before the first bit of NRZ-M it takes a 0, as was sent)
     assert ours == sent
-    assert len(set(theirs) & set(sent)) >= 50
+    assert len(set(theirs) & set(sent[:60])) >= 58
 
 
 @pytest.mark.long
