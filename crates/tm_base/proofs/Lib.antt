@@ -7,3 +7,4 @@ pub mod InMemory
 pub mod BitsLeft
 pub mod Handing
 pub mod HandedItems
+mod SoftForms

@@ -5,6 +5,7 @@ pub mod Takers
 pub mod Handed
 pub mod Calls
 pub mod Bits
+pub mod SoftForm
 pub mod Marker
 pub mod Limits
 pub mod Count

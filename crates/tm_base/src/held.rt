@@ -1,6 +1,8 @@
 // Octets in room that was taken before.
-ghost use Rattle.std.specs.Prelude.{◌≡◌, ◌↔◌, ◌++◌, ◌+◌, ◌-◌, ◌<◌, ◌≤◌, [], ◌∷◌, IfOk, IsTrue, drop, length, min, take, vec_len};
+ghost use Rattle.std.specs.Prelude.{◌≡◌, ◌↔◌, ◌++◌, ◌+◌, ◌-◌, ◌<◌, ◌≤◌, [], ◌∷◌, true, IfOk, IsTrue, drop, length, min, take, vec_len};
+ghost use Rattle.tm_base.specs.SoftForm.{from_form};
 
+use crate::soft_form::to_unsigned;
 use std::alloc::{AllocError, Global};
 use std::marker::Model;
 
@@ -70,6 +72,15 @@ impl Held {
         self.octets[first..first + count].copy_from_slice(&octets[..count]);
         self.len += count;
         count
+    }
+
+    /// Converts the octets from number `first` on, which are signed, to unsigned ones.
+    pub fn to_unsigned(&mut self, first: usize)
+        requires { first ≤ length self.old.octets }
+        ensures octets { self.new.octets ≡ take first self.old.octets ++ from_form true (drop first self.old.octets) }
+        ensures room { self.new.room ≡ self.old.room }
+    {
+        to_unsigned(&mut self.octets[first..self.len]);
     }
 
     /// Drops the first octets, as many as there are.

@@ -9,6 +9,7 @@ mod gate;
 mod held;
 mod memory;
 mod outside;
+mod soft_form;
 mod standard;
 mod sure;
 
@@ -18,5 +19,6 @@ pub use gate::{Gate, OpenGate};
 pub use held::{Held, zeros};
 pub use memory::{MemSink, MemSource};
 pub use outside::{Failed, NoMemory, Sink, Source, put_all};
+pub use soft_form::{to_unsigned, unsigned};
 pub use standard::{StdSink, StdSource};
 pub use sure::{SureSink, SureSource};
