@@ -1,6 +1,7 @@
 -- The best candidate, from the sums and survivors at the end.
-use Rattle.std.proofs.Common.{◌≡◌, ℕ, ◌+◌, ◌*◌, ◌^◌, ◌<◌, ◌≤◌, inl, inr, ◌∙◌, sym, ap, subst, arith, length, List, [], ◌∷◌, ◌++◌, suc, refl, Bool, true, false, cond, get_or, slice_index, IsTrue}
+use Rattle.std.proofs.Common.{◌≡◌, ℕ, ◌+◌, ◌*◌, ◌^◌, ◌<◌, ◌≤◌, inl, inr, ◌∙◌, sym, ap, subst, arith, length, List, [], ◌∷◌, ◌++◌, suc, refl, Bool, true, false, cond, get_or, slice_index, IsTrue, Option, Some, None}
 use Rattle.std.specs.List.{All}
+use Rattle.std.specs.Option.{ForSome}
 use Rattle.std.proofs.lemmas.List.{length-reverse, reverse-reverse}
 use Rattle.std.proofs.lemmas.List.Elements.{All-head, All-tail}
 use Rattle.std.proofs.lemmas.Bool.{cases_order}
@@ -13,6 +14,7 @@ use Rattle.tm_conv.specs.Path.{steps_size, path}
 use Rattle.tm_conv.specs.Cost.{cost, distance}
 use Rattle.tm_conv.specs.Best.{IsLexLe, register_bits, IsCandidate, IsBest}
 use Rattle.tm_viterbi.specs.Walk.{register_back, rank, IsPathTo, IsNoWorse, IsBestTo, past_of, start_of, AreBest}
+use Rattle.tm_viterbi.specs.Starts.{starts_from}
 use Rattle.tm_viterbi.specs.Totals.{total_of, AreFirsts, IsFirstLeast}
 use Rattle.tm_viterbi.proofs.Walk.{rank_lt, register_back_lt}
 use Rattle.tm_viterbi.proofs.Totals.{IsLexLe-from_rank}
@@ -60,6 +62,12 @@ best_of_all total n s sums survivors best least q other ql each long =
         first = λ le. absurd (omega (arith, le, there.least, less));
       })
     ]
+
+-- a register from which a path may start
+pub some_start : (starts : Option ℕ) → ForSome starts (λ register. register < 64) → (register : ℕ) × (register < 64)
+    × IsTrue (starts_from starts register)
+some_start None are = (0, omega arith, refl)
+some_start (Some register) are = (register, are register refl, grind (arith, nat_tests))
 
 first_cost-start : (starts : ℕ → Bool) (register : ℕ) → IsTrue (starts register) → first_cost starts register ≡ 0
 first_cost-start starts register is = ap (λ (v : Bool). cond v 0 (2 ^ 30)) is

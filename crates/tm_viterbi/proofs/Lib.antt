@@ -13,13 +13,8 @@ mod NarrowLanes
 mod Halves
 mod StepsBack
 mod LeastTotals
-mod Filled
-mod Tails
 pub mod Closing
-pub mod Handing
 pub mod WholeBlocks
-mod LastWindow
-pub mod Feeding
 pub mod LeastCost
 pub mod OneList
 pub mod CleanBlocks

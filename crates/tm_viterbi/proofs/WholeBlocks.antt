@@ -1,7 +1,5 @@
 -- The blocks of the closed windows and the last one are the blocks of the definition.
-use Rattle.std.proofs.Common.{◌≡◌, ℕ, ◌+◌, ◌-◌, ◌<◌, ◌≤◌, ◌∙◌, sym, ap, subst, arith, List, [], ◌∷◌, ◌++◌, Bool, length, length-drop, inl, inr, refl, Option, Some, None}
-use Rattle.std.specs.Option.{is_some}
-use mir.Val.{bool_byte}
+use Rattle.std.proofs.Common.{◌≡◌, ℕ, ◌+◌, ◌-◌, ◌<◌, ◌≤◌, ◌∙◌, sym, ap, subst, arith, List, [], ◌∷◌, ◌++◌, Bool, length, length-drop, inl, inr}
 use Rattle.std.proofs.lemmas.Bool.{cases_lt}
 use Rattle.std.proofs.lemmas.Bool.Decides.{nat_tests}
 use Rattle.tm_conv.specs.declared.rates.Rate.{Rate}
@@ -9,9 +7,8 @@ use Rattle.tm_conv.specs.Path.{steps_size, step_size}
 use Rattle.tm_conv.proofs.Paths.{steps_size-zero, steps_size-more}
 use Rattle.tm_viterbi.specs.Settings.{Settings}
 use Rattle.tm_viterbi.specs.WindowBlock.{WindowBlock}
-use Rattle.tm_viterbi.specs.Blocks.{IsBlock, AreBlocks, AreBlocksOf, window_steps, kept_steps}
+use Rattle.tm_viterbi.specs.Blocks.{IsBlock, AreBlocks, AreBlocksOf, kept_steps}
 use Rattle.tm_viterbi.specs.Due.{Place, Closes, Closed, after_block, first_place}
-use Rattle.tm_viterbi.specs.Streaming.{waiting_octets}
 use Rattle.tm_viterbi.proofs.Closing.{kept_is, kept_at}
 use Rattle.tm_conv.proofs.Sizes.{steps_size-add, steps_size-le}
 
@@ -146,13 +143,6 @@ all_blocks s all done last to n left closed size less are =
       rest = long;
     }
 
--- the steps of the last window, all of them kept
-pub last_steps : (keep ahead n : ℕ) → n ≤ keep + ahead → n ≡ window_steps keep ahead n
-last_steps keep ahead n le = omega (arith, le)
-
+-- the steps of the last window are all kept
 pub last_kept : (keep ahead n : ℕ) → n ≤ keep + ahead → n ≡ kept_steps keep ahead n
 last_kept keep ahead n le = grind (arith, nat_tests)
-
-pub waiting_count : (waiting : Option ℕ) → bool_byte (is_some waiting) ≡ length (waiting_octets waiting)
-waiting_count None = refl
-waiting_count (Some octet) = refl

@@ -11,8 +11,4 @@ pub mod Walk
 pub mod Totals
 pub mod Carries
 pub mod Summing
-pub mod Filling
-pub mod Flowing
 pub mod NextSteps
-pub mod Streaming
-pub mod Decoding

@@ -6,7 +6,9 @@ ghost use Rattle.tm_viterbi.specs.Blocks.{IsBlock, window_steps, kept_steps};
 ghost use Rattle.tm_viterbi.specs.WindowBlock.{undropped_block};
 ghost use Rattle.tm_viterbi.specs.WindowSizes.{most_window, window_bound};
 
-use crate::filling::{BestPath, Window};
+use crate::forward_pass::run;
+use crate::path_ends::{first_sums, least_register};
+use crate::traceback::{end_register, trace_back};
 use std::alloc::Global;
 use std::marker::Model;
 use tm_base::NoMemory;
@@ -25,24 +27,38 @@ pub struct WindowShape {
     pub ahead: usize,
 }
 
+/// The best path of a window, but for its bits: the register that it starts from, what it costs, and the register after
+/// the kept steps.
+#[derive(Drop)]
+pub struct BestPath {
+    /// The register that the path starts from, below 64.
+    pub start: u8,
+    /// What the path costs over the whole window.
+    pub metric: u64,
+    /// The register after the kept steps, from which the next window starts.
+    pub end_state: u8,
+    ghost small: { end_state < registers },
+}
+
 /// The decoder of windows whose octets are all there, one at a time and in any order (CCSDS 131.0-B, Convolutional
 /// Coding). It takes its memory at `new`.
 #[derive(Drop)]
 pub struct WindowDecoder {
     shape: WindowShape,
-    window: Window,
+    survivors: Vec<u64>,
 }
 
 impl Model for WindowDecoder {
-    ghost use Rattle.std.specs.Prelude.{◌≡◌};
+    ghost use Rattle.std.specs.Prelude.{◌≡◌, ◌+◌, ◌≤◌, vec_len};
+    ghost use Rattle.tm_viterbi.specs.WindowSizes.{most_window};
     ghost use Rattle.tm_viterbi.specs.declared.window_decoder.WindowShape.{WindowShape};
 
     ghost Value = { WindowShape };
 
     ghost view = { λ d. d.shape };
 
-    ghost invariant = { λ d. (d.window.rate ≡ d.shape.rate) × (d.window.invert ≡ d.shape.invert)
-        × (d.window.keep ≡ d.shape.keep) × (d.window.ahead ≡ d.shape.ahead) };
+    ghost invariant = { λ d. (vec_len d.survivors ≡ d.shape.keep + d.shape.ahead)
+        × (d.shape.keep + d.shape.ahead ≤ most_window) };
 }
 
 impl WindowDecoder {
@@ -52,8 +68,8 @@ impl WindowDecoder {
         requires { shape.keep + shape.ahead ≤ most_window }
         ensures { IfOk result (λ d. d ≡ shape) }
     {
-        match Window::new(alloc, shape, None) {
-            Ok(window) => Ok(WindowDecoder { shape, window }),
+        match vec![in alloc; 0u64; shape.keep + shape.ahead] {
+            Ok(survivors) => Ok(WindowDecoder { shape, survivors }),
             Err(_) => Err(NoMemory),
         }
     }
@@ -78,12 +94,27 @@ impl WindowDecoder {
             → kept ≡ kept_steps self.old.keep self.old.ahead remaining
             → IsBlock self.old.rate self.old.invert self.old.keep self.old.ahead starts t remaining octets.now
             (undropped_block result.start (length bits.old) kept result.metric bits.new result.end_state) }
+        ensures small { self.old.keep + self.old.ahead ≤ most_window }
         ensures same { self.new ≡ self.old }
     {
         let steps = bits.len();
         let size = steps_len(self.shape.rate, t, steps);
-        self.window.begin(starts, t);
-        self.window.take_steps(steps, &octets[..size]);
-        self.window.find(kept, bits)
+        let mut sums = first_sums(starts);
+        run(
+            self.shape.rate,
+            self.shape.invert,
+            t,
+            &octets[..size],
+            &mut sums,
+            &mut self.survivors[0..steps],
+            1 << 30,
+        );
+        let last = least_register(&sums);
+        let start = trace_back(&self.survivors[..steps], last, bits) as u8;
+        BestPath {
+            start,
+            metric: u64::from(sums[last]),
+            end_state: end_register(start, &bits[..kept]),
+        }
     }
 }

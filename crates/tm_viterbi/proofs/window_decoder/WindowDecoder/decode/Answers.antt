@@ -1,68 +1,97 @@
-use Rattle.std.proofs.Common.{◌≡◌, ◌∙◌, ◌++◌, ◌<◌, ℕ, List, [], Bool, Option, sym, ap, subst, arith, length, take, drop}
-use Rattle.std.specs.Option.{ForSome}
-use Rattle.std.proofs.lemmas.List.{take-append-drop}
-use Rattle.tm_conv.specs.declared.rates.Rate.{Rate}
-use Rattle.tm_viterbi.specs.WindowBlock.{WindowBlock}
+use Rattle.std.proofs.Common.{◌≡◌, ◌∙◌, ◌<◌, ◌≤◌, ◌+◌, ◌-◌, ℕ, List, [], refl, sym, ap, subst, arith, length, take, reverse, slice_index}
+use Rattle.std.specs.List.{All}
+use Rattle.std.proofs.lemmas.List.{append-nil, length-take-le, with_items_is}
+use Rattle.std.proofs.lemmas.List.Elements.{All-from_get_or, All-same, All-take}
+use Rattle.std.proofs.lemmas.Slice.{take-put_mid}
+use borrow.Rule.Slice.PartMut.{put_mid}
+use Rattle.tm_conv.specs.Best.{IsBest}
+use Rattle.tm_conv.specs.Cost.{cost}
+use Rattle.tm_conv.specs.Path.{path, steps_size}
+use Rattle.tm_conv.proofs.Paths.{steps_size-zero}
+use Rattle.tm_conv.proofs.Sizes.{steps_size-most}
+use Rattle.tm_conv.proofs.DictionaryOrder.{All-reverse}
+use Rattle.tm_viterbi.specs.Starts.{starts_from}
+use Rattle.tm_viterbi.specs.Totals.{total_of}
+use Rattle.tm_viterbi.specs.Walk.{AreBest, past_of, start_of}
 use Rattle.tm_viterbi.specs.declared.window_decoder.WindowShape.{WindowShape}
-use Rattle.tm_viterbi.specs.Blocks.{IsBlock, window_steps, kept_steps}
-use Rattle.tm_viterbi.proofs.Handing.{some_start}
+use Rattle.tm_viterbi.proofs.Carrying.{length-mid}
+use Rattle.tm_viterbi.proofs.Final.{some_start, IsBest-from_columns}
+use Rattle.tm_viterbi.proofs.Walk.{AreBest-none, past_of_small}
 use Rattle.tm_viterbi.proofs.window_decoder.WindowDecoder.decode.Goals as goal
 
--- the block by the shape of the decoder, where its window has this shape
-block_of_shape : (rate rate' : Rate) (invert invert' : Bool) (keep keep' ahead ahead' t t' remaining steps steps' : ℕ)
-    (starts starts' : Option ℕ) (octets octets' : List ℕ) (block : ℕ → WindowBlock)
-    → rate' ≡ rate → invert' ≡ invert → keep' ≡ keep → ahead' ≡ ahead → t' ≡ t → starts' ≡ starts → octets' ≡ octets
-    → steps' ≡ steps
-    → IsBlock rate' invert' keep' ahead' starts' t' remaining octets' (block steps')
-    → IsBlock rate invert keep ahead starts t remaining octets (block steps)
-block_of_shape rate rate' invert invert' keep keep' ahead ahead' t t' remaining steps steps' starts starts' octets
-    octets' block er ei ek ea et es eo en is =
-    subst (λ (k : ℕ). IsBlock rate invert k ahead starts t remaining octets (block steps)) ek
-    (subst (λ (a : ℕ). IsBlock rate invert keep' a starts t remaining octets (block steps)) ea
-    (subst (λ (r : Rate). IsBlock r invert keep' ahead' starts t remaining octets (block steps)) er
-    (subst (λ (i : Bool). IsBlock rate' i keep' ahead' starts t remaining octets (block steps)) ei
-    (subst (λ (s : Option ℕ). IsBlock rate' invert' keep' ahead' s t remaining octets (block steps)) es
-    (subst (λ (u : ℕ). IsBlock rate' invert' keep' ahead' starts' u remaining octets (block steps)) et
-    (subst (λ (o : List ℕ). IsBlock rate' invert' keep' ahead' starts' t' remaining o (block steps)) eo
-    (subst (λ (n : ℕ). IsBlock rate' invert' keep' ahead' starts' t' remaining octets' (block n)) en is)))))))
-
-pub find-requires-clause-start : goal.find-requires-clause-start
-find-requires-clause-start c =
-    some_start c.take_steps.new.self.starts (subst (λ (s : Option ℕ). ForSome s (λ register. register < 64))
-    (sym (c.take_steps.ensures.same.4 ∙ c.begin.ensures.place.2)) c.requires.start)
+pub end_register-requires-clause-bits : goal.end_register-requires-clause-bits
+end_register-requires-clause-bits c =
+    let last = c.least_register-last.result in
+    let survivors = reverse (take (length c.args.bits.now) c.deref.result.now) in
+    let bits = c.trace_back-start.new.bits in
+    let digits : All (λ b. b < 2) (take c.args.kept bits) = All-take (λ b. b < 2) c.args.kept bits
+    (All-same (λ b. b < 2) bits (reverse (past_of survivors last)) c.trace_back-start.ensures.bits
+    (All-reverse (past_of survivors last) (past_of_small survivors last c.least_register-last.ensures.register))) in
+    λ k lt. digits k 0 lt
 
 pub returns-clause-block : goal.returns-clause-block
 returns-clause-block c remaining steps kept =
-    let s = c.args.self.now in
-    let v = c.take_steps.new.self in
-    let size = c.steps_len-size.result in
-    let octets = c.args.octets.now in
-    let bits = length c.args.bits.now in
-    let begun = c.begin.ensures.same in
-    let same = c.take_steps.ensures.same in
-    let inside = c.self.invariant in
-    let er : v.rate ≡ s.rate = same.0 ∙ begun.0 ∙ inside.0 ∙ ap (λ (w : WindowShape). w.rate) c.self.view_is in
-    let ei : v.invert ≡ s.invert = same.1 ∙ begun.1 ∙ inside.1 ∙ ap (λ (w : WindowShape). w.invert) c.self.view_is in
-    let ek : v.keep ≡ s.keep = same.2 ∙ begun.2 ∙ inside.2 ∙ ap (λ (w : WindowShape). w.keep) c.self.view_is in
-    let ea : v.ahead ≡ s.ahead = same.3 ∙ begun.3 ∙ inside.3 ∙ ap (λ (w : WindowShape). w.ahead) c.self.view_is in
-    let filled : v.filled ≡ bits = omega (arith, c.take_steps.ensures.steps, c.begin.ensures.place.1) in
-    let limit : window_steps s.keep s.ahead remaining ≡ window_steps v.keep v.ahead remaining = omega (arith, ek, ea) in
-    let kept_here : kept_steps s.keep s.ahead remaining ≡ kept_steps v.keep v.ahead remaining
-    =
-    ap (λ (k : ℕ). kept_steps k s.ahead remaining) (sym ek)
-    ∙ ap (λ (a : ℕ). kept_steps v.keep a remaining) (sym ea) in
-    block_of_shape s.rate v.rate s.invert v.invert s.keep v.keep s.ahead v.ahead c.args.t v.t remaining bits v.filled
-    c.args.starts v.starts octets (take size octets ++ drop size octets)
-    (λ (n : ℕ). record {
-      start = c.find.result.start;
-      steps = n;
-      kept = c.args.kept;
-      metric = c.find.result.metric;
-      bits = c.find.new.bits;
-      end_state = c.find.result.end_state;
-      dropped = 0;
-    })
-    er ei ek ea (same.5 ∙ c.begin.ensures.place.0) (same.4 ∙ c.begin.ensures.place.2)
-    (take-append-drop size octets) filled
-    (c.find.ensures.block (take size octets) (drop size octets) remaining
-    (c.take_steps.ensures.holds [] c.begin.ensures.holds) (filled ∙ steps ∙ limit) (kept ∙ kept_here))
+    let shape : WindowShape = c.self.inside.shape in
+    let starts = starts_from c.args.starts in
+    let t : ℕ = c.args.t in
+    let octets : List ℕ = c.args.octets.now in
+    let piece : List ℕ = take c.steps_len-size.result octets in
+    let firsts : List ℕ = c.first_sums-sums.result in
+    let sums : List ℕ = c.run.new.sums in
+    let survivors : List ℕ = c.run.new.survivors in
+    let count : ℕ = length survivors in
+    let last : ℕ = c.least_register-last.result in
+    let bits : List ℕ = c.trace_back-start.new.bits in
+    let keep : shape.keep ≡ c.args.self.now.keep = ap (λ (w : WindowShape). w.keep) c.self.view_is in
+    let ahead : shape.ahead ≡ c.args.self.now.ahead = ap (λ (w : WindowShape). w.ahead) c.self.view_is in
+    let room : length c.args.bits.now ≤ length c.deref_mut.result.now =
+    omega (arith, keep, ahead, c.requires.steps, c.self.invariant.0, c.deref_mut.ensures.len) in
+    let long : count ≡ length c.args.bits.now =
+    c.run.auto.survivors ∙ length-take-le (length c.args.bits.now - 0) c.deref_mut.result.now (omega (arith, room)) ∙ omega arith in
+    let kept_there : take (length c.args.bits.now) c.deref.result.now ≡ survivors =
+    let before = c.deref_mut.result.now in
+    let all : List ℕ = put_mid 0 (length c.args.bits.now - 0) before survivors in
+    let same : length all ≡ c.self.inside.survivors.len =
+    length-mid 0 (length c.args.bits.now - 0) before survivors (omega (arith, room)) (omega (arith, long))
+    ∙ c.deref_mut.ensures.len in
+    ap (take (length c.args.bits.now)) (c.deref.ensures.value ∙ with_items_is c.self.inside.survivors all same)
+    ∙ take-put_mid 0 (length c.args.bits.now - 0) before survivors (length c.args.bits.now)
+    (omega (arith, long)) (omega arith) in
+    let some = some_start c.args.starts c.requires.start in
+    let bytes : All (λ y. y < 256) octets = All-from_get_or (λ y. y < 256) octets 0
+    (λ i lt. omega (arith, c.type_inv.octets i)) in
+    let none : 0 + count ≡ count = omega arith in
+    let size : length piece ≡ steps_size shape.rate t (0 + count) =
+    c.run.ensures.carries.size ∙ ap (steps_size shape.rate t) (sym none) in
+    let best : AreBest (total_of shape.rate shape.invert t firsts piece) (0 + count) sums (reverse survivors) =
+    subst (AreBest (total_of shape.rate shape.invert t firsts piece) (0 + count) sums) (append-nil (reverse survivors))
+    (c.run.ensures.carries.carries t 0 firsts [] [] (omega arith) (sym (steps_size-zero shape.rate t))
+    (AreBest-none (total_of shape.rate shape.invert t firsts []) firsts (λ register below. omega arith))) in
+    let found = IsBest-from_columns starts shape.rate shape.invert t (0 + count) last firsts piece sums
+    (reverse survivors)
+    c.first_sums-sums.ensures some.0 some.1 some.2 size
+    (All-take (λ y. y < 256) c.steps_len-size.result octets bytes)
+    (omega (arith, size, long, keep, ahead, c.requires.steps, c.self.invariant.1, steps_size-most shape.rate t (0 + count))) best
+    c.least_register-last.ensures in
+    let P : List ℕ → ℕ → List ℕ → WindowShape → Type 0 = λ v first traced w.
+    IsBest starts w.rate w.invert t v first traced
+    × (slice_index sums last ≡ cost (path w.rate w.invert t first traced) v) in
+    let whole : piece ≡ take (steps_size c.args.self.now.rate t (length c.args.bits.now)) octets =
+    ap (λ n. take n octets) c.steps_len-size.ensures
+    ∙ ap (λ (w : WindowShape). take (steps_size w.rate t (length c.args.bits.now)) octets) c.self.view_is in
+    let there = subst (P (take (steps_size c.args.self.now.rate t (length c.args.bits.now)) octets)
+    c.trace_back-start.result bits) c.self.view_is
+    (subst (λ v. P v c.trace_back-start.result bits shape) whole
+    (subst (λ first. P piece first bits shape) (sym (c.trace_back-start.ensures.start
+    ∙ ap (λ (rows : List ℕ). start_of (reverse rows) last) kept_there))
+    (subst (λ traced. P piece (start_of (reverse survivors) last) traced shape) (sym (c.trace_back-start.ensures.bits
+    ∙ ap (λ (rows : List ℕ). reverse (past_of (reverse rows) last)) kept_there))
+    found))) in
+    record {
+      steps = steps;
+      kept = kept;
+      best = there.0;
+      metric = c.from.ensures ∙ there.1;
+      end_state = c.end_register.ensures.value;
+      dropped = refl;
+    }

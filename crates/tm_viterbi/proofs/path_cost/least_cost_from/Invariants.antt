@@ -2,7 +2,7 @@ use Rattle.std.proofs.Common.{◌≡◌, ◌≤◌, ◌+◌, ◌-◌, ◌*◌, �
 use Rattle.tm_conv.specs.Path.{steps_size}
 use Rattle.tm_viterbi.specs.Walk.{AreBest}
 use Rattle.tm_viterbi.specs.Totals.{total_of, AreAtMost}
-use Rattle.tm_viterbi.proofs.whole.least_cost_from.Given as goal
+use Rattle.tm_viterbi.proofs.path_cost.least_cost_from.Given as goal
 
 abbrev pub invariant-loop-at : goal.invariant-loop-at
 invariant-loop-at l = record {

@@ -1,4 +1,4 @@
-use Rattle.tm_viterbi.proofs.whole.least_cost.Goals as goal
+use Rattle.tm_viterbi.proofs.path_cost.least_cost.Goals as goal
 
 pub least_cost_from-requires-clause-steps : goal.least_cost_from-requires-clause-steps
 least_cost_from-requires-clause-steps c = c.requires

@@ -1,6 +1,6 @@
 use Rattle.std.proofs.Common.{◌≡◌, ◌≤◌, ◌<◌, ◌-◌}
 use Rattle.tm_conv.specs.Path.{steps_size}
-use Rattle.tm_viterbi.proofs.stream.count_steps.Given as goal
+use Rattle.tm_viterbi.proofs.path_cost.count_steps.Given as goal
 
 abbrev pub invariant-loop-count : goal.invariant-loop-count
 invariant-loop-count l = record {

@@ -2,7 +2,7 @@ use Rattle.std.proofs.Common.{◌∙◌, sym, arith}
 use Rattle.tm_conv.proofs.Paths.{steps_size-more}
 use Rattle.tm_viterbi.proofs.Carrying.{one_step}
 use Rattle.tm_viterbi.proofs.PassSteps.{period_more}
-use Rattle.tm_viterbi.proofs.stream.count_steps.Goals as goal
+use Rattle.tm_viterbi.proofs.path_cost.count_steps.Goals as goal
 
 pub loop-count-init : goal.loop-count-init
 loop-count-init c = record {

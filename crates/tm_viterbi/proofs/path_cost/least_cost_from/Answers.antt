@@ -12,10 +12,9 @@ use Rattle.tm_viterbi.specs.Totals.{total_of}
 use Rattle.tm_viterbi.specs.declared.block.Start.{Start}
 use Rattle.tm_viterbi.specs.declared.block.Start.TheVariants.{Zero, Any}
 use Rattle.tm_viterbi.proofs.Walk.{AreBest-none}
-use Rattle.tm_viterbi.proofs.Handing.{some_start}
 use Rattle.tm_viterbi.proofs.LeastCost.{steps_le, step_left, prefix_and_piece}
-use Rattle.tm_viterbi.proofs.Final.{IsBest-from_columns}
-use Rattle.tm_viterbi.proofs.whole.least_cost_from.Goals as goal
+use Rattle.tm_viterbi.proofs.Final.{some_start, IsBest-from_columns}
+use Rattle.tm_viterbi.proofs.path_cost.least_cost_from.Goals as goal
 use Rattle.tm_conv.proofs.Sizes.{steps_size-add, steps_size-least, steps_size-most}
 
 small : (b : Bool) → cond b 0 (2 ^ 30) ≤ 2 ^ 30
