@@ -4,7 +4,7 @@ use Rattle.std.proofs.lemmas.List.{drop-append-le}
 use Rattle.tm_viterbi.specs.Settings.{Settings}
 use Rattle.tm_viterbi.specs.Due.{Place}
 use Rattle.tm_viterbi.proofs.Closing.{more_octets}
-use Rattle.tm_windows.specs.Followed.{Windows, Beginning, Spot, starts_after, moved, DropsBy, BeginsBy, Begins, IsUnseen, BeginsLast}
+use Rattle.tm_windows.specs.Windows.{Windows, Beginning, Spot, starts_after, moved, DropsBy, BeginsBy, Begins, IsUnseen, BeginsLast}
 use Rattle.tm_windows.proofs.Slips.{IsSlip-one, IsSlip-within, IsSlip-prefix}
 
 -- ---- the only one

@@ -15,8 +15,7 @@ use Rattle.tm_viterbi.specs.Due.{Place, Closes, after_block}
 use Rattle.tm_viterbi.proofs.HasBlocks.{HasBest, HasStart, whole_steps, has_block as has_last_block}
 use Rattle.tm_viterbi.proofs.OneList.{many}
 use Rattle.tm_windows.specs.Slip.{octets_seen}
-use Rattle.tm_windows.specs.Followed.{Windows, Beginning, Spot, first_spot, moved, DropsBy, Begins, IsUnseen, BeginsLast, undropped, ClosesAt, spot_after, Followed, closing_size, IsLast, AreFollowedOf}
-use Rattle.tm_windows.specs.Windows.{IsSeen}
+use Rattle.tm_windows.specs.Windows.{Windows, Beginning, Spot, first_spot, moved, DropsBy, Begins, IsUnseen, BeginsLast, undropped, ClosesAt, spot_after, Followed, closing_size, IsLast, AreBlocksIn, IsSeen}
 use Rattle.tm_windows.proofs.Phases.{period_size-most}
 use Rattle.tm_windows.proofs.Slips.{IsSlip-exists}
 use Rattle.tm_windows.proofs.Beginnings.{begins-within}
@@ -244,7 +243,7 @@ start-small Zero = λ register is. (let e : 0 ≡ register = cc in omega (arith,
 start-small Any = λ register is. absurd (cc)
 
 pub followed-exists : HasBest → (w : Windows) (octets : List ℕ) → 0 < w.settings.keep → IsSeen w
-    → (blocks : List WindowBlock) × (left : ℕ) × AreFollowedOf w octets blocks left
+    → (blocks : List WindowBlock) × (left : ℕ) × AreBlocksIn w octets blocks left
 followed-exists best w octets wide seen =
     let s = w.settings in
     let e = ends best w seen wide (length octets) (first_spot w octets) (start-small s.start) (omega arith) in

@@ -11,8 +11,7 @@ use Rattle.tm_viterbi.specs.Blocks.{AreSteps}
 use Rattle.tm_viterbi.specs.Due.{Place}
 use Rattle.tm_viterbi.proofs.Closing.{more_octets, kept_is, Closes-append, after-append}
 use Rattle.tm_viterbi.proofs.OneList.{OneBest, one_block, many}
-use Rattle.tm_windows.specs.Followed.{Windows, Beginning, Spot, first_spot, moved, DropsBy, BeginsBy, Begins, BeginsLast, undropped, ClosesAt, spot_after, Followed, AreFollowedFirst, closing_size, IsOpenAt, AreFollowedDue, IsLast, AreFollowedOf}
-use Rattle.tm_windows.specs.Windows.{IsSeen}
+use Rattle.tm_windows.specs.Windows.{Windows, Beginning, Spot, first_spot, moved, DropsBy, BeginsBy, Begins, BeginsLast, undropped, ClosesAt, spot_after, Followed, AreFirstIn, closing_size, IsOpenAt, AreDueIn, IsLast, AreBlocksIn, IsSeen}
 use Rattle.tm_windows.proofs.Slips.{IsSlip-within}
 use Rattle.tm_windows.proofs.Beginnings.{begins-one, unseen-none, begins_last-one, moved-place, begins-within, longer_beginning, longer_spot, begins-more}
 
@@ -101,7 +100,7 @@ both-stop one w from to at blocks others h k stops ends =
 -- ---- the first blocks
 
 pub followed-first : OneBest → (w : Windows) (octets : List ℕ) (first blocks : List WindowBlock) (left : ℕ)
-    → AreFollowedFirst w octets first → AreFollowedOf w octets blocks left → (rest : List WindowBlock)
+    → AreFirstIn w octets first → AreBlocksIn w octets blocks left → (rest : List WindowBlock)
     × (blocks ≡ first ++ rest)
 followed-first one w octets first blocks left h all =
     elim (one-longer one w (first_spot w octets) h.0 all.to first all.done h.1 all.closed) as
@@ -147,11 +146,11 @@ closed-more w octets more first to h =
     (followed-more w (first_spot w octets) to first more h)
 
 pub followed-prefix : (w : Windows) (octets more : List ℕ) (first : List WindowBlock)
-    → AreFollowedFirst w octets first → AreFollowedFirst w (octets ++ more) first
+    → AreFirstIn w octets first → AreFirstIn w (octets ++ more) first
 followed-prefix w octets more first h = (longer_spot h.0 more, closed-more w octets more first h.0 h.1)
 
 pub followed-longer : OneBest → (w : Windows) (octets more : List ℕ) (due later : List WindowBlock)
-    → AreFollowedDue w octets due → AreFollowedDue w (octets ++ more) later → (rest : List WindowBlock)
+    → AreDueIn w octets due → AreDueIn w (octets ++ more) later → (rest : List WindowBlock)
     × (later ≡ due ++ rest)
 followed-longer one w octets more due later h k =
     elim (one-longer one w (first_spot w (octets ++ more)) (longer_spot h.to more) k.to due later
@@ -232,7 +231,7 @@ last-or_none s b zero last h = inl (refl, h)
 last-or_none s b (suc n) last h = inr (h.0, h.1)
 
 pub followed-due : OneBest → (w : Windows) (octets : List ℕ) (due blocks : List WindowBlock) (left : ℕ) → IsSeen w
-    → AreFollowedDue w octets due → AreFollowedOf w octets blocks left → ((blocks ≡ []) × (due ≡ []))
+    → AreDueIn w octets due → AreBlocksIn w octets blocks left → ((blocks ≡ []) × (due ≡ []))
     ⊎ ((last : WindowBlock) × (blocks ≡ due ++ last ∷ []))
 followed-due one w octets due blocks left seen h all =
     let from = first_spot w octets in
@@ -275,7 +274,7 @@ rest-one one s b n m last others left right h k =
     )
 
 pub followed-one : OneBest → (w : Windows) (octets : List ℕ) (blocks others : List WindowBlock) (left right : ℕ)
-    → AreFollowedOf w octets blocks left → AreFollowedOf w octets others right → (blocks ≡ others) × (left ≡ right)
+    → AreBlocksIn w octets blocks left → AreBlocksIn w octets others right → (blocks ≡ others) × (left ≡ right)
 followed-one one w octets blocks others left right h k =
     let both = both-stop one w (first_spot w octets) h.to k.to h.done k.done h.closed k.closed
     (last-stops w h.to h.window h.count h.begins h.steps h.few)
@@ -291,7 +290,7 @@ followed-one one w octets blocks others left right h k =
 
 -- ---- no octets
 
-pub followed-none : (w : Windows) → AreFollowedOf w [] [] 0
+pub followed-none : (w : Windows) → AreBlocksIn w [] [] 0
 followed-none w = record {
   done = [];
   to = first_spot w [];
@@ -311,7 +310,7 @@ followed-none w = record {
   rest = omega (arith, steps_size-zero w.settings.rate 0);
 }
 
-pub followed-no_due : (w : Windows) → AreFollowedDue w [] []
+pub followed-no_due : (w : Windows) → AreDueIn w [] []
 followed-no_due w = record {
   to = first_spot w [];
   closed = refl;

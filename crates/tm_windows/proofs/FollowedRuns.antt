@@ -1,20 +1,17 @@
 -- Closed windows one after another, where octets may be dropped before each.
-use Rattle.std.proofs.Common.{◌≡◌, inl, inr, ℕ, zero, suc, ◌+◌, ◌*◌, ◌<◌, ◌≤◌, ◌∙◌, ◌++◌, refl, sym, ap, subst, arith, unwrap_or, List, [], ◌∷◌, Option, Some, None, length, length-drop, length-append, drop, drop-drop, mul-le-mul_right}
-use Rattle.std.proofs.lemmas.List.{append-nil, drop-append-le}
+use Rattle.std.proofs.Common.{◌≡◌, inl, inr, ℕ, ◌+◌, ◌*◌, ◌<◌, ◌≤◌, ◌∙◌, ◌++◌, refl, sym, ap, subst, arith, unwrap_or, List, [], ◌∷◌, Option, Some, None, length, length-drop, drop, drop-drop}
+use Rattle.std.specs.Option.{is_some}
+use Rattle.std.proofs.lemmas.List.{append-nil}
 use Rattle.tm_conv.specs.Path.{steps_size}
 use Rattle.tm_conv.proofs.Paths.{steps_size-zero}
 use Rattle.tm_conv.proofs.Sizes.{steps_size-le, steps_size-add}
 use Rattle.tm_viterbi.specs.Settings.{Settings}
 use Rattle.tm_viterbi.specs.WindowBlock.{WindowBlock}
-use Rattle.tm_viterbi.specs.Blocks.{IsBlock}
 use Rattle.tm_viterbi.specs.Due.{Place, Closes, Closed, after_block}
-use Rattle.tm_viterbi.specs.declared.window_decoder.WindowShape.{WindowShape}
-use Rattle.tm_viterbi.proofs.Closing.{more_octets, kept_is, Closes-append}
-use Rattle.tm_windows.specs.Slip.{octets_seen, IsSlip}
-use Rattle.tm_windows.specs.Candidates.{ClosesWith}
-use Rattle.tm_windows.specs.Followed.{Windows, Beginning, Spot, starts_after, moved, DropsBy, Begins, BeginsLast, dropped_at, ClosesAt, spot_after, Followed, IsLast, slip_at, slips_of, kept_of, undecided, IsUndropped, AreUndropped}
-use Rattle.tm_windows.specs.Gathered.{IsAt}
-use Rattle.tm_windows.proofs.Slips.{IsSlip-prefix, IsSlip-within}
+use Rattle.tm_viterbi.proofs.Closing.{more_octets, kept_is}
+use Rattle.tm_windows.specs.Slip.{octets_seen}
+use Rattle.tm_windows.specs.Windows.{Windows, Beginning, Spot, DropsBy, Begins, BeginsLast, dropped_at, ClosesAt, spot_after, Followed, slip_at, slips_of, kept_of, undecided, IsUndropped, AreUndropped}
+use Rattle.tm_windows.specs.Queue.{IsAt}
 use Rattle.tm_windows.proofs.Beginnings.{begins-one, begins-within, longer_spot, begins-more}
 use Rattle.tm_windows.proofs.FollowedExists.{undropped-same}
 use Rattle.tm_windows.proofs.Runs.{more_times}
@@ -48,30 +45,6 @@ closes-dropped s b block closes = (
   refl,
 )
 
--- the same, as the call that closes it says: whatever octets come after those that are held
-pub closes-now : (s s' : WindowShape) (starts : Option ℕ) (t : ℕ) (held slice rest : List ℕ) (block : WindowBlock)
-    → s' ≡ s → slice ≡ held
-    → ClosesWith s' (place_of starts t slice) block → ClosesWith s (place_of starts t (held ++ rest)) block
-unfolding more_octets
-closes-now s s' starts t held slice rest block es eo closes =
-    Closes-append s.rate s.invert s.keep s.ahead (place_of starts t held) block rest
-    (subst (λ (o : List ℕ). ClosesWith s (place_of starts t o) block) eo
-    (subst (λ (v : WindowShape). ClosesWith v (place_of starts t slice) block) es closes))
-
--- where the next window is looked for
-pub next-spot : (s : Settings) (starts : Option ℕ) (t k next size : ℕ) (held left rest : List ℕ) (block : WindowBlock)
-    → block.end_state ≡ next
-    → block.kept ≡ s.keep → size ≡ steps_size s.rate t s.keep → left ≡ drop size held → size ≤ length held
-    → ◌≡◌ {A = Spot} (spot_after s (record { dropped = k; place = place_of starts t (held ++ rest) })
-    (dropped_at k block))
-    (record { place = place_of (Some next) (t + s.keep) (left ++ rest); decided = None })
-next-spot s starts t k next size held left rest block ee ek es el le =
-    let same : steps_size s.rate t block.kept ≡ size = ap (steps_size s.rate t) ek ∙ sym es in
-    let octets : drop (steps_size s.rate t block.kept) (held ++ rest) ≡ left ++ rest =
-    ap (λ (n : ℕ). drop n (held ++ rest)) same
-    ∙ drop-append-le size held rest le ∙ ap (λ (o : List ℕ). o ++ rest) (sym el) in
-    λ i. record { place = place_of (Some (ee i)) (t + ek i) (octets i); decided = None }
-
 pub kept-append : (xs ys : List WindowBlock) → kept_of (xs ++ ys) ≡ kept_of xs + kept_of ys
 kept-append [] ys = omega arith
 kept-append (x ∷ xs) ys = omega (arith, kept-append xs ys)
@@ -90,7 +63,7 @@ unfollowed-all w none t count octets k some less =
     unfollowed-undropped w none (t + k * w.settings.keep) (drop
     (steps_size w.settings.rate t (k * w.settings.keep)) octets)
 
-undropped-begins : (w : Windows) (at : Place) → IsUndropped w at.t at.octets
+pub undropped-begins : (w : Windows) (at : Place) → IsUndropped w at.t at.octets
     → Begins w (record { place = at; decided = None }) (record { dropped = 0; place = at })
 undropped-begins w at still = go w.seen refl
   where
@@ -104,13 +77,13 @@ unfollowed-begins w none at = undropped-begins w at (unfollowed-undropped w none
 
 -- a spot after closed windows, before any octet is dropped there
 pub at-undecided : (w : Windows) (seen : Option ℕ) → w.seen ≡ seen → (spot : Spot) (at : Place)
-    → spot ≡ record { place = at; decided = None } → IsAt w spot (undecided seen) at
+    → spot ≡ record { place = at; decided = None } → IsAt w spot (undecided (is_some seen)) at
 at-undecided w None is spot at there =
     subst (λ (v : Spot). Begins w v (record { dropped = 0; place = at })) (sym there) (unfollowed-begins w is at)
 at-undecided w (Some steps) is spot at there = there
 
 -- nothing is dropped before the second of them
-next-undropped : (w : Windows) (t kept count : ℕ) (octets : List ℕ) → kept ≡ w.settings.keep → 1 < count
+pub next-undropped : (w : Windows) (t kept count : ℕ) (octets : List ℕ) → kept ≡ w.settings.keep → 1 < count
     → AreUndropped w t octets count
     → IsUndropped w (t + kept) (drop (steps_size w.settings.rate t kept) octets)
 next-undropped w t kept count octets is some still =
@@ -119,7 +92,7 @@ next-undropped w t kept count octets is some still =
     subst (λ (n : ℕ). IsUndropped w (t + n) (drop (steps_size s.rate t n) octets)) one (still 1 (omega arith) some)
 
 -- nor before those after it
-later-undropped : (w : Windows) (t kept count n : ℕ) (octets : List ℕ) → kept ≡ w.settings.keep → n < count
+pub later-undropped : (w : Windows) (t kept count n : ℕ) (octets : List ℕ) → kept ≡ w.settings.keep → n < count
     → AreUndropped w t octets count
     → AreUndropped w (t + kept) (drop (steps_size w.settings.rate t kept) octets) n
 later-undropped w t kept count n octets is lt still k some less =
@@ -136,29 +109,6 @@ later-undropped w t kept count n octets is lt still k some less =
     (subst (λ (o : List ℕ). IsUndropped w (t + (k + 1) * s.keep) o) rest
     (still (k + 1) (omega arith) (omega (arith, less, lt))))
 
-more-undropped : (w : Windows) (t : ℕ) (octets rest : List ℕ) → IsUndropped w t octets
-    → IsUndropped w t (octets ++ rest)
-more-undropped w t octets rest still = λ steps is.
-    (let found = still steps is in
-    let s = w.settings in (
-      omega (arith, found.0, length-append octets rest),
-      IsSlip-prefix s.rate s.invert t steps octets rest 0 found.0 found.1,
-    ))
-
--- nor before the first of them, whatever octets come after those that are held
-pub all-undropped : (w : Windows) (t count n : ℕ) (held rest : List ℕ) → n ≤ count
-    → steps_size w.settings.rate t (count * w.settings.keep) ≤ length held → AreUndropped w t held count
-    → AreUndropped w t (held ++ rest) n
-all-undropped w t count n held rest le room still k some less =
-    let s = w.settings in
-    let size : ℕ = steps_size s.rate t (k * s.keep) in
-    let within : k * s.keep ≤ count * s.keep = mul-le-mul_right s.keep
-    (let few : k ≤ count = omega (arith, less, le) in few) in
-    let inside : size ≤ length held = omega (arith, room, steps_size-le s.rate t (k * s.keep) (count * s.keep) within)
-    in
-    subst (λ (o : List ℕ). IsUndropped w (t + k * s.keep) o) (sym (drop-append-le size held rest inside))
-    (more-undropped w (t + k * s.keep) (drop size held) rest (still k some (omega (arith, less, le))))
-
 closes-plain : (s : Settings) (at : Place) (x : WindowBlock) → Closes s.rate s.invert s.keep s.ahead at x
     → ClosesAt s (record { dropped = 0; place = at }) x
 closes-plain s at x h = (
@@ -166,7 +116,7 @@ closes-plain s at x h = (
   h.is_block.dropped,
 )
 
-run-followed : (w : Windows) (spot : Spot) (at to : Place) (x : WindowBlock) (xs : List WindowBlock)
+pub run-followed : (w : Windows) (spot : Spot) (at to : Place) (x : WindowBlock) (xs : List WindowBlock)
     → Begins w spot (record { dropped = 0; place = at }) → Closed w.settings.rate w.settings.invert w.settings.keep
     w.settings.ahead at (x ∷ xs) to
     → AreUndropped w at.t at.octets (length (x ∷ xs)) → Followed w spot (x ∷ xs) (record { place = to; decided = None })
@@ -229,29 +179,6 @@ closed-slips s from to [] h = refl
 closed-slips s from to (x ∷ xs) h =
     omega (arith, ap slip_at h.0.is_block.dropped, closed-slips s (after_block s.rate from x) to xs h.1)
 
--- ---- how many octets are dropped
-
-pub decided-at : (w : Windows) (steps : ℕ) → w.seen ≡ Some steps
-    → (starts now : Option ℕ) (t k : ℕ) (held left rest : List ℕ)
-    → octets_seen w.settings.rate t steps ≤ length held → IsSlip w.settings.rate w.settings.invert t steps held k
-    → left ≡ drop k held
-    → now ≡ starts_after k starts
-    → Begins w (record { place = place_of starts t (held ++ rest); decided = None })
-    (record { dropped = k; place = place_of now t (left ++ rest) })
-decided-at w steps seen starts now t k held left rest many slip el es =
-    let s = w.settings in
-    let within : k ≤ length held = omega (arith, many, IsSlip-within s.rate s.invert t steps held k slip) in
-    let octets : left ++ rest ≡ drop k (held ++ rest) = ap (λ (o : List ℕ). o ++ rest) el
-    ∙ sym (drop-append-le k held rest within) in
-    let there : place_of now t (left ++ rest) ≡ moved k (place_of starts t (held ++ rest)) =
-    (λ i. place_of (es i) t (octets i)) in
-    subst (λ (o : Option ℕ). DropsBy s o (place_of starts t (held ++ rest))
-    (record { dropped = k; place = place_of now t (left ++ rest) })) (sym seen) (
-      omega (arith, many, length-append held rest),
-      IsSlip-prefix s.rate s.invert t steps held rest k many slip,
-      there,
-    )
-
 -- ---- octets that follow
 
 pub at-more : (w : Windows) (spot : Spot) (dropped starts : Option ℕ) (t : ℕ) (held piece : List ℕ)
@@ -271,18 +198,6 @@ pub last-begins : (w : Windows) (spot : Spot) (dropped : Option ℕ) (at : Place
 last-begins w spot (Some k) at h few = inl h
 last-begins w spot None at h few =
     subst (λ (v : Spot). BeginsLast w v (record { dropped = 0; place = at })) (sym h) (inr ((refl, few refl), refl))
-
-pub is-last : (s : Settings) (b : Beginning) (n : ℕ) (block : WindowBlock) → 0 < n
-    → IsBlock s.rate s.invert s.keep s.ahead b.place.starts b.place.t n b.place.octets block
-    → IsLast s b n (dropped_at b.dropped block ∷ [])
-is-last s b zero block some is = absurd (omega (arith, some))
-is-last s b (suc n) block some is = (
-  dropped_at b.dropped block,
-  refl,
-  refl,
-  subst (λ (v : WindowBlock). IsBlock s.rate s.invert s.keep s.ahead b.place.starts b.place.t (suc n) b.place.octets v)
-      (sym (undropped-same block is.dropped)) is,
-)
 
 -- ---- how many windows are closed
 

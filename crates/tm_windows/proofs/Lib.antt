@@ -3,13 +3,18 @@ mod Least
 pub mod Phases
 pub mod Slips
 mod Runs
-mod Stretches
+mod WindowRuns
 mod Endings
 mod Existing
 pub mod Beginnings
 pub mod FollowedOnce
 pub mod FollowedExists
-mod Undisturbed
-pub mod WindowLaws
+pub mod Undisturbed
 pub mod FollowedRuns
-pub mod Gatherings
+pub mod PlainWindows
+pub mod HeldOctets
+mod QueueRuns
+mod Queues
+mod LastWindow
+mod GivenPhase
+mod KeptBits

@@ -1,25 +1,26 @@
 -- Where no octet is ever dropped, the blocks are those of windows one after another: where the
 -- phase is not followed, and
 -- where symbols were not disturbed.
-use Rattle.std.proofs.Common.{◌≡◌, ◌⊎◌, inl, inr, ℕ, zero, suc, ◌+◌, ◌<◌, ◌≤◌, ◌∙◌, refl, sym, ap, subst, arith, List, [], ◌∷◌, Option, Some, None, length, take, drop}
+use Rattle.std.proofs.Common.{◌≡◌, ◌⊎◌, inl, inr, ℕ, zero, suc, ◌+◌, ◌-◌, ◌<◌, ◌≤◌, ◌∙◌, refl, sym, ap, subst, arith, List, [], ◌∷◌, Option, Some, None, length, take, drop}
 use Rattle.std.proofs.lemmas.List.Elements.{All-drop}
-use Rattle.tm_conv.specs.Path.{AreBits, path, register_after, steps_size}
+use Rattle.tm_conv.specs.Path.{AreBits, complement, path, register_after, steps_size}
 use Rattle.tm_conv.specs.Cost.{sure}
-use Rattle.tm_conv.proofs.Clean.{digits, length-sure}
+use Rattle.tm_conv.proofs.Clean.{bits-path, digits, length-sure}
+use Rattle.tm_conv.proofs.Complement.{path-complement}
 use Rattle.tm_conv.proofs.Paths.{length-path, steps_size-more}
 use Rattle.tm_conv.proofs.Sizes.{step_size_pos}
 use Rattle.tm_viterbi.specs.Settings.{Settings}
 use Rattle.tm_viterbi.specs.WindowBlock.{WindowBlock}
 use Rattle.tm_viterbi.specs.Blocks.{IsBlock, AreBlocks, AreBlocksOf}
 use Rattle.tm_viterbi.specs.Due.{Place, Closes, Closed, AreDue, AreFirst, after_block}
-use Rattle.tm_viterbi.specs.Clean.{sure_symbols}
-use Rattle.tm_viterbi.proofs.CleanBlocks.{prefix-octets, digits-take, register-small}
+use Rattle.tm_viterbi.specs.Clean.{sure_symbols, complemented_octets}
+use Rattle.tm_viterbi.proofs.CleanBlocks.{bits_of-digits, complemented-sure, digits-complement, digits-take, prefix-octets, register-small}
 use Rattle.tm_viterbi.proofs.Closing.{kept_is}
 use Rattle.tm_viterbi.proofs.LeastCost.{steps_le}
 use Rattle.tm_viterbi.proofs.OneList.{many}
 use Rattle.tm_viterbi.proofs.WholeBlocks.{all_blocks}
 use Rattle.tm_windows.specs.Slip.{IsSlip}
-use Rattle.tm_windows.specs.Followed.{Windows, Beginning, Spot, first_spot, moved, DropsBy, BeginsBy, Begins, BeginsLast, ClosesAt, spot_after, Followed, AreFollowedFirst, AreFollowedDue, closing_size, IsOpenAt, IsLast, AreFollowedOf}
+use Rattle.tm_windows.specs.Windows.{Windows, Beginning, Spot, first_spot, moved, DropsBy, BeginsBy, Begins, BeginsLast, ClosesAt, spot_after, Followed, AreFirstIn, AreDueIn, closing_size, IsOpenAt, IsLast, AreBlocksIn}
 use Rattle.tm_windows.proofs.Slips.{IsSlip-sure}
 use Rattle.tm_windows.proofs.Endings.{one_block}
 use Rattle.tm_windows.proofs.FollowedExists.{undropped-same}
@@ -80,7 +81,7 @@ plain w P never from to (x ∷ xs) here undropped h =
 
 plain_first : (w : Windows) (P : Place → Type 0) → NeverDrops w P → (octets : List ℕ) (blocks : List WindowBlock)
     → P (first_spot w octets).place
-    → AreFollowedFirst w octets blocks → AreFirst w.settings octets blocks
+    → AreFirstIn w octets blocks → AreFirst w.settings octets blocks
 plain_first w P never octets blocks here h =
     (h.0.place, (plain w P never (first_spot w octets) h.0 blocks here (inr refl) h.1).closed)
 
@@ -94,7 +95,7 @@ open-few w P never to here undropped (inr few) =
 
 plain_due : (w : Windows) (P : Place → Type 0) → NeverDrops w P → (octets : List ℕ) (blocks : List WindowBlock)
     → P (first_spot w octets).place
-    → AreFollowedDue w octets blocks → AreDue w.settings octets blocks
+    → AreDueIn w octets blocks → AreDue w.settings octets blocks
 plain_due w P never octets blocks here h =
     let there = plain w P never (first_spot w octets) h.to blocks here (inr refl) h.closed in
     record {
@@ -120,7 +121,7 @@ last-blocks s at (suc n) last few h =
 
 plain_blocks : (w : Windows) (P : Place → Type 0) → NeverDrops w P
     → (octets : List ℕ) (blocks : List WindowBlock) (left : ℕ) → P (first_spot w octets).place
-    → AreFollowedOf w octets blocks left → AreBlocksOf w.settings octets blocks left
+    → AreBlocksIn w octets blocks left → AreBlocksOf w.settings octets blocks left
 plain_blocks w P never octets blocks left here h =
     let s = w.settings in
     let there = plain w P never (first_spot w octets) h.to h.done here (inr refl) h.closed in
@@ -143,15 +144,15 @@ never-unseen w none = record {
 }
 
 pub unseen-first : (w : Windows) → w.seen ≡ None → (octets : List ℕ) (blocks : List WindowBlock)
-    → AreFollowedFirst w octets blocks → AreFirst w.settings octets blocks
+    → AreFirstIn w octets blocks → AreFirst w.settings octets blocks
 unseen-first w none octets blocks = plain_first w (λ at. Unit {0}) (never-unseen w none) octets blocks tt
 
 pub unseen-due : (w : Windows) → w.seen ≡ None → (octets : List ℕ) (blocks : List WindowBlock)
-    → AreFollowedDue w octets blocks → AreDue w.settings octets blocks
+    → AreDueIn w octets blocks → AreDue w.settings octets blocks
 unseen-due w none octets blocks = plain_due w (λ at. Unit {0}) (never-unseen w none) octets blocks tt
 
 pub unseen-blocks : (w : Windows) → w.seen ≡ None → (octets : List ℕ) (blocks : List WindowBlock) (left : ℕ)
-    → AreFollowedOf w octets blocks left
+    → AreBlocksIn w octets blocks left
     → AreBlocksOf w.settings octets blocks left
 unseen-blocks w none octets blocks left = plain_blocks w (λ at. Unit {0}) (never-unseen w none) octets blocks left tt
 
@@ -212,8 +213,23 @@ never-sure w = record { none = sure-none w.settings w.seen; next = sure-next w.s
 
 pub sure-blocks : (w : Windows) (register : ℕ) (bits : List ℕ) (blocks : List WindowBlock) (left : ℕ) → AreBits bits
     → register < 64
-    → AreFollowedOf w (sure_symbols w.settings register bits) blocks left
+    → AreBlocksIn w (sure_symbols w.settings register bits) blocks left
     → AreBlocksOf w.settings (sure_symbols w.settings register bits) blocks left
 sure-blocks w register bits blocks left are small =
     plain_blocks w (IsSure w.settings) (never-sure w) (sure_symbols w.settings register bits) blocks left
     (record { register = register; bits = bits; small = small; are = are; octets = refl })
+
+-- symbols complemented are those of the bits and the register complemented
+pub complemented-blocks : (w : Windows) (register : ℕ) (bits : List ℕ) (blocks : List WindowBlock) (left : ℕ)
+    → AreBits bits → register < 64
+    → AreBlocksIn w (complemented_octets (sure_symbols w.settings register bits)) blocks left
+    → AreBlocksOf w.settings (complemented_octets (sure_symbols w.settings register bits)) blocks left
+complemented-blocks w register bits blocks left are small h =
+    let s = w.settings in
+    let octets : complemented_octets (sure_symbols s register bits) ≡ sure_symbols s (63 - register) (complement bits) =
+    complemented-sure (path s.rate s.invert 0 register bits) (bits-path s.rate s.invert 0 register bits)
+    ∙ ap sure (sym (path-complement s.rate s.invert 0 register bits small are)) in
+    subst (λ (v : List ℕ). AreBlocksOf s v blocks left) (sym octets)
+    (sure-blocks w (63 - register) (complement bits) blocks left
+    (bits_of-digits (complement bits) (digits-complement bits)) (omega arith)
+    (subst (λ (v : List ℕ). AreBlocksIn w v blocks left) octets h))

@@ -1,13 +1,13 @@
--- Windows that were decoded from registers which were only taken to be their starts.
-use Rattle.std.specs.Prelude.{ℕ, ◌≡◌, ◌+◌, ◌*◌, ◌<◌, ◌≤◌, List, Option, drop, length, slice_index_or, vec_len}
+-- Windows that were decoded from registers which were only taken to be their starts, and settled.
+use Rattle.std.specs.Prelude.{ℕ, ◌≡◌, ◌+◌, ◌*◌, ◌<◌, ◌≤◌, List, ◌∷◌, Option, drop, length, map, slice_index_or, take, vec_len}
 use Rattle.std.specs.List.{All}
 use Rattle.tm_conv.specs.Path.{steps_size}
-use Rattle.tm_viterbi.specs.WindowBlock.{WindowBlock, undropped_block}
-use Rattle.tm_viterbi.specs.Blocks.{IsBlock}
+use Rattle.tm_viterbi.specs.WindowBlock.{WindowBlock}
 use Rattle.tm_viterbi.specs.Due.{Place, Closes, Closed}
 use Rattle.tm_viterbi.specs.declared.window_decoder.WindowShape.{WindowShape}
+use Rattle.tm_windows.specs.Windows.{dropped_at}
 use Rattle.tm_windows.specs.declared.candidate.Candidate.{Candidate}
-use Rattle.tm_windows.specs.declared.stretch.Stretch.{Stretch}
+use Rattle.tm_windows.specs.declared.window_run.WindowRun.{WindowRun}
 
 -- the window closes with this block
 abbrev pub ClosesWith : WindowShape → Place → WindowBlock → Type 0
@@ -18,16 +18,23 @@ abbrev pub ClosedWith : WindowShape → Place → List WindowBlock → Place →
 ClosedWith shape from blocks to = Closed shape.rate shape.invert shape.keep shape.ahead from blocks
     to
 
--- the block that a candidate is, all of whose steps but those ahead are kept
-abbrev pub block_of : WindowShape → Candidate → WindowBlock
-block_of shape c = undropped_block c.path.start (shape.keep + shape.ahead) shape.keep c.path.metric
-    c.bits.items c.path.end_state
+-- the block that a candidate is
+abbrev pub block_of : Candidate → WindowBlock
+block_of c = record {
+  start = c.path.start;
+  steps = c.steps;
+  kept = c.kept;
+  metric = c.path.metric;
+  bits = take c.steps c.bits.items;
+  end_state = c.path.end_state;
+  dropped = c.dropped;
+}
 
 -- it is the block of the window from step t on with the octets, from the registers that were taken
 -- to be its start set
 abbrev pub IsCandidate : WindowShape → ℕ → List ℕ → Candidate → Type 0
 IsCandidate shape t octets c = ClosesWith shape
-    (record { starts = c.starts; t = t; octets = octets }) (block_of shape c)
+    (record { starts = c.starts; t = t; octets = octets }) (block_of c)
 
 -- the candidates from number `from` to number `to` are those of windows one after another, of
 -- which number 0 begins at step t with the octets
@@ -42,18 +49,13 @@ abbrev pub HaveRoom : ℕ → List Candidate → Type 0
 HaveRoom steps candidates = All (λ c. vec_len c.bits ≡ steps) candidates
 
 -- the octets have the steps of so many windows, and one more
-abbrev pub HoldsWindows : Stretch → ℕ → Type 0
-HoldsWindows from count = steps_size from.shape.rate from.t
-    (count * from.shape.keep + from.shape.ahead + 1) ≤ length from.octets.now
+abbrev pub HoldsWindows : WindowRun → ℕ → Type 0
+HoldsWindows run count = steps_size run.shape.rate run.t
+    (count * run.shape.keep + run.shape.ahead + 1) ≤ length run.octets.now
 
 -- where the first of them begins
-abbrev pub stretch_place : Stretch → Place
-stretch_place from = record { starts = from.starts; t = from.t; octets = from.octets.now }
-
--- the block of the last window, which has so many steps, all of them kept
-abbrev pub IsLastBlock : Stretch → ℕ → WindowBlock → Type 0
-IsLastBlock from steps last = IsBlock from.shape.rate from.shape.invert from.shape.keep
-    from.shape.ahead from.starts from.t steps from.octets.now last
+abbrev pub run_place : WindowRun → Place
+run_place run = record { starts = run.starts; t = run.t; octets = run.octets.now }
 
 -- where a window begins, `count` windows after the one from step t on with the octets
 abbrev pub after_windows : WindowShape → ℕ → List ℕ → ℕ → Option ℕ → Place
@@ -63,3 +65,18 @@ after_windows shape t octets count starts =
       t = t + count * shape.keep;
       octets = drop (steps_size shape.rate t (count * shape.keep)) octets;
     }
+
+-- so many candidates are the blocks of windows one after another, and the window after them starts
+-- from here
+abbrev pub AreSettled : WindowRun → ℕ → List Candidate → Option ℕ → Type 0
+AreSettled run count candidates next = ClosedWith run.shape (run_place run)
+    (map block_of (take count candidates))
+    (after_windows run.shape run.t run.octets.now count next)
+
+-- the same of blocks, where so many octets were dropped before the first of them
+abbrev pub AreBlocksOfRun : WindowRun → (count dropped : ℕ) → List WindowBlock → Option ℕ → Type 0
+AreBlocksOfRun run count dropped blocks next =
+    (first : WindowBlock) × (others : List WindowBlock)
+    × (blocks ≡ dropped_at dropped first ∷ others)
+    × ClosedWith run.shape (run_place run) (first ∷ others)
+    (after_windows run.shape run.t run.octets.now count next)

@@ -1,9 +1,7 @@
 pub mod Phase
 pub mod Slip
-pub mod Candidates
-pub mod ClosedRun
-pub mod Sharing
-pub mod Followed
 pub mod Windows
-pub mod Gathered
-pub mod ParallelDecoding
+pub mod Candidates
+pub mod Sharing
+pub mod Queue
+pub mod Decoding

@@ -40,13 +40,12 @@ fn guess(
     if at < size || octets.len() - at < more {
         return 0;
     }
-    let bits = candidate.bits.as_mut_slice();
     let path = decoder.decode(
         None,
         first,
         before,
         &octets[at - size..],
-        &mut bits[..before + after],
+        &mut candidate.bits[0..before + after],
     );
     path.end_state
 }

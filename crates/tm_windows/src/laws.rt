@@ -1,11 +1,11 @@
-// What holds of the blocks of soft octets in windows, whether the phase is followed or not, over the definitions alone.
-ghost use Rattle.std.specs.Prelude.{◌≡◌, ◌<◌, ◌⊎◌, ℕ, List, [], ◌∷◌, ◌++◌};
+// What holds of the blocks of soft octets in windows, over the definitions alone.
+ghost use Rattle.std.specs.Prelude.{◌≡◌, ◌↔◌, ◌<◌, ◌⊎◌, ℕ, None, List, [], ◌∷◌, ◌++◌};
 ghost use Rattle.tm_conv.specs.Path.{AreBits, registers};
 ghost use Rattle.tm_viterbi.specs.Clean.{sure_symbols, complemented_octets};
 ghost use Rattle.tm_viterbi.specs.WindowBlock.{WindowBlock};
 ghost use Rattle.tm_viterbi.specs.Blocks.{AreBlocksOf};
-ghost use Rattle.tm_windows.specs.Followed.{Windows};
-ghost use Rattle.tm_windows.specs.Windows.{AreBlocksIn, AreDueIn, AreFirstIn, IsSeen};
+ghost use Rattle.tm_viterbi.specs.Due.{AreDue, AreFirst};
+ghost use Rattle.tm_windows.specs.Windows.{Windows, AreBlocksIn, AreDueIn, AreFirstIn, IsSeen};
 
 use tm_conv::best_path_law;
 
@@ -56,3 +56,16 @@ pub fn undisturbed_law()
         → AreBlocksIn w (complemented_octets (sure_symbols w.settings register bits)) blocks left
         → AreBlocksOf w.settings (complemented_octets (sure_symbols w.settings register bits)) blocks left }
 {}
+
+/// Where no slip is looked for no octet is dropped, and the blocks are the plain list of those of windows one after
+/// another. It does nothing.
+pub fn plain_windows_law()
+    ensures blocks { (w : Windows) (octets : List ℕ) (blocks : List WindowBlock) (left : ℕ) → w.seen ≡ None
+        → 0 < w.settings.keep → AreBlocksIn w octets blocks left ↔ AreBlocksOf w.settings octets blocks left }
+    ensures due { (w : Windows) (octets : List ℕ) (blocks : List WindowBlock) → w.seen ≡ None
+        → AreDueIn w octets blocks ↔ AreDue w.settings octets blocks }
+    ensures first { (w : Windows) (octets : List ℕ) (blocks : List WindowBlock) → w.seen ≡ None
+        → AreFirstIn w octets blocks ↔ AreFirst w.settings octets blocks }
+{
+    best_path_law();
+}

@@ -1,22 +1,31 @@
 // Windows decoded side by side.
-ghost use Rattle.std.specs.Prelude.{◌≡◌, ◌+◌, ◌*◌, ◌<◌, ◌≤◌, drop, length};
+ghost use Rattle.std.specs.Prelude.{◌≡◌, ◌+◌, ◌*◌, ◌<◌, ◌≤◌, IsTrue, drop, length};
 ghost use Rattle.std.specs.List.{All};
 ghost use Rattle.std.specs.Option.{ForSome};
 ghost use Rattle.std.specs.Thread.{IsSync};
 ghost use Rattle.tm_base.specs.Limits.{most_workers};
 ghost use Rattle.tm_conv.specs.Path.{steps_size, registers};
 ghost use Rattle.tm_viterbi.specs.WindowSizes.{window_bound};
-ghost use Rattle.tm_windows.specs.Candidates.{AreCandidates, HaveRoom};
+ghost use Rattle.tm_windows.specs.Candidates.{AreCandidates, HaveRoom, HoldsWindows};
 ghost use Rattle.tm_windows.specs.Sharing.{most_octets, most_candidates};
 
 use crate::candidate::Candidate;
-use crate::decoding::decode_run;
 use crate::guessing::known_or_guessed;
-use crate::stretch::Stretch;
+use crate::run::decode_each;
+use crate::window_run::WindowRun;
 use std::thread::{Threads, join_mut};
-use tm_base::Gate;
+use tm_base::{Gate, OpenGate};
 use tm_conv::steps_len;
 use tm_viterbi::{WindowDecoder, WindowShape};
+
+// The least windows that are shared out: a guess runs over some hundred steps, and is often wrong where few stand
+// ahead.
+const LEAST_SHARED_KEEP: usize = 1_024;
+
+const LEAST_SHARED_AHEAD: usize = 64;
+
+// The least steps that they keep together: one worker decodes fewer in the millisecond that a thread may take to begin.
+const LEAST_SHARED_STEPS: usize = 65_536;
 
 // One worker's windows, one after another.
 fn decode_part<G: Gate>(
@@ -43,13 +52,13 @@ fn decode_part<G: Gate>(
         return;
     }
     let starts = known_or_guessed(decoder, shape, &mut candidates[0], known, t, octets, at);
-    let from = Stretch {
+    let run = WindowRun {
         shape,
         starts,
         t,
         octets: &octets[at..],
     };
-    decode_run(gate, decoder, candidates, &from);
+    decode_each(gate, decoder, candidates, &run);
 }
 
 /// Decodes a window for each candidate, by at most as many workers as there are decoders: each has one part of the
@@ -172,4 +181,47 @@ fn decode_both<R: Threads + Sync, G: Gate + Sync>(
         )
     };
     join_mut(rt, &mut decode_first, &mut decode_other);
+}
+
+/// Whether windows of this shape are shared out, where they have enough steps together.
+pub(crate) fn are_shared(shape: WindowShape) -> bool
+    ensures long { IsTrue result → 1024 ≤ shape.keep }
+{
+    shape.keep >= LEAST_SHARED_KEEP && shape.ahead >= LEAST_SHARED_AHEAD
+}
+
+/// Decodes a window for each candidate of a run: by all workers, which enter the gate before each window, where there is enough to
+/// share out, and else by the first one, which enters none.
+pub(crate) fn decode_shared<R: Threads + Sync, G: Gate + Sync>(
+    rt: &R,
+    gate: &G,
+    decoders: &mut [WindowDecoder],
+    candidates: &mut [Candidate],
+    run: &WindowRun<'_>,
+)
+    requires some { (0 < length decoders.old) × (length decoders.old ≤ most_workers) }
+    requires long { (length candidates.old ≤ most_candidates) × (length run.now.octets.now ≤ most_octets) }
+    requires shape { All (λ d. d ≡ run.now.shape) decoders.old }
+    requires bits { HaveRoom (run.now.shape.keep + run.now.shape.ahead) candidates.old }
+    requires room { HoldsWindows run.now (length candidates.old) }
+    requires few { run.now.t + length candidates.old * run.now.shape.keep < window_bound }
+    ensures candidates { AreCandidates run.now.shape run.now.t run.now.octets.now 0 (length candidates.old) candidates.new }
+    ensures bits { HaveRoom (run.now.shape.keep + run.now.shape.ahead) candidates.new }
+    ensures shape { All (λ d. d ≡ run.now.shape) decoders.new }
+{
+    if !are_shared(run.shape) || candidates.len() * run.shape.keep < LEAST_SHARED_STEPS {
+        decode_each(&OpenGate, &mut decoders[0], candidates, run);
+        return;
+    }
+    decode_evenly(
+        rt,
+        gate,
+        run.shape,
+        decoders,
+        Some(run.starts),
+        run.t,
+        run.octets,
+        0,
+        candidates,
+    );
 }

@@ -1,22 +1,20 @@
 // Tests of what only this crate can see. Windows that were each begun from a wrong register: settled, their blocks are
-// those of one thread. And workers that decode windows of a phase that is followed: really side by side, where these
-// have enough steps, and the same blocks whatever their number.
-ghost use Rattle.std.specs.Prelude.{◌+◌, ◌*◌, ◌^◌, ◌<◌, ◌≤◌, ◌≡◌, ℕ, length};
+// those of the decoder. Runs that are shared out, whatever the workers. And a queue whose windows are decoded really
+// side by side, where these have enough steps.
+ghost use Rattle.std.specs.Prelude.{◌+◌, ◌*◌, ◌^◌, ◌<◌, ◌≤◌, ◌≡◌, length};
 ghost use Rattle.tm_base.specs.Limits.{most_workers};
 ghost use Rattle.tm_conv.specs.Path.{steps_size};
 ghost use Rattle.tm_viterbi.specs.WindowSizes.{least_keep, most_keep, most_ahead, window_bound};
 ghost use Rattle.tm_windows.specs.Candidates.{AreCandidates, HaveRoom, HoldsWindows};
-ghost use Rattle.tm_windows.specs.Sharing.{most_windows, most_octets};
 
 use crate::candidate::Candidate;
-use crate::closing::{Closing, OneByOne, decode_shared};
-use crate::decoding::decode_window;
-use crate::gathering::Gathering;
+use crate::crew::{Alone, Crew};
+use crate::decoder::Decoder;
 use crate::guessing::known_or_guessed;
-use crate::settling::settle_run;
-use crate::sharing::decode_evenly;
-use crate::stretch::Stretch;
-use crate::window_workers::new_candidates;
+use crate::queue::{QueueSettings, WindowQueue, new_candidates};
+use crate::run::settle;
+use crate::sharing::{decode_evenly, decode_shared};
+use crate::window_run::WindowRun;
 use std::alloc::{AllocError, Global};
 use std::process::Abort;
 use std::sync::atomic::{AtomicU64, Ordering};
@@ -24,7 +22,7 @@ use std::test::Fail;
 use std::thread::Threads;
 use tm_base::{Failed, Gate, OpenGate};
 use tm_conv::{Encoder, Rate, Symbols, steps_len};
-use tm_viterbi::{Block, BlockTaker, Decoder, Start, WindowDecoder, WindowShape};
+use tm_viterbi::{Block, BlockTaker, Start, WindowDecoder, WindowShape};
 
 const KEEP: usize = 64;
 
@@ -82,20 +80,20 @@ fn mixed(value: u64, part: u64) -> u64 {
 }
 
 // Decodes a window for each candidate, each but the first from another register than that after the one before it.
-fn decode_wrongly(decoder: &mut WindowDecoder, candidates: &mut [Candidate], from: &Stretch<'_>)
-    requires shape { decoder.old ≡ from.now.shape }
-    requires bits { HaveRoom (from.now.shape.keep + from.now.shape.ahead) candidates.old }
-    requires room { HoldsWindows from.now (length candidates.old) }
-    requires few { from.now.t + length candidates.old * from.now.shape.keep < window_bound }
-    ensures candidates { AreCandidates from.now.shape from.now.t from.now.octets.now 0 (length candidates.old)
+fn decode_wrongly(decoder: &mut WindowDecoder, candidates: &mut [Candidate], run: &WindowRun<'_>)
+    requires shape { decoder.old ≡ run.now.shape }
+    requires bits { HaveRoom (run.now.shape.keep + run.now.shape.ahead) candidates.old }
+    requires room { HoldsWindows run.now (length candidates.old) }
+    requires few { run.now.t + length candidates.old * run.now.shape.keep < window_bound }
+    ensures candidates { AreCandidates run.now.shape run.now.t run.now.octets.now 0 (length candidates.old)
         candidates.new }
-    ensures bits { HaveRoom (from.now.shape.keep + from.now.shape.ahead) candidates.new }
-    ensures same { decoder.new ≡ from.now.shape }
+    ensures bits { HaveRoom (run.now.shape.keep + run.now.shape.ahead) candidates.new }
+    ensures same { decoder.new ≡ run.now.shape }
 {
-    let mut here = *from;
+    let mut here = *run;
     for j in 0..candidates.len() {
-        decode_window(decoder, &mut candidates[j], &here);
-        here = here.next(63 - candidates[j].path.end_state);
+        here.decode_first(decoder, &mut candidates[j]);
+        here = here.after_first(63 - candidates[j].path.end_state);
     }
 }
 
@@ -130,7 +128,16 @@ fn check_differ(rt: &impl Abort, one: [Option<u8>; WINDOWS], other: [Option<u8>;
     }
 }
 
-// What comes of them where each window is decoded from a wrong register first.
+// What candidates come to.
+fn digest_of(candidates: &[Candidate]) -> Result<Digest, Failed> {
+    let mut digest = empty();
+    for candidate in candidates {
+        digest.block(&candidate.block())?;
+    }
+    Ok(digest)
+}
+
+// What comes of windows where each is decoded from a wrong register first.
 fn settled(rt: &impl Abort, alloc: Global, rate: Rate, octets: &[u8]) -> Result<Digest, Fail>
     requires { steps_size rate 0 546 ≤ length octets.now }
 {
@@ -143,7 +150,7 @@ fn settled(rt: &impl Abort, alloc: Global, rate: Rate, octets: &[u8]) -> Result<
     let mut decoder = WindowDecoder::new(alloc, shape)?;
     let mut room = new_candidates(alloc, KEEP + AHEAD, WINDOWS)?;
     let candidates = room.as_mut_slice();
-    let wrong = Stretch {
+    let wrong = WindowRun {
         shape,
         starts: Some(63),
         t: 0,
@@ -151,16 +158,61 @@ fn settled(rt: &impl Abort, alloc: Global, rate: Rate, octets: &[u8]) -> Result<
     };
     decode_wrongly(&mut decoder, candidates, &wrong);
     let taken = starts_of(candidates);
-    let mut digest = empty();
-    let from = Stretch {
+    let run = WindowRun {
         shape,
         starts: Some(0),
         t: 0,
         octets,
     };
-    settle_run(candidates, &mut decoder, &from, &mut digest)?;
+    settle(&mut decoder, candidates, &run);
     check_differ(rt, starts_of(candidates), taken);
-    Ok(digest)
+    Ok(digest_of(candidates)?)
+}
+
+// What comes of windows that so many workers share out, who enter a gate before each.
+fn shared<G: Gate + Sync>(
+    rt: &(impl Threads + Sync),
+    gate: &G,
+    alloc: Global,
+    rate: Rate,
+    octets: &[u8],
+    workers: usize,
+) -> Result<Digest, Fail>
+    requires octets { (steps_size rate 0 546 ≤ length octets.now) × (length octets.now ≤ 1092) }
+    requires workers { (0 < workers) × (workers ≤ most_workers) }
+{
+    let shape = WindowShape {
+        rate,
+        invert: false,
+        keep: KEEP,
+        ahead: AHEAD,
+    };
+    let mut all = Vec::with_capacity(alloc, workers)?;
+    for _ in 0..workers {
+        all.push(WindowDecoder::new(alloc, shape)?)?;
+    }
+    let decoders = all.as_mut_slice();
+    let mut room = new_candidates(alloc, KEEP + AHEAD, WINDOWS)?;
+    let candidates = room.as_mut_slice();
+    let run = WindowRun {
+        shape,
+        starts: Some(0),
+        t: 0,
+        octets,
+    };
+    decode_evenly(
+        rt,
+        gate,
+        shape,
+        decoders,
+        Some(Some(0)),
+        0,
+        octets,
+        0,
+        candidates,
+    );
+    settle(&mut decoders[0], candidates, &run);
+    Ok(digest_of(candidates)?)
 }
 
 fn drawn_octets() -> [u8; 1092] {
@@ -175,7 +227,12 @@ fn drawn_octets() -> [u8; 1092] {
     drawn
 }
 
-fn check_rate(rt: &impl Abort, alloc: Global, rate: Rate, drawn: &[u8; 1092]) -> Result<(), Fail> {
+fn check_rate<R: Abort + Threads + Sync>(
+    rt: &R,
+    alloc: Global,
+    rate: Rate,
+    drawn: &[u8; 1092],
+) -> Result<(), Fail> {
     let size = steps_len(rate, 0, WINDOWS * KEEP + AHEAD + 1);
     assert!(rt; size <= drawn.len());
     let octets = &drawn[..size];
@@ -183,6 +240,9 @@ fn check_rate(rt: &impl Abort, alloc: Global, rate: Rate, drawn: &[u8; 1092]) ->
     let digest = settled(rt, alloc, rate, octets)?;
     assert!(rt; wanted.blocks == WINDOWS as u64);
     assert!(rt; digest == wanted);
+    for workers in [1, 2, 3, 7, 64] {
+        assert!(rt; shared(rt, &OpenGate, alloc, rate, octets, workers)? == wanted);
+    }
     Ok(())
 }
 
@@ -209,13 +269,13 @@ fn a_guess_over_clean_symbols_is_right(rt: HostRuntime) -> Result<(), Fail> {
     };
     let mut decoder = WindowDecoder::new(alloc, shape)?;
     let mut candidate = Candidate::new(alloc, KEEP + AHEAD)?;
-    let from = Stretch {
+    let run = WindowRun {
         shape,
         starts: Some(0),
         t: 0,
         octets: &octets,
     };
-    decode_window(&mut decoder, &mut candidate, &from);
+    run.decode_first(&mut decoder, &mut candidate);
     let register = candidate.path.end_state;
     assert!(rt; register != 0);
     let (step, place) = (KEEP as u64, 2 * KEEP);
@@ -232,99 +292,123 @@ fn a_guess_over_clean_symbols_is_right(rt: HostRuntime) -> Result<(), Fail> {
     Ok(())
 }
 
+// More turns than a queue of these tests has.
+const TURNS: usize = 1_000;
+
 const SPINS: u64 = 1_000_000_000;
 
-// Holds the workers that come to the first and the fifth window until both have come, and counts how many of them met
-// the other.
+// Holds the worker of one window until so many others have entered, and notes whether they ended it.
 #[derive(Drop)]
-struct Meeting {
-    come: AtomicU64,
-    met: AtomicU64,
+struct Holding {
+    number: u32,
+    others: u64,
+    entered: AtomicU64,
+    freed: AtomicU64,
 }
 
-impl Gate for Meeting {
+impl Gate for Holding {
     fn enter(&self, index: u32) {
-        if index != 0 && index != 4 {
+        if index != self.number {
+            self.entered.fetch_add(1, Ordering::SeqCst);
             return;
         }
-        self.come.fetch_add(1, Ordering::SeqCst);
         for _ in 0..SPINS {
-            if self.come.load(Ordering::SeqCst) == 2 {
-                self.met.fetch_add(1, Ordering::SeqCst);
+            if self.entered.load(Ordering::SeqCst) >= self.others {
+                self.freed.store(1, Ordering::SeqCst);
                 return;
             }
         }
     }
 }
 
-// Windows shared out as the program shares them, by workers that enter a gate before each.
-#[derive(Drop)]
-struct PastMeeting<'a, R: Threads + Sync> {
-    rt: &'a R,
-    gate: &'a Meeting,
-}
-
-impl<'a, R: Threads + Sync> Closing for PastMeeting<'a, R> {
-    ghost use Rattle.std.specs.Prelude.{◌≤◌};
-    ghost use Rattle.std.specs.Thread.{IsSync};
-    ghost use Rattle.tm_windows.specs.Sharing.{most_octets};
-
-    ghost is_ready = { λ by count. IsSync R.row × (count ≤ most_octets) };
-
-    fn decode(&self, decoders: &mut [WindowDecoder], run: &mut [Candidate], from: &Stretch<'_>) {
-        decode_shared(self.rt, self.gate, decoders, run, from);
+fn gate_that_holds(number: u32, others: u64) -> Holding {
+    Holding {
+        number,
+        others,
+        entered: AtomicU64::new(0),
+        freed: AtomicU64::new(0),
     }
 }
 
-// Windows by all workers, however few their steps are.
+// Shares runs out as the program does, by workers that enter a gate before each window.
+#[derive(Drop)]
+struct PastHolding<'a, R: Threads + Sync> {
+    rt: &'a R,
+    gate: &'a Holding,
+}
+
+impl<'a, R: Threads + Sync> Crew for PastHolding<'a, R> {
+    ghost use Rattle.std.specs.Thread.{IsSync};
+
+    ghost is_ready = { λ crew. IsSync R.row };
+
+    ghost share = { λ crew workers. workers };
+
+    fn share(&self, workers: usize) -> usize {
+        workers
+    }
+
+    fn decode(
+        &self,
+        decoders: &mut [WindowDecoder],
+        candidates: &mut [Candidate],
+        run: &WindowRun<'_>,
+    ) {
+        decode_shared(self.rt, self.gate, decoders, candidates, run);
+    }
+}
+
+// Shares each run out, however few its steps are.
 #[derive(Drop)]
 struct AlwaysShared<'a, R: Threads + Sync> {
     rt: &'a R,
 }
 
-impl<'a, R: Threads + Sync> Closing for AlwaysShared<'a, R> {
-    ghost use Rattle.std.specs.Prelude.{◌≤◌};
+impl<'a, R: Threads + Sync> Crew for AlwaysShared<'a, R> {
     ghost use Rattle.std.specs.Thread.{IsSync};
-    ghost use Rattle.tm_windows.specs.Sharing.{most_octets};
 
-    ghost is_ready = { λ by count. IsSync R.row × (count ≤ most_octets) };
+    ghost is_ready = { λ crew. IsSync R.row };
 
-    fn decode(&self, decoders: &mut [WindowDecoder], run: &mut [Candidate], from: &Stretch<'_>) {
-        let Stretch {
-            shape,
-            starts,
-            t,
-            octets,
-        } = *from;
+    ghost share = { λ crew workers. workers };
+
+    fn share(&self, workers: usize) -> usize {
+        workers
+    }
+
+    fn decode(
+        &self,
+        decoders: &mut [WindowDecoder],
+        candidates: &mut [Candidate],
+        run: &WindowRun<'_>,
+    ) {
         decode_evenly(
             self.rt,
             &OpenGate,
-            shape,
+            run.shape,
             decoders,
-            Some(starts),
-            t,
-            octets,
+            Some(run.starts),
+            run.t,
+            run.octets,
             0,
-            run,
+            candidates,
         );
     }
 }
 
 // What comes of octets whose phase is followed: the blocks, and before how many windows octets were dropped.
-fn followed<C: Closing>(
+fn followed<R: Abort, C: Crew>(
+    rt: &R,
     alloc: Global,
-    closing: &C,
+    crew: &C,
     keep: usize,
     ahead: usize,
     workers: u8,
-    most: usize,
     octets: &[u8],
 ) -> Result<(Digest, u64), Fail>
-    requires ready { (count : ℕ) → count ≤ most_octets → C.is_ready closing.now count }
+    requires ready { C.is_ready crew.now }
     requires keep { (least_keep ≤ keep) × (keep ≤ most_keep) }
     requires ahead { (33 ≤ ahead) × (ahead ≤ most_ahead) }
     requires workers { (0 < workers) × (workers ≤ most_workers) }
-    requires most { (0 < most) × (most ≤ most_windows) }
     requires long { length octets.now < 2 ^ 59 }
 {
     let shape = WindowShape {
@@ -333,11 +417,26 @@ fn followed<C: Closing>(
         keep,
         ahead,
     };
-    let mut gathering = Gathering::new(alloc, Start::Zero, shape, Some(89), workers, most)?;
+    let settings = QueueSettings {
+        shape,
+        start: Start::Zero,
+        find: false,
+        follow: true,
+    };
+    let mut queue = WindowQueue::open(alloc, settings, workers)?;
     let mut digest = empty();
-    gathering.take(closing, octets, &mut digest)?;
-    gathering.end(closing, &mut digest)?;
-    Ok((digest, gathering.slips))
+    let mut done = 0;
+    for _ in 0..TURNS {
+        done += queue.fill(false, &octets[done..]);
+        let count = queue.decode(crew);
+        if count == 0 && done == octets.len() {
+            queue.last();
+            queue.hand(&mut digest)?;
+            return Ok((digest, queue.slips()));
+        }
+        queue.hand(&mut digest)?;
+    }
+    panic!(rt; "the queue goes on and on");
 }
 
 // The octets of the symbols of so many steps, whose bits are drawn.
@@ -356,36 +455,52 @@ fn sent(alloc: Global, steps: usize) -> Result<Vec<u8>, AllocError> {
     Ok(octets)
 }
 
-// How many of two workers meet at the gate where eight windows of so many steps are closed together: each has four of
-// them, and waits at its first until the other has come.
-fn count_met<R: Abort + Threads + Sync>(
+// Whether the first of two workers is held, and freed by the four windows of the other, where eight windows of so many
+// steps are decoded together.
+fn is_freed<R: Abort + Threads + Sync>(
     rt: &R,
     alloc: Global,
     keep: usize,
     ahead: usize,
-) -> Result<u64, Fail>
+) -> Result<bool, Fail>
     requires keep { (least_keep ≤ keep) × (keep ≤ most_keep) }
     requires ahead { (33 ≤ ahead) × (ahead ≤ most_ahead) }
 {
     let octets = sent(alloc, WINDOWS * keep + ahead + 1)?;
     assert!(rt; octets.len() < 200_000);
-    let gate = Meeting {
-        come: AtomicU64::new(0),
-        met: AtomicU64::new(0),
-    };
-    let past = PastMeeting { rt, gate: &gate };
-    let (digest, slips) = followed(alloc, &past, keep, ahead, 2, WINDOWS, &octets)?;
+    let gate = gate_that_holds(0, 4);
+    let crew = PastHolding { rt, gate: &gate };
+    let (digest, slips) = followed(rt, alloc, &crew, keep, ahead, 2, &octets)?;
     assert!(rt; digest.blocks == WINDOWS as u64 + 1);
     assert!(rt; slips == 0);
-    Ok(gate.met.load(Ordering::SeqCst))
+    Ok(gate.freed.load(Ordering::SeqCst) == 1)
+}
+
+// Eight windows, of which one is held until all of the other parts have entered, and those before it in its own.
+#[test]
+fn windows_are_decoded_side_by_side_in_even_parts(rt: HostRuntime) -> Result<(), Fail> {
+    let drawn = drawn_octets();
+    let size = steps_len(Rate::R12, 0, WINDOWS * KEEP + AHEAD + 1);
+    assert!(rt; size <= drawn.len());
+    let octets = &drawn[..size];
+    for (workers, part) in [(2usize, 4u32), (4, 2)] {
+        assert!(rt; 0 < part && part <= 8);
+        for held in 0..8u32 {
+            let gate = gate_that_holds(held, u64::from(8 - part + held % part));
+            let digest = shared(&rt, &gate, rt.alloc(), Rate::R12, octets, workers)?;
+            assert!(rt; gate.freed.load(Ordering::SeqCst) == 1);
+            assert!(rt; digest.blocks == 8);
+        }
+    }
+    Ok(())
 }
 
 // Eight windows of 8,192 steps with 64 ahead are just enough to share out, and of a step less they are too few.
 #[test]
-fn followed_windows_of_enough_steps_are_decoded_side_by_side(rt: HostRuntime) -> Result<(), Fail> {
-    assert!(rt; count_met(&rt, rt.alloc(), 8_192, 64)? == 2);
-    assert!(rt; count_met(&rt, rt.alloc(), 8_191, 64)? == 0);
-    assert!(rt; count_met(&rt, rt.alloc(), 8_192, 63)? == 0);
+fn windows_of_enough_steps_are_decoded_side_by_side(rt: HostRuntime) -> Result<(), Fail> {
+    assert!(rt; is_freed(&rt, rt.alloc(), 8_192, 64)?);
+    assert!(rt; !is_freed(&rt, rt.alloc(), 8_191, 64)?);
+    assert!(rt; !is_freed(&rt, rt.alloc(), 8_192, 63)?);
     Ok(())
 }
 
@@ -397,16 +512,14 @@ fn followed_windows_are_the_same_for_any_workers(rt: HostRuntime) -> Result<(), 
     octets.remove(3500);
     octets.remove(1500);
     assert!(rt; octets.len() < 6000);
-    let (wanted, slips) = followed(alloc, &OneByOne, KEEP, AHEAD, 1, 1, &octets)?;
+    let (wanted, slips) = followed(&rt, alloc, &Alone, KEEP, AHEAD, 1, &octets)?;
     assert!(rt; wanted.blocks == 41);
     assert!(rt; slips == 2);
-    let shared = AlwaysShared { rt: &rt };
-    for workers in [1, 2, 3, 7] {
-        for most in [1, 2, 8, 40] {
-            let (digest, slips) = followed(alloc, &shared, KEEP, AHEAD, workers, most, &octets)?;
-            assert!(rt; digest == wanted);
-            assert!(rt; slips == 2);
-        }
+    let crew = AlwaysShared { rt: &rt };
+    for workers in [1, 2, 3, 7, 64] {
+        let (digest, slips) = followed(&rt, alloc, &crew, KEEP, AHEAD, workers, &octets)?;
+        assert!(rt; digest == wanted);
+        assert!(rt; slips == 2);
     }
     Ok(())
 }

@@ -12,11 +12,12 @@ decode-path-requires-clause-octets c =
     let after = c.min-after.result in
     let first = c.args.t - before in
     let octets = c.args.octets.now in
-    let bits = c.as_mut_slice-bits.result.now in
+    let bits = c.deref_mut.result.now in
     let prefix = c.args.at - c.steps_len-size.result in
-    let n = length (take (before + after) bits) in
-    let long : n ≡ before + after = length-take-le (before + after) bits
-    (omega (arith, c.as_mut_slice-bits.ensures.len, c.requires.bits, c.min-before.ensures, c.min-after.ensures))
+    let count = before + after - 0 in
+    let n = length (take count bits) in
+    let long : n ≡ before + after = length-take-le count bits
+    (omega (arith, c.deref_mut.ensures.len, c.requires.bits, c.min-before.ensures, c.min-after.ensures)) ∙ omega arith
     in
     let same : steps_size c.args.decoder.now.rate first n ≡ steps_size s.rate first (before + after)
     =

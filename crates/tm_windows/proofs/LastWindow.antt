@@ -1,0 +1,77 @@
+-- The blocks of all octets that were put into a queue, once its last window is decoded.
+use Rattle.std.proofs.Common.{◌≡◌, ℕ, zero, suc, ◌+◌, ◌-◌, ◌<◌, ◌≤◌, ◌∙◌, ◌++◌, refl, sym, ap, subst, arith, unwrap_or, List, [], ◌∷◌, length}
+use Rattle.std.proofs.lemmas.List.{append-nil}
+use Rattle.tm_conv.specs.Path.{steps_size}
+use Rattle.tm_conv.proofs.Sizes.{steps_size-add, steps_size-most}
+use Rattle.tm_viterbi.specs.Settings.{Settings}
+use Rattle.tm_viterbi.specs.WindowBlock.{WindowBlock}
+use Rattle.tm_viterbi.specs.Blocks.{IsBlock}
+use Rattle.tm_windows.specs.Windows.{Beginning, IsLast, undropped, slip_at, slips_of, kept_of}
+use Rattle.tm_windows.specs.Queue.{Queueing, AwaitsPhase, IsOpen, QueueStandsFor, QueueEndsFor}
+use Rattle.tm_windows.proofs.FollowedRuns.{kept-append, slips-append}
+use Rattle.tm_windows.proofs.HeldOctets.{after_phase, open-few, open-decided, last_whole, last_beginning, ended}
+
+-- these are the whole steps of the octets that are held, and so many octets have them
+pub record AreWhole (q : Queueing) (n size : ℕ) : Type 0 where
+  pub is : size ≡ steps_size q.windows.settings.rate q.t n
+  pub whole : size ≤ length q.held
+  pub most : length q.held < steps_size q.windows.settings.rate q.t (n + 1)
+  pub few : n ≤ q.windows.settings.keep + q.windows.settings.ahead
+
+pub are_whole : (q : Queueing) (n size : ℕ) → IsOpen q → (AwaitsPhase q → ⊥)
+    → size ≡ steps_size q.windows.settings.rate q.t n → steps_size q.windows.settings.rate q.t n ≤ length q.held
+    → n ≤ q.windows.settings.keep + q.windows.settings.ahead
+    → (n < q.windows.settings.keep + q.windows.settings.ahead
+    → length q.held < steps_size q.windows.settings.rate q.t (n + 1)) → AreWhole q n size
+are_whole q n size is chosen es whole few all = record {
+  is = es;
+  whole = omega (arith, es, whole);
+  most = last_whole q n all few (open-few q is chosen);
+  few = few;
+}
+
+-- at most one octet is left over after them
+pub few_left : (q : Queueing) (n size : ℕ) → AreWhole q n size → length q.held - size ≤ 1
+few_left q n size are =
+    let rate = q.windows.settings.rate in
+    omega (arith, are.is, are.most, steps_size-add rate q.t n 1, steps_size-most rate (q.t + n) 1)
+
+-- there is no step
+pub ends-none : (q : Queueing) (left given : List ℕ) (done ready : List WindowBlock) (n size : ℕ)
+    → AreWhole q n size → n ≡ 0 → IsOpen q → (AwaitsPhase q → ⊥) → QueueStandsFor q given done
+    → QueueEndsFor (record q { held = left; ready = ready }) given (done ++ []) (length q.held - size)
+ends-none q left given done ready n size are none is chosen stands =
+    let r = after_phase q given done stands chosen in
+    let last = subst (λ (m : ℕ). IsLast q.windows.settings (last_beginning q) m []) (sym none) refl in
+    record {
+      choice = r.choice;
+      blocks = ended q given done [] n size are.is are.whole are.most are.few (open-decided q is chosen) r last;
+      kept = ap kept_of (append-nil done) ∙ r.kept;
+      slips = ap slips_of (append-nil done) ∙ r.slips;
+    }
+
+is-last : (s : Settings) (b : Beginning) (n : ℕ) (block : WindowBlock) → 0 < n → block.dropped ≡ b.dropped
+    → IsBlock s.rate s.invert s.keep s.ahead b.place.starts b.place.t n b.place.octets (undropped block)
+    → IsLast s b n (block ∷ [])
+is-last s b zero block some is_dropped is = absurd (omega (arith, some))
+is-last s b (suc n) block some is_dropped is = (block, refl, is_dropped, is)
+
+-- there is one, or more
+pub ends-one : (q : Queueing) (left given : List ℕ) (done ready : List WindowBlock) (n size k slips : ℕ)
+    (block : WindowBlock) → ready ≡ block ∷ [] → AreWhole q n size → 0 < n → IsOpen q → (AwaitsPhase q → ⊥) → k ≡ unwrap_or q.dropped 0 → slips ≡ slip_at k
+    → block.dropped ≡ k → block.kept ≡ n
+    → IsBlock q.windows.settings.rate q.windows.settings.invert q.windows.settings.keep q.windows.settings.ahead
+    q.starts q.t n q.held (undropped block)
+    → QueueStandsFor q given done
+    → QueueEndsFor (record q { t = q.t + n; slips = q.slips + slips; held = left; ready = ready }) given
+    (done ++ ready) (length q.held - size)
+ends-one q left given done ready n size k slips block one are some is chosen ek es is_dropped kept is_block stands =
+    let r = after_phase q given done stands chosen in
+    let last = subst (λ (v : List WindowBlock). IsLast q.windows.settings (last_beginning q) n v) (sym one)
+    (is-last q.windows.settings (last_beginning q) n block some (is_dropped ∙ ek) is_block) in
+    record {
+      choice = r.choice;
+      blocks = ended q given done ready n size are.is are.whole are.most are.few (open-decided q is chosen) r last;
+      kept = omega (arith, r.kept, kept-append done ready, ap kept_of one, kept);
+      slips = omega (arith, r.slips, slips-append done ready, ap slips_of one, ap slip_at is_dropped, es);
+    }

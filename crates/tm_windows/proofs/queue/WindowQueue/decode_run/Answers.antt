@@ -1,0 +1,150 @@
+use Rattle.std.proofs.Common.{◌≡◌, ◌∙◌, ◌++◌, ◌∷◌, ◌+◌, ◌*◌, All, ℕ, List, Some, None, inr, sym, ap, subst, arith, drop, is_some, length, length-drop, map, take, unwrap_or}
+use Rattle.std.specs.Vec.{with_items}
+use Rattle.std.proofs.lemmas.List.{length-map, length-take-le, with_items_is}
+use Rattle.tm_conv.specs.Path.{steps_size}
+use Rattle.tm_viterbi.specs.declared.window_decoder.WindowShape.{WindowShape}
+use Rattle.tm_windows.specs.Candidates.{ClosedWith, HaveRoom, after_windows, block_of}
+use Rattle.tm_windows.specs.declared.candidate.Candidate.{Candidate}
+use Rattle.tm_windows.specs.Queue.{Queueing, AfterPhase}
+use Rattle.tm_windows.specs.Windows.{dropped_at, undecided}
+use Rattle.tm_windows.proofs.QueueRuns.{ClosesRun, IsCut, IsRun, after_run, decided_after, is_cut, is_decided, run-decoded}
+use Rattle.tm_windows.proofs.FollowedRuns.{place_of}
+use Rattle.tm_windows.proofs.queue.WindowQueue.decode_run.Given.{Over}
+use Rattle.tm_windows.proofs.queue.WindowQueue.decode_run.Goals as goal
+
+-- the run that is held
+is_run : (g : Over) (c : goal.After-self-7-1 g) → IsRun c.args.self.now c.unwrap_or-dropped.result c.args.count
+is_run g c =
+    let s = c.args.self.now in
+    record {
+      dropped =
+          is_decided s.dropped c.requires.decided.0 c.unwrap_or-dropped.result c.requires.decided.1
+          (subst (λ (q : Queueing). c.unwrap_or-dropped.result ≡ unwrap_or q.dropped 0) c.self.view_is
+          c.unwrap_or-dropped.ensures);
+      some = c.requires.some.0;
+      room = c.requires.room;
+      undropped = c.requires.undropped;
+      wide = omega (arith, c.self.invariant.0.0, ap (λ (q : Queueing). q.windows.settings.keep) c.self.view_is);
+    }
+
+-- its octets
+cut : (g : Over) (c : goal.After-self-7-1 g)
+    → IsCut c.args.self.now c.args.count c.steps_len-size.result c.steps_len.result
+cut g c =
+    let count = c.args.count in
+    let is = is_run g c in
+    is_cut c.args.self.now count c.steps_len-size.result c.steps_len.result is.wide is.some is.room
+    (subst (λ (q : Queueing). c.steps_len-size.result
+    ≡ steps_size q.windows.settings.rate q.t (count * q.windows.settings.keep + q.windows.settings.ahead + 1))
+    c.self.view_is c.steps_len-size.ensures)
+    (subst (λ (q : Queueing). c.steps_len.result
+    ≡ steps_size q.windows.settings.rate q.t (count * q.windows.settings.keep)) c.self.view_is c.steps_len.ensures)
+
+left_is : (g : Over) (c : goal.After-self-7-1 g)
+    → length c.drop_first.new.self.octets + c.steps_len.result ≡ length c.args.self.now.held
+left_is g c =
+    let held = c.self.inside.held.octets in
+    let are = cut g c in
+    omega (
+      arith,
+      ap length c.drop_first.ensures.octets,
+      length-drop c.steps_len.result held,
+      ap (λ (q : Queueing). length q.held) c.self.view_is,
+      are.within,
+      are.inside,
+    )
+
+pub returns-clause-shorter : goal.returns-clause-shorter
+returns-clause-shorter g c = let are = cut g c in omega (arith, left_is g c, are.some)
+
+pub returns-clause-counted : goal.returns-clause-counted
+returns-clause-counted g c =
+    let are = cut g c in
+    omega (
+      arith,
+      left_is g c,
+      are.long,
+      ap (λ (q : Queueing). q.t) c.self.view_is,
+      ap (λ (q : Queueing). c.args.count * q.windows.settings.keep) c.self.view_is,
+    )
+
+candidates_is : (g : Over) (c : goal.After-self-7-1 g)
+    → (with_items c.self.inside.candidates c.decode_windows-self-inside.new.candidates).items
+    ≡ c.decode_windows-self-inside.new.candidates
+candidates_is g c =
+    with_items_is c.self.inside.candidates c.decode_windows-self-inside.new.candidates
+    (omega (arith, c.as_mut_slice-candidates.ensures.len))
+
+pub invariant_of-self : goal.invariant_of-self
+invariant_of-self g c =
+    let s = c.self.inside in
+    let i = c.self.invariant in
+    let windows = c.decode_windows-self-inside in
+    let are = cut g c in
+    let decoders = with_items_is s.decoders windows.new.decoders (omega (arith, c.as_mut_slice-decoders.ensures.len)) in
+    let wide = ap (λ (q : Queueing). c.args.count * q.windows.settings.keep) c.self.view_is in
+    let decided : s.dropped ≡ Some c.requires.decided.0 =
+    ap (λ (q : Queueing). q.dropped) c.self.view_is ∙ c.requires.decided.1 in (
+      i.0,
+      i.1,
+      i.2,
+      subst (λ (v : List WindowShape). All (λ d. d ≡ s.settings.shape) v) (sym decoders) windows.ensures.shape,
+      subst (λ (v : List Candidate). HaveRoom (s.settings.shape.keep + s.settings.shape.ahead) v)
+          (sym (candidates_is g c)) windows.ensures.bits,
+      windows.ensures.small,
+      i.6,
+      λ none. inr (c.undecided-self-inside.ensures ∙ ap undecided (c.is_some.ensures ∙ ap is_some none)),
+      λ find none. absurd (let both : Some c.requires.decided.0 ≡ None = sym decided ∙ i.8 find none in cc),
+      omega (arith, i.9, c.slip_at.ensures.small, are.wide, wide),
+      omega (arith, ap (λ (q : Queueing). q.most) c.self.view_is, c.requires.some.1),
+      omega (arith, i.11, c.drop_first.ensures.room),
+      omega (arith, i.12, c.drop_first.ensures.room),
+    )
+
+pub returns-clause-count : goal.returns-clause-count
+returns-clause-count g c =
+    let new = c.decode_windows-self-inside.new.candidates in
+    let count = c.args.count in
+    ap (λ (v : List Candidate). length (map block_of (take count v))) (candidates_is g c)
+    ∙ length-map (take count new) block_of
+    ∙ length-take-le count new
+    (omega (
+      arith,
+      c.as_mut_slice-candidates.ensures.len,
+      ap (λ (q : Queueing). q.most) c.self.view_is,
+      c.requires.some.1,
+    ))
+
+pub returns-clause-stands : goal.returns-clause-stands
+returns-clause-stands g c = λ given done stands.
+    let s = c.args.self.now in
+    let v = c.self.inside in
+    let count = c.args.count in
+    let m = c.steps_len-size.result in
+    let k = c.unwrap_or-dropped.result in
+    let left = c.drop_first.new.self.octets in
+    let windows = c.decode_windows-self-inside in
+    let next = windows.result in
+    let blocks = windows.ensures.blocks in
+    let ready = map block_of (take count (with_items v.candidates windows.new.candidates).items) in
+    let shape = v.settings.shape in
+    let closes : ClosesRun s count m (blocks.0 ∷ blocks.1) next = subst (λ (q : Queueing). ClosesRun q count m
+    (blocks.0 ∷ blocks.1) next) c.self.view_is
+    (subst (λ (o : List ℕ). ClosedWith shape (place_of v.starts v.t (take m o)) (blocks.0 ∷ blocks.1)
+    (after_windows shape v.t (take m o) count next)) c.as_slice.ensures.octets blocks.3) in
+    let cut_off : left ≡ drop (steps_size s.windows.settings.rate s.t (count * s.windows.settings.keep)) s.held =
+    subst (λ (q : Queueing). left ≡ drop (steps_size q.windows.settings.rate q.t (count * q.windows.settings.keep))
+    q.held) c.self.view_is
+    (c.drop_first.ensures.octets ∙ ap (λ (n : ℕ). drop n v.held.octets) c.steps_len.ensures) in
+    let size_is = subst (λ (q : Queueing). m ≡ steps_size q.windows.settings.rate q.t
+    (count * q.windows.settings.keep + q.windows.settings.ahead + 1)) c.self.view_is c.steps_len-size.ensures in
+    let undecided_is = subst (λ (q : Queueing). c.undecided-self-inside.result ≡ undecided (is_some q.windows.seen))
+    c.self.view_is (c.undecided-self-inside.ensures ∙ ap undecided c.is_some.ensures) in
+    let are : ready ≡ dropped_at k blocks.0 ∷ blocks.1 =
+    ap (λ (u : List Candidate). map block_of (take count u)) (candidates_is g c) ∙ blocks.2 in
+    let run = is_run g c in
+    inr (subst (λ (q : Queueing). AfterPhase (after_run q count c.slip_at.result next c.undecided-self-inside.result left
+    ready) given (done ++ ready)) (sym c.self.view_is)
+    (run-decoded s given done k count m c.slip_at.result next c.undecided-self-inside.result left blocks.0 blocks.1 ready
+    run size_is cut_off c.slip_at.ensures.value undecided_is are (returns-clause-count g c) closes
+    (decided_after s given done k run.dropped stands)))

@@ -1,0 +1,89 @@
+use Rattle.std.proofs.Common.{◌≡◌, ◌+◌, ◌-◌, ◌≤◌, ◌∙◌, ◌++◌, [], ◌∷◌, ℕ, List, length, map, take, set, unwrap_or, sym, ap, subst, arith}
+use Rattle.std.proofs.lemmas.Grind.{take-set_at}
+use Rattle.tm_conv.proofs.Sizes.{steps_size-least}
+use Rattle.tm_viterbi.specs.Blocks.{IsBlock}
+use Rattle.tm_windows.specs.Candidates.{block_of}
+use Rattle.tm_windows.specs.Windows.{undropped}
+use Rattle.tm_windows.specs.Queue.{Queueing, AwaitsPhase, IsOpen, QueueEndsFor}
+use Rattle.tm_windows.proofs.LastWindow.{AreWhole, are_whole, few_left, ends-none, ends-one}
+use Rattle.tm_windows.proofs.queue.WindowQueue.last.Goals as goal
+use Rattle.tm_windows.proofs.queue.WindowQueue.last.Goals.{After-steps_len}
+
+whole : (c : After-steps_len) → AreWhole c.args.self.now c.whole_steps-steps.result c.steps_len.result
+whole c =
+    let steps = c.whole_steps-steps in
+    let same = ap length c.as_slice-octets.ensures.octets in
+    subst (λ (q : Queueing). AreWhole q steps.result c.steps_len.result) c.self.view_is
+    (are_whole _ steps.result c.steps_len.result
+    (subst (λ (q : Queueing). IsOpen q) (sym c.self.view_is) c.requires.is_open)
+    (subst (λ (q : Queueing). AwaitsPhase q → ⊥) (sym c.self.view_is) c.requires.settled) c.steps_len.ensures
+    (omega (arith, steps.ensures.whole, same)) steps.ensures.most (λ less. omega (arith, steps.ensures.all less, same)))
+
+few : (c : After-steps_len) → length c.as_slice-octets.result.now - c.steps_len.result ≤ 1
+few c =
+    omega (
+      arith,
+      few_left c.args.self.now c.whole_steps-steps.result c.steps_len.result (whole c),
+      ap length c.as_slice-octets.ensures.octets,
+      ap (λ (q : Queueing). length q.held) c.self.view_is,
+    )
+
+pub overflow_cast-left : goal.overflow_cast-left
+overflow_cast-left c = record { fits = omega (arith, few c) }
+
+pub returns-then-steps-eq0-clause-left : goal.returns-then-steps-eq0-clause-left
+returns-then-steps-eq0-clause-left c = few (goal.at.returns-then-steps-eq0-clause-left c).After-steps_len
+
+pub returns-then-steps-eq0-clause-ends : goal.returns-then-steps-eq0-clause-ends
+returns-then-steps-eq0-clause-ends c = λ given done stands.
+    let k = (goal.at.returns-then-steps-eq0-clause-ends c).After-steps_len in
+    let held = c.clear.new.self.octets in
+    let q = c.args.self.now in
+    subst (λ (p : Queueing). QueueEndsFor (record p { held = held; ready = [] }) given (done ++ [])
+    (length c.as_slice-octets.result.now - c.steps_len.result)) (sym c.self.view_is)
+    (subst (λ (n : ℕ). QueueEndsFor (record q { held = held; ready = [] }) given (done ++ []) (n - c.steps_len.result))
+    (ap (λ (p : Queueing). length p.held) (sym c.self.view_is) ∙ ap length (sym c.as_slice-octets.ensures.octets))
+    (ends-none q held given done [] c.whole_steps-steps.result c.steps_len.result (whole k) c.if-steps-eq0.true
+    c.requires.is_open c.requires.settled stands))
+
+pub returns-clause-left : goal.returns-clause-left
+returns-clause-left c = few (goal.at.returns-clause-left c).After-steps_len
+
+pub returns-clause-ends : goal.returns-clause-ends
+returns-clause-ends c = λ given done stands.
+    let k = (goal.at.returns-clause-ends c).After-steps_len in
+    let s = c.self.inside in
+    let q = c.args.self.now in
+    let n = c.whole_steps-steps.result in
+    let slips = c.slip_at.result in
+    let held = c.clear-2.new.self.octets in
+    let last = c.decode_last.new.candidate in
+    let ready = map block_of (take 1 (set s.candidates.items 0 last)) in
+    let one : ready ≡ block_of last ∷ [] = ap (map block_of) (take-set_at s.candidates.items 0 1 last (omega arith)
+    (omega (arith, s.candidates.ok.0, c.self.invariant))) in
+    let is = subst (λ (p : Queueing). IsBlock p.windows.settings.rate p.windows.settings.invert p.windows.settings.keep
+    p.windows.settings.ahead p.starts p.t n p.held (undropped (block_of last))) c.self.view_is
+    (subst (λ (o : List ℕ). IsBlock s.settings.shape.rate s.settings.shape.invert s.settings.shape.keep
+    s.settings.shape.ahead s.starts s.t n o (undropped (block_of last))) c.as_slice-octets.ensures.octets
+    c.decode_last.ensures.block) in
+    subst (λ (p : Queueing). QueueEndsFor (record p { t = p.t + n; slips = p.slips + slips; held = held; ready = ready })
+    given (done ++ ready) (length c.as_slice-octets.result.now - c.steps_len.result)) (sym c.self.view_is)
+    (subst (λ (m : ℕ). QueueEndsFor (record q { t = q.t + n; slips = q.slips + slips; held = held; ready = ready })
+    given (done ++ ready) (m - c.steps_len.result))
+    (ap (λ (p : Queueing). length p.held) (sym c.self.view_is) ∙ ap length (sym c.as_slice-octets.ensures.octets))
+    (ends-one q held given done ready n c.steps_len.result c.unwrap_or-dropped.result slips (block_of last) one (whole k)
+    (omega (arith, c.if-steps-eq0.false)) c.requires.is_open c.requires.settled
+    (c.unwrap_or-dropped.ensures ∙ ap (λ (p : Queueing). unwrap_or p.dropped 0) c.self.view_is)
+    c.slip_at.ensures.value c.decode_last.ensures.dropped c.decode_last.ensures.kept is stands))
+
+pub returns-clause-counted : goal.returns-clause-counted
+returns-clause-counted c =
+    let whole = whole (goal.at.returns-clause-counted c).After-steps_len in
+    omega (
+      arith,
+      whole.is,
+      whole.whole,
+      steps_size-least c.args.self.now.windows.settings.rate c.args.self.now.t c.whole_steps-steps.result,
+      ap length c.clear-2.ensures.octets,
+      ap (λ (q : Queueing). q.t) c.self.view_is,
+    )

@@ -1,0 +1,104 @@
+// Who works on what can be shared out: the caller alone, or threads beside it.
+ghost use Rattle.std.specs.Prelude.{◌≡◌, ◌+◌, ◌*◌, ◌<◌, ◌≤◌, ℕ, length};
+ghost use Rattle.std.specs.List.{All};
+ghost use Rattle.tm_base.specs.Limits.{most_workers};
+ghost use Rattle.tm_viterbi.specs.WindowSizes.{window_bound};
+ghost use Rattle.tm_windows.specs.Candidates.{AreCandidates, HaveRoom, HoldsWindows};
+ghost use Rattle.tm_windows.specs.Sharing.{most_candidates, most_octets};
+
+use crate::candidate::Candidate;
+use crate::run::decode_each;
+use crate::sharing::decode_shared;
+use crate::window_run::WindowRun;
+use std::thread::Threads;
+use tm_base::OpenGate;
+use tm_viterbi::WindowDecoder;
+
+/// Who works on what can be shared out. What is decoded is the same for any crew.
+pub trait Crew {
+    /// What a call needs to be known of it.
+    ghost is_ready: { Self → Type 0 };
+
+    /// How many of so many workers work at a time.
+    ghost share: { Self → ℕ → ℕ };
+
+    /// How many of so many workers work at a time.
+    fn share(&self, workers: usize) -> usize
+        requires some { 0 < workers }
+        ensures value { result ≡ share self.now workers }
+        ensures some { (0 < result) × (result ≤ workers) };
+
+    /// Decodes a window for each candidate of a run, each but the first from the register after the one before it, or
+    /// from a guess of it.
+    fn decode(
+        &self,
+        decoders: &mut [WindowDecoder],
+        candidates: &mut [Candidate],
+        run: &WindowRun<'_>,
+    )
+        requires ready { is_ready self.now }
+        requires some { (0 < length decoders.old) × (length decoders.old ≤ most_workers) }
+        requires long { (length candidates.old ≤ most_candidates) × (length run.now.octets.now ≤ most_octets) }
+        requires shape { All (λ d. d ≡ run.now.shape) decoders.old }
+        requires bits { HaveRoom (run.now.shape.keep + run.now.shape.ahead) candidates.old }
+        requires room { HoldsWindows run.now (length candidates.old) }
+        requires few { run.now.t + length candidates.old * run.now.shape.keep < window_bound }
+        ensures candidates { AreCandidates run.now.shape run.now.t run.now.octets.now 0 (length candidates.old)
+            candidates.new }
+        ensures bits { HaveRoom (run.now.shape.keep + run.now.shape.ahead) candidates.new }
+        ensures shape { All (λ d. d ≡ run.now.shape) decoders.new };
+}
+
+/// The caller alone. It starts no thread.
+#[derive(Clone, Copy, Debug)]
+pub struct Alone;
+
+impl Crew for Alone {
+    ghost use Rattle.std.specs.Prelude.{⊤};
+
+    ghost is_ready = { λ crew. ⊤ };
+
+    ghost share = { λ crew workers. 1 };
+
+    fn share(&self, _workers: usize) -> usize {
+        1
+    }
+
+    fn decode(
+        &self,
+        decoders: &mut [WindowDecoder],
+        candidates: &mut [Candidate],
+        run: &WindowRun<'_>,
+    ) {
+        decode_each(&OpenGate, &mut decoders[0], candidates, run);
+    }
+}
+
+/// Threads beside the caller, which share out what is enough for it. How they decode codewords is `words`, or () where
+/// they decode windows alone.
+#[derive(Drop)]
+pub struct Threaded<'a, R: Threads + Sync, W> {
+    pub rt: &'a R,
+    pub words: W,
+}
+
+impl<'a, R: Threads + Sync, W> Crew for Threaded<'a, R, W> {
+    ghost use Rattle.std.specs.Thread.{IsSync};
+
+    ghost is_ready = { λ crew. IsSync R.row };
+
+    ghost share = { λ crew workers. workers };
+
+    fn share(&self, workers: usize) -> usize {
+        workers
+    }
+
+    fn decode(
+        &self,
+        decoders: &mut [WindowDecoder],
+        candidates: &mut [Candidate],
+        run: &WindowRun<'_>,
+    ) {
+        decode_shared(self.rt, &OpenGate, decoders, candidates, run);
+    }
+}
