@@ -8,7 +8,8 @@ use std::process::ExitCode;
 use std::{env, io};
 use tm_base::Failed;
 use tm_conv::{Encoder, Rate, Symbols};
-use tm_viterbi::{Block, BlockTaker, Decoder, FeedError, Start};
+use tm_viterbi::{Block, BlockTaker, Start};
+use tm_windows::{Decoder, FeedError};
 
 // The steps whose symbols are fed each time: whole puncture patterns at each rate. The last six bits are 0, so that the
 // register is 0 again after them.

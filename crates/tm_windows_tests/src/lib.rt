@@ -8,5 +8,3 @@ mod digest;
 mod octets;
 #[cfg(test)]
 mod streams;
-#[cfg(test)]
-mod workers;

@@ -1,24 +1,32 @@
-// Streams that a decoder with workers is fed, beside those of the decoder of one thread.
+// Streams that go through a queue of windows, beside those of the decoder.
+ghost use Rattle.std.specs.Prelude.{◌≡◌, ◌+◌, ◌<◌, ◌≤◌, IfOk, OnOk, false, length};
+ghost use Rattle.std.specs.Thread.{IsSync};
+ghost use Rattle.tm_viterbi.specs.WindowSizes.{stream_bound};
+ghost use Rattle.tm_windows.specs.Queue.{IsOpen, reached};
+
 use crate::digest::{Digest, empty, with_room};
 use crate::octets::{KINDS, Kind, soft_octets};
 use std::alloc::Global;
 use std::process::Abort;
 use std::test::Fail;
 use std::thread::Threads;
+use tm_base::Failed;
 use tm_conv::Rate;
-use tm_viterbi::{Decoder, FeedError, Start, WindowShape};
-use tm_windows::ParallelDecoder;
+use tm_viterbi::{Start, WindowShape};
+use tm_windows::{
+    Alone, Crew, Decoder, FeedError, QueueSettings, STREAM_BOUND, Threaded, WindowQueue,
+};
 
 const PIECE: usize = 777;
 
 const WINDOWS: usize = 4;
 
-// How a stream is given to a decoder with workers.
+// How a stream is put into a queue.
 #[derive(Clone, Copy)]
 enum Way {
     /// All octets at once.
     Once,
-    /// Gathered piece by piece, as long as there is room.
+    /// Piece by piece, and nothing decoded as long as there is room.
     Gathered,
     /// Piece by piece, with no thread.
     Alone,
@@ -33,30 +41,127 @@ struct Outcome {
     answer: Result<u8, FeedError>,
 }
 
-fn feed_with_workers<R: Threads + Sync>(
-    rt: &R,
-    decoder: &mut ParallelDecoder,
+// Decodes all windows that are closed, and hands over their blocks.
+fn hand_closed<C: Crew>(
+    crew: &C,
+    queue: &mut WindowQueue,
+    digest: &mut Digest,
+) -> Result<(), Failed>
+    requires ready { C.is_ready crew.now }
+    requires few { reached queue.old < stream_bound }
+    ensures is_open { OnOk result (IsOpen queue.new) }
+    ensures counted { reached queue.new ≤ reached queue.old }
+    ensures ended { queue.new.has_ended ≡ queue.old.has_ended }
+    ensures phase { queue.new.find ≡ queue.old.find }
+{
+    while queue.decode(crew) > 0 {
+        queue.hand(digest)?;
+    }
+    Ok(())
+}
+
+// Puts all octets into a queue, and hands over what they close.
+fn put<C: Crew>(
+    crew: &C,
+    queue: &mut WindowQueue,
+    octets: &[u8],
+    digest: &mut Digest,
+) -> Result<(), Failed>
+    requires ready { C.is_ready crew.now }
+    requires going { queue.old.has_ended ≡ false }
+    requires few { reached queue.old + length octets.now < stream_bound }
+    ensures counted { reached queue.new ≤ reached queue.old + length octets.now }
+    ensures going { queue.new.has_ended ≡ false }
+    ensures phase { queue.new.find ≡ queue.old.find }
+{
+    let mut done = queue.fill(false, octets);
+    hand_closed(crew, queue, digest)?;
+    while done < octets.len() {
+        done += queue.fill(false, &octets[done..]);
+        hand_closed(crew, queue, digest)?;
+    }
+    Ok(())
+}
+
+fn put_last<C: Crew>(crew: &C, queue: &mut WindowQueue, digest: &mut Digest) -> Result<u8, Failed>
+    requires ready { C.is_ready crew.now }
+    requires given { queue.old.find ≡ false }
+    requires few { reached queue.old < stream_bound }
+{
+    queue.settle();
+    hand_closed(crew, queue, digest)?;
+    let left = queue.last();
+    queue.hand(digest)?;
+    Ok(left)
+}
+
+// Puts all octets into a queue piece by piece, and hands over what they close; or only once there is no room.
+fn put_pieces<C: Crew>(
+    crew: &C,
+    queue: &mut WindowQueue,
+    octets: &[u8],
+    gathers: bool,
+    digest: &mut Digest,
+) -> Result<(), Failed>
+    requires ready { C.is_ready crew.now }
+    requires going { queue.old.has_ended ≡ false }
+    requires few { reached queue.old + length octets.now < stream_bound }
+    ensures counted { reached queue.new ≤ reached queue.old + length octets.now }
+    ensures phase { queue.new.find ≡ queue.old.find }
+{
+    let mut done = 0;
+    while done < octets.len() {
+        let end = octets.len().min(done + PIECE);
+        if gathers {
+            done += queue.fill(false, &octets[done..end]);
+        }
+        if done < end {
+            put(crew, queue, &octets[done..end], digest)?;
+        }
+        done = end;
+    }
+    Ok(())
+}
+
+fn put_by<C: Crew>(
+    crew: &C,
+    queue: &mut WindowQueue,
     octets: &[u8],
     way: Way,
     digest: &mut Digest,
-) -> Result<u8, FeedError> {
+) -> Result<u8, Failed>
+    requires ready { C.is_ready crew.now }
+    requires given { queue.old.find ≡ false }
+    requires going { queue.old.has_ended ≡ false }
+    requires few { reached queue.old + length octets.now < stream_bound }
+{
     match way {
-        Way::Once => decoder.feed(rt, octets, digest)?,
-        Way::Gathered => {
-            for piece in octets.chunks(PIECE) {
-                if !decoder.gather(piece) {
-                    decoder.feed(rt, piece, digest)?;
-                }
-            }
-        }
+        Way::Once => put(crew, queue, octets, digest)?,
+        Way::Gathered => put_pieces(crew, queue, octets, true, digest)?,
         Way::Alone => {
-            for piece in octets.chunks(PIECE) {
-                decoder.feed_alone(piece, digest)?;
-            }
-            return decoder.finish_alone(digest);
+            put_pieces(&Alone, queue, octets, false, digest)?;
+            return put_last(&Alone, queue, digest);
         }
     }
-    decoder.finish(rt, digest)
+    put_last(crew, queue, digest)
+}
+
+fn put_all<R: Threads + Sync>(
+    rt: &R,
+    queue: &mut WindowQueue,
+    octets: &[u8],
+    way: Way,
+    digest: &mut Digest,
+) -> Result<u8, FeedError>
+    requires given { queue.old.find ≡ false }
+    requires going { queue.old.has_ended ≡ false }
+    requires few { reached queue.old + length octets.now < stream_bound }
+{
+    let threads = Threaded { rt, words: () };
+    match put_by(&threads, queue, octets, way, digest) {
+        Ok(left) => Ok(left),
+        Err(Failed) => Err(FeedError::Taker),
+    }
 }
 
 fn feed_alone(decoder: &mut Decoder, octets: &[u8], digest: &mut Digest) -> Result<u8, FeedError> {
@@ -73,10 +178,18 @@ fn opened(
     start: Start,
     workers: u8,
     follow: bool,
-) -> Result<ParallelDecoder, Fail> {
+) -> Result<WindowQueue, Fail>
+    ensures fresh { IfOk result (λ q. (q.find ≡ false) × (q.has_ended ≡ false) × (reached q ≡ 0)) }
+{
     let WindowShape { keep, ahead, .. } = shape;
     assert!(rt; 64 <= keep && keep <= 65536 && ahead <= 4096 && 0 < workers && workers <= 64);
-    Ok(ParallelDecoder::open(alloc, start, shape, workers, follow)?)
+    let settings = QueueSettings {
+        shape,
+        start,
+        find: false,
+        follow,
+    };
+    Ok(WindowQueue::open(alloc, settings, workers)?)
 }
 
 fn with_workers<R: Abort + Threads + Sync>(
@@ -89,9 +202,10 @@ fn with_workers<R: Abort + Threads + Sync>(
     way: Way,
     room: u64,
 ) -> Result<Outcome, Fail> {
-    let mut decoder = opened(rt, alloc, shape, start, workers, false)?;
+    let mut queue = opened(rt, alloc, shape, start, workers, false)?;
+    assert!(rt; (octets.len() as u64) < STREAM_BOUND);
     let mut digest = with_room(room);
-    let answer = feed_with_workers(rt, &mut decoder, octets, way, &mut digest);
+    let answer = put_all(rt, &mut queue, octets, way, &mut digest);
     Ok(Outcome { digest, answer })
 }
 
@@ -132,8 +246,10 @@ fn streams_are_those_of_one_thread(rt: HostRuntime) -> Result<(), Fail> {
     for kind in KINDS {
         for (rate, keep, ahead, start) in [
             (Rate::R12, 64usize, 0usize, Start::Zero),
-            (Rate::R78, 70, 33, Start::Any),
+            (Rate::R23, 600, 64, Start::Any),
             (Rate::R34, 1100, 64, Start::Zero),
+            (Rate::R56, 64, 0, Start::Zero),
+            (Rate::R78, 70, 33, Start::Any),
         ] {
             let shape = WindowShape {
                 rate,
@@ -212,24 +328,23 @@ fn a_taker_fails_at_each_block(rt: HostRuntime) -> Result<(), Fail> {
 fn gathered_octets_wait(rt: HostRuntime) -> Result<(), Fail> {
     let alloc = rt.alloc();
     let octets = octets_for(&rt, alloc, Kind::Clean, SHARED)?;
-    let mut decoder = opened(&rt, alloc, SHARED, Start::Zero, 2, false)?;
+    let mut queue = opened(&rt, alloc, SHARED, Start::Zero, 2, false)?;
+    assert!(rt; (octets.len() as u64) < STREAM_BOUND);
     let mut digest = empty();
-    assert!(rt; decoder.gather(&octets));
-    assert!(rt; decoder.count_closed() == WINDOWS);
-    decoder.feed(&rt, &[], &mut digest)?;
+    assert!(rt; queue.fill(false, &octets) == octets.len());
+    assert!(rt; queue.count_closed() == WINDOWS);
+    assert!(rt; queue.may_wait(4096) && !queue.may_wait(4095));
+    hand_closed(&Alone, &mut queue, &mut digest)?;
     assert!(rt; digest.blocks == WINDOWS as u64);
-    assert!(rt; decoder.count_closed() == 0);
-    decoder.finish(&rt, &mut digest)?;
+    assert!(rt; queue.count_closed() == 0);
+    put_last(&Alone, &mut queue, &mut digest)?;
     assert!(rt; digest.blocks == WINDOWS as u64 + 1);
-    assert!(rt; !decoder.gather(&[]));
-    assert!(rt; decoder.feed(&rt, &[], &mut digest) == Err(FeedError::Stopped));
-    assert!(rt; decoder.finish(&rt, &mut digest) == Err(FeedError::Stopped));
     Ok(())
 }
 
 // There is room for the octets that close a window for each worker, though too few steps are kept to share them out.
 #[test]
-fn room_ends_with_the_batch(rt: HostRuntime) -> Result<(), Fail> {
+fn room_ends_with_the_run(rt: HostRuntime) -> Result<(), Fail> {
     let alloc = rt.alloc();
     let shape = WindowShape {
         rate: Rate::R12,
@@ -237,20 +352,37 @@ fn room_ends_with_the_batch(rt: HostRuntime) -> Result<(), Fail> {
         keep: 64,
         ahead: 0,
     };
-    let mut decoder = opened(&rt, alloc, shape, Start::Zero, 1, false)?;
+    let mut queue = opened(&rt, alloc, shape, Start::Zero, 1, false)?;
     let mut digest = empty();
-    assert!(rt; !decoder.gather(&[127; 131]));
-    assert!(rt; decoder.gather(&[127; 129]));
-    assert!(rt; decoder.count_closed() == 0);
-    assert!(rt; decoder.gather(&[127]));
-    assert!(rt; !decoder.gather(&[127]));
-    assert!(rt; decoder.count_closed() == 1);
-    decoder.feed(&rt, &[127; 128], &mut digest)?;
+    assert!(rt; queue.fill(false, &[127; 129]) == 129);
+    assert!(rt; queue.count_closed() == 0);
+    assert!(rt; queue.fill(false, &[127; 2]) == 1);
+    assert!(rt; queue.fill(false, &[127]) == 0);
+    assert!(rt; queue.count_closed() == 1);
+    put(&Alone, &mut queue, &[127; 128], &mut digest)?;
     assert!(rt; digest.blocks == 2);
     let mut many = opened(&rt, alloc, shape, Start::Zero, 7, false)?;
-    assert!(rt; !many.gather(&[127; 899]));
-    assert!(rt; many.gather(&[127; 898]));
+    assert!(rt; many.fill(false, &[127; 899]) == 898);
     assert!(rt; many.count_closed() == 7);
+    Ok(())
+}
+
+// Signed octets are those of the unsigned form.
+#[test]
+fn signed_octets(rt: HostRuntime) -> Result<(), Fail> {
+    let alloc = rt.alloc();
+    let mut octets = octets_for(&rt, alloc, Kind::Noisy, SHARED)?;
+    let wanted = alone(&rt, alloc, SHARED, Start::Zero, &octets, u64::MAX)?;
+    for k in 0..octets.len() {
+        octets[k] ^= 0x80;
+    }
+    let mut queue = opened(&rt, alloc, SHARED, Start::Zero, 2, false)?;
+    assert!(rt; (octets.len() as u64) < STREAM_BOUND);
+    let mut digest = empty();
+    assert!(rt; queue.fill(true, &octets) == octets.len());
+    hand_closed(&Alone, &mut queue, &mut digest)?;
+    put_last(&Alone, &mut queue, &mut digest)?;
+    assert!(rt; digest == wanted.digest);
     Ok(())
 }
 
@@ -270,10 +402,11 @@ fn followed<R: Abort + Threads + Sync>(
     way: Way,
     room: u64,
 ) -> Result<(Outcome, u64), Fail> {
-    let mut decoder = opened(rt, alloc, UPRIGHT, Start::Zero, workers, true)?;
+    let mut queue = opened(rt, alloc, UPRIGHT, Start::Zero, workers, true)?;
+    assert!(rt; (octets.len() as u64) < STREAM_BOUND);
     let mut digest = with_room(room);
-    let answer = feed_with_workers(rt, &mut decoder, octets, way, &mut digest);
-    Ok((Outcome { digest, answer }, decoder.slips()))
+    let answer = put_all(rt, &mut queue, octets, way, &mut digest);
+    Ok((Outcome { digest, answer }, queue.slips()))
 }
 
 // Undisturbed octets drop none. Where a symbol is lost in the second window, one is dropped before the third, the other
