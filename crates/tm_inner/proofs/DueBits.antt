@@ -5,9 +5,7 @@ use Rattle.tm_config.specs.Configuration.{Configuration}
 use Rattle.tm_conv.specs.declared.rates.Rate.{Rate}
 use Rattle.tm_viterbi.specs.WindowBlock.{WindowBlock}
 use Rattle.tm_viterbi.specs.Clean.{kept_bits}
-use Rattle.tm_windows.specs.Followed.{Windows}
-use Rattle.tm_windows.specs.Windows.{AreBlocksIn, AreFirstIn}
-use Rattle.tm_windows.proofs.WindowLaws.{due-is_first}
+use Rattle.tm_windows.specs.Windows.{Windows, AreBlocksIn, AreFirstIn}
 use Rattle.tm_inner.specs.Inner.{windows_of, soft_value, soft_octets, BlocksAt, DueAt, plain_bits, bits_at, AreInnerDue, AreInnerBlocks, inner_bits}
 use Rattle.tm_inner.proofs.PlainBits.{plain-append}
 
@@ -59,7 +57,7 @@ due-first stay first (Some rate) c phase octets more due blocks left is all =
     let w = windows_of c rate in
     let soft = soft_octets c phase octets in
     let back = map (soft_value c) (drop (phase - length (drop c.skip octets)) (drop (c.skip - length octets) more)) in
-    let split = first w (soft ++ back) due blocks left (stay w soft back due (due-is_first w.seen w soft due is))
+    let split = first w (soft ++ back) due blocks left (stay w soft back due (is.to, is.closed))
     (subst (λ (l : List ℕ). AreBlocksIn w l blocks left) (soft-more c phase octets more) all) in
     let is_one : ℕ → Bool = λ bit. bit == 1 in (
       map is_one (kept_bits split.0),

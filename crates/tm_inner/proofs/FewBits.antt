@@ -6,13 +6,13 @@ use Rattle.tm_conv.specs.declared.rates.Rate.{Rate}
 use Rattle.tm_viterbi.specs.WindowBlock.{WindowBlock}
 use Rattle.tm_viterbi.specs.Clean.{kept_bits}
 use Rattle.tm_windows.specs.Windows.{AreDueIn, AreFirstIn}
-use Rattle.tm_windows.proofs.WindowLaws.{due-none as none-of, due-is_first as due-prefix}
+use Rattle.tm_windows.proofs.FollowedOnce.{followed-no_due}
 use Rattle.tm_inner.specs.Inner.{windows_of, soft_value, soft_octets, BlocksAt, DueAt, plain_bits, bits_at, AreInnerBlocks, AreInnerDue, inner_bits}
 use Rattle.tm_inner.specs.Receiving.{FirstAt, AreInnerFirst}
 use Rattle.tm_inner.proofs.DueBits.{soft-more}
 use Rattle.tm_inner.proofs.ReceivedBits.{length-soft}
 use Rattle.tm_inner.proofs.PlainBits.{plain-few}
-use Rattle.tm_inner.proofs.WindowBits.{first-keeps, whole-keeps, more-keeps, last-keeps, later-keeps}
+use Rattle.tm_inner.proofs.FollowedBits.{followed-few, followed-whole_few, followed-more_few, followed-last_few}
 
 few-first : (rate : Option Rate) (c : Configuration) (phase : ℕ) (octets : List ℕ) (blocks : List WindowBlock)
     → FirstAt rate c phase octets blocks
@@ -22,7 +22,7 @@ few-first (Some rate) c phase octets blocks are =
     let w = windows_of c rate in
     omega (
       arith,
-      first-keeps w.seen w (soft_octets c phase octets) blocks are,
+      followed-few w (soft_octets c phase octets) blocks are,
       length-soft c phase octets,
       length-map (kept_bits blocks) (λ bit. bit == 1),
     )
@@ -36,7 +36,7 @@ few-whole (Some rate) c phase octets blocks left are =
     let w = windows_of c rate in
     omega (
       arith,
-      whole-keeps w.seen w (soft_octets c phase octets) blocks left are,
+      followed-whole_few w (soft_octets c phase octets) blocks left are,
       length-soft c phase octets,
       length-map (kept_bits blocks) (λ bit. bit == 1),
     )
@@ -55,8 +55,7 @@ whole-few c = few-whole c.inner c
 due-is-first : (rate : Option Rate) (c : Configuration) (phase : ℕ) (octets : List ℕ) (blocks : List WindowBlock)
     → DueAt rate c phase octets blocks → FirstAt rate c phase octets blocks
 due-is-first None c phase octets blocks are = are
-due-is-first (Some rate) c phase octets blocks are =
-    let w = windows_of c rate in due-prefix w.seen w (soft_octets c phase octets) blocks are
+due-is-first (Some rate) c phase octets blocks are = (are.to, are.closed)
 
 pub first-of-due : (c : Configuration) (phase : ℕ) (octets : List ℕ) (blocks : List WindowBlock)
     → AreInnerDue c phase octets blocks → AreInnerFirst c phase octets blocks
@@ -78,14 +77,14 @@ more-at rate c phase given octets done all due first =
       length-drop (phase - length (drop c.skip given)) more,
       length-drop (c.skip - length given) octets,
     ) in
-    omega (arith, more-keeps w.seen w (soft_octets c phase given) back done all due after, short)
+    omega (arith, followed-more_few w (soft_octets c phase given) back done all due after, short)
 
 last-at : (rate : Rate) (c : Configuration) (phase : ℕ) (given : List ℕ) (done all : List WindowBlock) (left : ℕ)
     → DueAt (Some rate) c phase given done → BlocksAt (Some rate) c phase given all left
     → length (kept_bits all) ≤ length (kept_bits done) + c.keep + c.ahead
 last-at rate c phase given done all left due are =
     let w = windows_of c rate in
-    last-keeps w.seen w (soft_octets c phase given) done all left due are
+    followed-last_few w (soft_octets c phase given) done all left due are
 
 abbrev with_rate : (P : Option Rate → Type 0) → P None → ((rate : Rate) → P (Some rate)) → (rate : Option Rate) → P rate
 with_rate P none some None = none
@@ -111,23 +110,6 @@ last-few c phase given done all left =
     (λ due are. omega (arith, ap (λ (l : List WindowBlock). length (kept_bits l)) are.0))
     (λ rate. last-at rate c phase given done all left) c.inner
 
--- the last of the blocks that are due
-pub due-kept : (c : Configuration) (phase : ℕ) (given : List ℕ) (done more : List WindowBlock)
-    → AreInnerDue c phase given (done ++ more) → length (kept_bits more) ≡ length more * c.keep
-due-kept c phase given done more =
-    with_rate (λ rate. DueAt rate c phase given (done ++ more) → length (kept_bits more) ≡ length more * c.keep)
-    (none done more)
-    (λ rate due. (let w = windows_of c rate in later-keeps w.seen w (soft_octets c phase given) done more due)) c.inner
-  where
-    none : (xs ys : List WindowBlock) → xs ++ ys ≡ [] → length (kept_bits ys) ≡ length ys * c.keep
-    none [] ys is =
-        omega (
-          arith,
-          ap (λ (l : List WindowBlock). length (kept_bits l)) is,
-          ap (λ (l : List WindowBlock). length l * c.keep) is,
-        )
-    none (x ∷ xs) ys is = absurd cc
-
 no-octets : (octets : List ℕ) → length octets ≡ 0 → octets ≡ []
 no-octets [] none = refl
 no-octets (octet ∷ octets) none = absurd (omega (arith, none))
@@ -138,7 +120,7 @@ none-due None c = refl
 none-due (Some rate) c =
     let w = windows_of c rate in
     subst (λ (l : List ℕ). AreDueIn w l []) (sym (no-octets (soft_octets c 0 []) (omega (arith, length-soft c 0 []))))
-    (none-of w.seen w)
+    (followed-no_due w)
 
 pub due-none : (c : Configuration) → AreInnerDue c 0 [] []
 due-none c = none-due c.inner c

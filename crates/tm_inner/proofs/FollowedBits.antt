@@ -1,5 +1,5 @@
 -- The bits that blocks keep in windows before which octets may be dropped.
-use Rattle.std.proofs.Common.{◌≡◌, inl, inr, ℕ, zero, suc, ◌+◌, ◌-◌, ◌*◌, ◌<◌, ◌≤◌, ◌∙◌, ◌++◌, refl, sym, ap, subst, arith, List, [], ◌∷◌, length, take, length-append, length-take}
+use Rattle.std.proofs.Common.{◌≡◌, inl, inr, ℕ, zero, suc, ◌+◌, ◌-◌, ◌<◌, ◌≤◌, ◌∙◌, ◌++◌, refl, sym, ap, subst, arith, List, [], ◌∷◌, length, take, length-append, length-take}
 use Rattle.std.proofs.lemmas.Bool.{cases_lt}
 use Rattle.tm_conv.specs.Path.{steps_size}
 use Rattle.tm_conv.proofs.Sizes.{steps_size-add, steps_size-least}
@@ -8,12 +8,13 @@ use Rattle.tm_viterbi.specs.WindowBlock.{WindowBlock}
 use Rattle.tm_viterbi.specs.Blocks.{IsBlock}
 use Rattle.tm_viterbi.specs.Clean.{kept_bits}
 use Rattle.tm_viterbi.proofs.Closing.{kept_is, more_octets}
+use Rattle.tm_conv.proofs.Unique.{IsBest-unique}
 use Rattle.tm_viterbi.proofs.OneList.{OneBest}
 use Rattle.tm_viterbi.proofs.WholeBlocks.{last_kept}
-use Rattle.tm_windows.specs.Followed.{Windows, Beginning, Spot, first_spot, BeginsLast, undropped, spot_after, Followed, AreFollowedFirst, IsOpenAt, AreFollowedDue, IsLast, AreFollowedOf, kept_of}
+use Rattle.tm_windows.specs.Windows.{Windows, Beginning, Spot, first_spot, BeginsLast, undropped, spot_after, Followed, AreFirstIn, IsOpenAt, AreDueIn, IsLast, AreBlocksIn, kept_of}
 use Rattle.tm_windows.proofs.Beginnings.{begins-one, begins-more, begins-within, longer_beginning, longer_spot}
 use Rattle.tm_windows.proofs.FollowedOnce.{closed-more, one-longer, open-stops, last-stops, both-stop}
-use Rattle.tm_windows.proofs.FollowedRuns.{kept-append, begun-taken, followed-steps, followed-taken}
+use Rattle.tm_windows.proofs.FollowedRuns.{kept-append, begun-taken, followed-taken}
 use Rattle.tm_inner.proofs.ReceivedBits.{block-bits, kept-le}
 
 -- ---- what blocks keep
@@ -44,7 +45,7 @@ followed-keep w from to (x ∷ xs) h =
       followed-keep w (spot_after s h.0 x) to xs h.3,
     )
 
-pub followed-few : (w : Windows) (octets : List ℕ) (blocks : List WindowBlock) → AreFollowedFirst w octets blocks
+pub followed-few : (w : Windows) (octets : List ℕ) (blocks : List WindowBlock) → AreFirstIn w octets blocks
     → length (kept_bits blocks) ≤ length octets
 followed-few w octets blocks h =
     let taken = followed-taken w (first_spot w octets) h.0 blocks h.1 in
@@ -97,7 +98,7 @@ pub record WholeKeeps (octets : List ℕ) (blocks : List WindowBlock) (left : �
   pub few : kept_of blocks + left ≤ length octets
 
 pub followed-whole : (w : Windows) (octets : List ℕ) (blocks : List WindowBlock) (left : ℕ)
-    → AreFollowedOf w octets blocks left → WholeKeeps octets blocks left
+    → AreBlocksIn w octets blocks left → WholeKeeps octets blocks left
 followed-whole w octets blocks left h =
     let s = w.settings in
     let from = first_spot w octets in
@@ -119,6 +120,11 @@ followed-whole w octets blocks left h =
         steps_size-least s.rate at.t h.count,
       );
     })
+
+pub followed-whole_few : (w : Windows) (octets : List ℕ) (blocks : List WindowBlock) (left : ℕ)
+    → AreBlocksIn w octets blocks left → length (kept_bits blocks) ≤ length octets
+followed-whole_few w octets blocks left h =
+    let k = followed-whole w octets blocks left h in omega (arith, k.bits, k.few)
 
 -- ---- blocks of further octets keep few bits more than those that are due
 
@@ -173,11 +179,11 @@ rest-few w to at octets (x ∷ xs) (inr few) h =
     few-steps s b.place.t n (s.keep + s.ahead) (length octets)
     (omega (arith, there, place.1, ap (λ (t : ℕ). steps_size s.rate t n) place.0, few.2))
 
-pub followed-more_few : OneBest → (w : Windows) (given octets : List ℕ) (done all : List WindowBlock)
-    → AreFollowedDue w given done
-    → AreFollowedFirst w (given ++ octets) all → kept_of all
+more-few : OneBest → (w : Windows) (given octets : List ℕ) (done all : List WindowBlock)
+    → AreDueIn w given done
+    → AreFirstIn w (given ++ octets) all → kept_of all
     ≤ kept_of done + w.settings.keep + w.settings.ahead + length octets
-followed-more_few one w given octets done all due first =
+more-few one w given octets done all due first =
     elim (one-longer one w (first_spot w (given ++ octets)) (longer_spot due.to octets) first.0 done all
     (closed-more w given octets done due.to due.closed) first.1)
     as (λ _. kept_of all ≤ kept_of done + w.settings.keep + w.settings.ahead + length octets) [
@@ -191,10 +197,10 @@ followed-more_few one w given octets done all due first =
     ]
 
 -- all blocks of the same octets keep at most a window more than those that are due
-pub followed-last_few : OneBest → (w : Windows) (given : List ℕ) (done all : List WindowBlock) (left : ℕ)
-    → AreFollowedDue w given done
-    → AreFollowedOf w given all left → kept_of all ≤ kept_of done + w.settings.keep + w.settings.ahead
-followed-last_few one w given done all left due whole =
+last-few : OneBest → (w : Windows) (given : List ℕ) (done all : List WindowBlock) (left : ℕ)
+    → AreDueIn w given done
+    → AreBlocksIn w given all left → kept_of all ≤ kept_of done + w.settings.keep + w.settings.ahead
+last-few one w given done all left due whole =
     let s = w.settings in
     let same = both-stop one w (first_spot w given) due.to whole.to done whole.done due.closed whole.closed
     (open-stops w due.to due.is_open)
@@ -202,14 +208,26 @@ followed-last_few one w given done all left due whole =
     let last = last-keeps s whole.window whole.count whole.last whole.steps.whole whole.few whole.is_last in
     omega (arith, ap kept_of whole.are, kept-append whole.done whole.last, last.steps, whole.few, ap kept_of same.0)
 
--- ---- closed windows after others
+-- the same of their bits
+pub followed-more_few : (w : Windows) (given octets : List ℕ) (done all : List WindowBlock) → AreDueIn w given done
+    → AreFirstIn w (given ++ octets) all → length (kept_bits all)
+    ≤ length (kept_bits done) + w.settings.keep + w.settings.ahead + length octets
+followed-more_few w given octets done all due first = omega (
+  arith,
+  more-few IsBest-unique w given octets done all due first,
+  followed-keep w (first_spot w given) due.to done due.closed,
+  followed-keep w (first_spot w (given ++ octets)) first.0 all first.1,
+)
 
-pub followed-later : (w : Windows) (from to : Spot) (prefix blocks : List WindowBlock)
-    → Followed w from (prefix ++ blocks) to
-    → length (kept_bits blocks) ≡ length blocks * w.settings.keep
-followed-later w from to [] blocks h =
-    followed-keep w from to blocks h ∙ followed-steps w from to blocks h
-followed-later w from to (x ∷ prefix) blocks h = followed-later w (spot_after w.settings h.0 x) to prefix blocks h.3
+pub followed-last_few : (w : Windows) (given : List ℕ) (done all : List WindowBlock) (left : ℕ)
+    → AreDueIn w given done → AreBlocksIn w given all left
+    → length (kept_bits all) ≤ length (kept_bits done) + w.settings.keep + w.settings.ahead
+followed-last_few w given done all left due whole = omega (
+  arith,
+  last-few IsBest-unique w given done all left due whole,
+  (followed-whole w given all left whole).bits,
+  followed-keep w (first_spot w given) due.to done due.closed,
+)
 
 -- ---- how many windows there are
 
@@ -232,7 +250,7 @@ last-count s b zero last h = omega (arith, ap length h)
 last-count s b (suc n) last h = omega (arith, ap length h.1)
 
 pub followed-count_all : (w : Windows) (octets : List ℕ) (blocks : List WindowBlock) (left : ℕ) → 0 < w.settings.keep
-    → AreFollowedOf w octets blocks left → length blocks ≤ kept_of blocks
+    → AreBlocksIn w octets blocks left → length blocks ≤ kept_of blocks
 followed-count_all w octets blocks left some h =
     let last = last-keeps w.settings h.window h.count h.last h.steps.whole h.few h.is_last in
     omega (

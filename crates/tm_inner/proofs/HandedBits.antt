@@ -1,9 +1,10 @@
 -- What is handed over after the choice of the phase comes to few bits.
-use Rattle.std.proofs.Common.{◌⊎◌, ℕ, ◌≡◌, ◌+◌, ◌-◌, ◌*◌, ◌≤◌, ◌<◌, ◌∙◌, refl, List, [], ◌∷◌, ◌++◌, length, drop, map, ap, sym, subst, arith, inl, inr, Option, Some, None, length-append, length-drop, min, ◌/◌, ◌%◌}
+use Rattle.std.proofs.Common.{◌⊎◌, ℕ, ◌≡◌, ◌+◌, ◌-◌, ◌*◌, ◌≤◌, ◌<◌, ◌^◌, ◌∙◌, refl, List, [], ◌∷◌, ◌++◌, length, drop, map, ap, sym, subst, arith, inl, inr, Option, Some, None, length-append, length-drop, min, ◌/◌, ◌%◌}
 use Rattle.std.proofs.lemmas.List.{append-nil, length-map}
 use Rattle.std.proofs.lemmas.Bool.{cases_lt}
 use Rattle.tm_base.specs.Handed.{Handed, Item, items_of}
 use Rattle.tm_base.proofs.HandedItems.{items_of-append, items_of-items}
+use Rattle.tm_config.specs.Accepted.{IsAccepted}
 use Rattle.tm_config.specs.Configuration.{Configuration}
 use Rattle.tm_config.specs.declared.values.Sought.TheVariants.{Given, Find}
 use Rattle.tm_config.proofs.Choices.{given_or_find, never_both}
@@ -15,7 +16,7 @@ use Rattle.tm_viterbi.specs.WindowBlock.{WindowBlock}
 use Rattle.tm_viterbi.specs.Clean.{kept_bits}
 use Rattle.tm_windows.specs.declared.choosing.Chosen.{Chosen}
 use Rattle.tm_windows.specs.Phase.{period_size}
-use Rattle.tm_inner.specs.Inner.{windows_of, soft_value, soft_octets, BlocksAt, AreInnerBlocks, AreInnerDue}
+use Rattle.tm_inner.specs.Inner.{windows_of, soft_value, soft_octets, BlocksAt, AreInnerBlocks}
 use Rattle.tm_inner.specs.Phase.{IsChosenBy, IsSettled, needed_at, skipped_at, phase_octets, skip_of, with_phase}
 use Rattle.tm_inner.specs.Receiving.{FirstAt, AreInnerFirst}
 use Rattle.tm_inner.specs.Handing.{AreHanded, AreHandedDue}
@@ -24,8 +25,8 @@ use Rattle.tm_inner.proofs.ReceivedBits.{length-soft}
 use Rattle.tm_inner.proofs.PhasePieces.{items_of-with_phase}
 use Rattle.tm_inner.proofs.WithPhase.{settled-stays}
 use Rattle.tm_inner.proofs.HandedPieces.{needed-some}
-use Rattle.tm_inner.proofs.WindowBits.{first-keeps, whole-keeps}
-use Rattle.tm_inner.proofs.FewBits.{due-kept, due-none, first-of-due, more-few, last-few}
+use Rattle.tm_inner.proofs.FollowedBits.{followed-few, followed-whole_few}
+use Rattle.tm_inner.proofs.FewBits.{due-none, first-of-due, more-few, last-few}
 
 -- ---- the phase needs few octets
 
@@ -65,6 +66,24 @@ length-phase : (c : Configuration) (octets : List ℕ) → length (phase_octets 
 length-phase c octets =
     length-map (drop (skipped_at c.inner c) octets) (soft_value c) ∙ length-drop (skipped_at c.inner c) octets
 
+skip-most : (rate : Option Rate) (c : Configuration) → skipped_at rate c ≤ c.skip
+skip-most None c = omega arith
+skip-most (Some rate) c = omega arith
+
+-- with so many octets that no more are counted the phase is settled
+pub many-settled : (c : Configuration) → IsAccepted c → (octets : List ℕ) → 2 ^ 60 ≤ length octets + 1
+    → IsSettled c octets
+many-settled c ok octets many = inr (omega (
+  arith,
+  many,
+  needed-few c.inner c,
+  length-phase c octets,
+  skip-most c.inner c,
+  ok.skip,
+  ok.keep,
+  ok.ahead,
+))
+
 -- what the first blocks of octets keep is no more than the soft octets that are decoded
 first-bits : (rate : Option Rate) (c : Configuration) (phase : ℕ) (octets : List ℕ) (blocks : List WindowBlock)
     → FirstAt rate c phase octets blocks
@@ -72,7 +91,7 @@ first-bits : (rate : Option Rate) (c : Configuration) (phase : ℕ) (octets : Li
 first-bits None c phase octets blocks are = omega (arith, ap (λ (l : List WindowBlock). length (kept_bits l)) are)
 first-bits (Some rate) c phase octets blocks are =
     let w = windows_of c rate in
-    omega (arith, first-keeps w.seen w (soft_octets c phase octets) blocks are, length-soft c phase octets)
+    omega (arith, followed-few w (soft_octets c phase octets) blocks are, length-soft c phase octets)
 
 whole-bits : (rate : Option Rate) (c : Configuration) (phase : ℕ) (octets : List ℕ) (blocks : List WindowBlock)
     (left : ℕ) → BlocksAt rate c phase octets blocks left
@@ -81,7 +100,7 @@ whole-bits None c phase octets blocks left are =
     omega (arith, ap (λ (l : List WindowBlock). length (kept_bits l)) are.0)
 whole-bits (Some rate) c phase octets blocks left are =
     let w = windows_of c rate in
-    omega (arith, whole-keeps w.seen w (soft_octets c phase octets) blocks left are, length-soft c phase octets)
+    omega (arith, followed-whole_few w (soft_octets c phase octets) blocks left are, length-soft c phase octets)
 
 -- what was handed over, and blocks or anything else after it
 items-of : (chosen : Option Chosen) (items : List WindowBlock) (done more : List (Handed WindowBlock))
@@ -193,58 +212,6 @@ handed-last-few c given done last left due h =
       arith,
       waiting-last-few c given done [] last left
           (subst (AreHandedDue c given) (sym (append-nil done)) due) h,
-    )
-
--- blocks that wait keep `keep` bits each, no more than there are octets
-pub waiting-kept : (c : Configuration) (given : List ℕ) (done : List (Handed WindowBlock))
-    (waiting : List WindowBlock) → AreHandedDue c given (done ++ map Item waiting)
-    → (length (kept_bits waiting) ≡ length waiting * c.keep) × (length (kept_bits waiting) ≤ length given)
-waiting-kept c given done [] due = (omega arith, omega arith)
-waiting-kept c given done (w ∷ waiting) (inl none) =
-    absurd (let is = (nothing done (Item w ∷ map Item waiting) none.1).1 in cc)
-waiting-kept c given done (w ∷ waiting) (inr due) =
-    let h = due.1 in
-    let is : items_of done ++ (w ∷ waiting) ≡ h.items = ap (λ (l : List WindowBlock). items_of done ++ l)
-    (sym (items_of-items (w ∷ waiting))) ∙ items-of h.chosen h.items done (map Item (w ∷ waiting)) h.are in
-    let first = first-bits c.inner c (skip_of h.chosen) given h.items
-    (first-of-due c (skip_of h.chosen) given h.items h.are_items) in (
-      due-kept c (skip_of h.chosen) given (items_of done) (w ∷ waiting)
-          (subst (AreInnerDue c (skip_of h.chosen) given) (sym is) h.are_items),
-      omega (arith, first, length-kept (items_of done) (w ∷ waiting) h.items is),
-    )
-
--- blocks that keep as many bits each
-abbrev KeepAll : Configuration → List WindowBlock → Type 0
-KeepAll c blocks = length (kept_bits blocks) ≡ length blocks * c.keep
-
--- as all do that are due
-pub handed-keep : (c : Configuration) (given : List ℕ) (handed : List (Handed WindowBlock))
-    → AreHandedDue c given handed
-    → length (kept_bits (items_of handed)) ≡ length (items_of handed) * c.keep
-handed-keep c given handed (inl none) =
-    subst (λ (l : List (Handed WindowBlock)). KeepAll c (items_of l)) (sym none.1) (omega arith)
-handed-keep c given handed (inr due) =
-    let h = due.1 in
-    let is : items_of handed ≡ h.items = ap items_of h.are ∙ items_of-with_phase h.chosen h.items in
-    subst (KeepAll c) (sym is) (due-kept c (skip_of h.chosen) given [] h.items h.are_items)
-
--- and those of them that were handed over
-pub done-keep : (c : Configuration) (given : List ℕ) (done : List (Handed WindowBlock))
-    (waiting : List WindowBlock) → AreHandedDue c given (done ++ map Item waiting)
-    → length (kept_bits (items_of done)) ≡ length (items_of done) * c.keep
-done-keep c given done waiting due =
-    let first = items_of done in
-    let items : items_of (done ++ map Item waiting) ≡ first ++ waiting =
-    items_of-append done (map Item waiting)
-    ∙ ap (λ (l : List WindowBlock). first ++ l) (items_of-items waiting) in
-    let all : length (kept_bits (first ++ waiting)) ≡ length (first ++ waiting) * c.keep =
-    subst (KeepAll c) items (handed-keep c given (done ++ map Item waiting) due) in
-    omega (
-      arith,
-      all,
-      (waiting-kept c given done waiting due).0,
-      length-kept first waiting (first ++ waiting) refl,
-      ap (λ (n : ℕ). n * c.keep) (length-append first waiting),
     )
 
 -- no octets have nothing that is due

@@ -21,9 +21,8 @@ use Rattle.tm_viterbi.specs.WindowBlock.{WindowBlock}
 use Rattle.tm_viterbi.specs.Blocks.{AreBlocksOf}
 use Rattle.tm_viterbi.specs.Clean.{IsFixed, AreClean, sure_symbols}
 use Rattle.tm_windows.specs.Slip.{steps_seen}
-use Rattle.tm_windows.specs.Followed.{Windows}
-use Rattle.tm_windows.specs.Windows.{AreBlocksIn, IsSeen}
-use Rattle.tm_windows.proofs.WindowLaws.{blocks-sent}
+use Rattle.tm_windows.specs.Windows.{Windows, AreBlocksIn, IsSeen}
+use Rattle.tm_windows.proofs.Undisturbed.{sure-blocks}
 use Rattle.tm_inner.specs.Inner.{IsStartKnown, settings_of, windows_of, soft_value, soft_octets, BlocksAt, AreInnerBlocks, plain_bits, bits_at, inner_bits, Inner}
 use Rattle.tm_inner.specs.Symbols.{is_inverted, low_level, plain_symbols, symbols_by, symbols_of_octets}
 use Rattle.tm_inner.proofs.PlainBits.{plain-sent}
@@ -174,7 +173,7 @@ bits-sent clean c (Some rate) octets blocks left is ok none known are =
     let w = windows_of c rate in
     let it = clean (settings_of c rate) 0 bits blocks left ok.some_keep (AreBits-bit_numbers (bits_of octets))
     (fixed c rate octets is known)
-    (blocks-sent w.seen w 0 bits blocks left (AreBits-bit_numbers (bits_of octets)) (omega arith)
+    (sure-blocks w 0 bits blocks left (AreBits-bit_numbers (bits_of octets)) (omega arith)
     (subst (λ (l : List ℕ). AreBlocksIn w l blocks left) (soft-sent c rate (bits_of octets) none) are)) in
     ap (map (λ bit. bit == 1)) it.kept ∙ numbers-bits (bits_of octets)
 

@@ -7,16 +7,17 @@ pub mod DueBits
 pub mod ReceivedBits
 pub mod FollowedBits
 pub mod Unfollowed
-pub mod WindowBits
 pub mod FewBits
 mod Metrics
-pub mod DueBlocks
 pub mod GivenPieces
-mod Opened
+pub mod Decoders
 pub mod PhasePieces
 pub mod Counted
 pub mod WithPhase
-mod EitherDecoder
 pub mod HandedPieces
+pub mod DecoderCalls
+pub mod DecoderReads
+pub mod DecoderPieces
+mod Receivers
 pub mod HandedBits
 pub mod WorkedBits

@@ -1,5 +1,5 @@
 -- How much a block costs at most.
-use Rattle.std.proofs.Common.{ℕ, zero, suc, ◌+◌, ◌-◌, ◌*◌, ◌<◌, ◌≤◌, Bool, List, [], ◌∷◌, length, take, drop, arith, Option, Some, None, length-take, subst, sym, inl, inr}
+use Rattle.std.proofs.Common.{ℕ, zero, suc, ◌+◌, ◌*◌, ◌<◌, ◌≤◌, List, [], ◌∷◌, length, take, drop, arith, Option, Some, None, length-take, subst, sym, inl, inr}
 use Rattle.std.specs.List.{All}
 use Rattle.std.proofs.lemmas.Bool.Decides.{nat_tests}
 use Rattle.std.proofs.lemmas.List.Elements.{All-append, All-cons, All-drop, All-head, All-map, All-nil, All-tail, All-take, All-weaker}
@@ -11,12 +11,10 @@ use Rattle.tm_conv.specs.Cost.{cost, distance}
 use Rattle.tm_conv.specs.Path.{path, step_size, steps_size}
 use Rattle.tm_conv.proofs.Sizes.{step_size-is}
 use Rattle.tm_viterbi.specs.Settings.{Settings}
-use Rattle.tm_viterbi.specs.Blocks.{IsBlock, AreBlocks}
+use Rattle.tm_viterbi.specs.Blocks.{IsBlock}
 use Rattle.tm_viterbi.specs.Due.{Place}
-use Rattle.tm_viterbi.specs.Starts.{first_start}
 use Rattle.tm_viterbi.specs.WindowBlock.{WindowBlock}
-use Rattle.tm_windows.specs.Followed.{Windows, Beginning, Spot, first_spot, DropsBy, BeginsBy, BeginsLast, undropped, spot_after, Followed, IsLast}
-use Rattle.tm_windows.specs.Windows.{AreBlocksBy}
+use Rattle.tm_windows.specs.Windows.{Windows, Beginning, Spot, first_spot, DropsBy, BeginsBy, BeginsLast, undropped, spot_after, Followed, IsLast, AreBlocksIn}
 use Rattle.tm_inner.specs.Inner.{windows_of, soft_value, soft_octets, BlocksAt, AreInnerBlocks}
 
 -- a symbol costs at most 255
@@ -41,24 +39,6 @@ steps-small rate t (suc n) =
 
 abbrev IsSmall : ℕ → WindowBlock → Type 0
 IsSmall most block = (block.steps ≤ most) × (block.metric ≤ 510 * block.steps)
-
-blocks-small : (rate : Rate) (invert : Bool) (keep ahead : ℕ) (starts : Option ℕ) (t n : ℕ) (octets : List ℕ)
-    (blocks : List WindowBlock) → AreOctets octets
-    → AreBlocks rate invert keep ahead starts t n octets blocks → All (IsSmall (keep + ahead)) blocks
-blocks-small rate invert keep ahead starts t n octets [] each are = All-nil (IsSmall (keep + ahead))
-blocks-small rate invert keep ahead starts t n octets (b ∷ blocks) each are =
-    let is = are.1 in
-    let window = take (steps_size rate t b.steps) octets in
-    let costs = cost-small (path rate invert t b.start b.bits) window
-    (All-take (λ v. v < 256) (steps_size rate t b.steps) octets each) in
-    let size = length-take (steps_size rate t b.steps) octets in
-    let rest = blocks-small rate invert keep ahead (Some b.end_state) (t + b.kept) (n - b.kept)
-    (drop (steps_size rate t b.kept) octets) blocks
-    (All-drop (λ v. v < 256) (steps_size rate t b.kept) octets each) are.2 in
-    All-cons (IsSmall (keep + ahead)) b blocks (
-      omega (arith, is.steps),
-      omega (arith, is.metric, costs, size, steps-small rate t b.steps),
-    ) rest
 
 -- ---- where octets may be dropped before windows
 
@@ -114,14 +94,10 @@ last-octets : (w : Windows) (spot : Spot) (b : Beginning) → AreOctets spot.pla
 last-octets w spot b each (inl begins) = begun-octets w spot.decided spot.place b each begins
 last-octets w spot b each (inr unseen) = subst (λ (v : Beginning). AreOctets v.place.octets) (sym unseen.1) each
 
--- each of the blocks of octets, whether the phase is followed or not
-small-by : (seen : Option ℕ) (w : Windows) (octets : List ℕ) (blocks : List WindowBlock) (left : ℕ) → AreOctets octets
-    → AreBlocksBy seen w octets blocks left
-    → All (IsSmall (w.settings.keep + w.settings.ahead)) blocks
-small-by None w octets blocks left each are =
-    let s = w.settings in
-    blocks-small s.rate s.invert s.keep s.ahead (first_start s.start) 0 are.count octets blocks each are.are
-small-by (Some steps) w octets blocks left each are =
+-- each of the blocks of octets
+blocks-small : (w : Windows) (octets : List ℕ) (blocks : List WindowBlock) (left : ℕ) → AreOctets octets
+    → AreBlocksIn w octets blocks left → All (IsSmall (w.settings.keep + w.settings.ahead)) blocks
+blocks-small w octets blocks left each are =
     let s = w.settings in
     let Small : WindowBlock → Type 0 = IsSmall (s.keep + s.ahead) in
     let done = followed-small w (first_spot w octets) are.to are.done each are.closed in
@@ -150,7 +126,7 @@ small-at None c phase octets blocks left each are =
     subst (All (IsSmall (c.keep + c.ahead))) (sym are.0) (All-nil (IsSmall (c.keep + c.ahead)))
 small-at (Some rate) c phase octets blocks left each are =
     let w = windows_of c rate in
-    small-by w.seen w (soft_octets c phase octets) blocks left (soft-each c phase octets each) are
+    blocks-small w (soft_octets c phase octets) blocks left (soft-each c phase octets each) are
 
 pub small-metrics : (c : Configuration) (phase : ℕ) (octets : List ℕ) (blocks : List WindowBlock) (left : ℕ)
     → IsAccepted c → AreOctets octets

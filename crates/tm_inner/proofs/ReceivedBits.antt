@@ -1,49 +1,19 @@
 -- How many bits octets come to.
-use Rattle.std.proofs.Common.{◌≡◌, ℕ, ◌+◌, ◌-◌, ◌*◌, ◌/◌, ◌%◌, ◌<◌, ◌≤◌, ◌==◌, Bool, false, List, [], ◌∷◌, ◌++◌, length, take, drop, map, sym, ap, ◌∙◌, subst, arith, Option, Some, None, length-append, length-drop, length-take, inl, inr}
+use Rattle.std.proofs.Common.{◌≡◌, ℕ, ◌+◌, ◌-◌, ◌≤◌, Bool, List, [], ◌∷◌, ◌++◌, length, take, drop, sym, ap, ◌∙◌, subst, arith, Option, Some, None, length-append, length-drop, length-take}
 use Rattle.std.proofs.lemmas.List.{length-map}
-use Rattle.std.proofs.lemmas.Bool.{cases_lt}
 use Rattle.std.proofs.lemmas.Bool.Decides.{nat_tests}
 use Rattle.tm_config.specs.Configuration.{Configuration}
 use Rattle.tm_conv.specs.declared.rates.Rate.{Rate}
-use Rattle.tm_conv.specs.Path.{period, steps_size}
+use Rattle.tm_conv.specs.Path.{steps_size}
 use Rattle.tm_conv.proofs.Paths.{length-path}
 use Rattle.tm_conv.proofs.Sizes.{same_from_steps_size, steps_size-add}
 use Rattle.tm_viterbi.specs.WindowBlock.{WindowBlock}
-use Rattle.tm_viterbi.specs.Blocks.{IsBlock, AreBlocks, AreBlocksOf, kept_steps, window_steps}
+use Rattle.tm_viterbi.specs.Blocks.{IsBlock, AreBlocks, kept_steps, window_steps}
 use Rattle.tm_viterbi.specs.Clean.{kept_bits}
-use Rattle.tm_viterbi.specs.Starts.{first_start}
 use Rattle.tm_viterbi.proofs.CleanBlocks.{steps-mono}
-use Rattle.tm_windows.proofs.Steps.{all_but, steps_of}
 use Rattle.tm_inner.proofs.DueBits.{drop-split}
 use Rattle.tm_inner.proofs.PlainBits.{plain-append, length-plain}
-use Rattle.tm_inner.proofs.Unfollowed.{blocks-unfollowed}
-use Rattle.tm_inner.specs.Inner.{settings_of, soft_value, soft_octets, BlocksAt, plain_bits, plain_count, bits_at, AreInnerBlocks, inner_bits}
-
--- ---- the whole steps of symbols
-
-abbrev AreWhole : Rate → ℕ → ℕ → Type 0
-AreWhole rate n count = (steps_size rate 0 count ≤ n) × (n < steps_size rate 0 (count + 1))
-
-pub whole_steps : (rate : Rate) (n p rest : ℕ) → p ≡ period rate → rest ≡ n % (p + 1) - 1
-    → AreWhole rate n (n / (p + 1) * p + rest)
-whole_steps rate n p rest same is =
-    subst (λ (r : ℕ). AreWhole rate n (n / (p + 1) * p + r)) (sym is)
-    (subst (λ (q : ℕ). AreWhole rate n (steps_of q n)) (sym same)
-    (let l = all_but rate n in (omega (arith, l.is), l.most)))
-
--- octets have one number of whole steps
-one-count : (rate : Rate) (n count other : ℕ) → AreWhole rate n count → AreWhole rate n other → count ≡ other
-one-count rate n count other a b =
-    let up = least rate n count other b.1 a.0 in
-    let down = least rate n other count a.1 b.0 in
-    omega arith
-  where
-    least : (rate : Rate) (n count other : ℕ) → n < steps_size rate 0 (other + 1) → steps_size rate 0 count ≤ n
-        → count ≤ other
-    least rate n count other most le = elim (cases_lt other count) as (λ _. count ≤ other) [
-      | inl less ↦ absurd (omega (arith, most, le, steps-mono rate 0 (other + 1) count (omega arith)))
-      | inr there ↦ there
-    ]
+use Rattle.tm_inner.specs.Inner.{soft_value, soft_octets, plain_bits, plain_count, bits_at, inner_bits}
 
 -- ---- blocks keep a bit for each step
 
@@ -92,27 +62,6 @@ pub length-soft : (c : Configuration) (phase : ℕ) (given : List ℕ)
 length-soft c phase given =
     length-map (drop phase (drop c.skip given)) (soft_value c)
     ∙ omega (arith, length-drop phase (drop c.skip given), length-drop c.skip given)
-
-pub bits-coded : (c : Configuration) (rate : Rate) (phase n m : ℕ) (given : List ℕ) (blocks : List WindowBlock)
-    (left : ℕ) → c.inner ≡ Some rate → c.follow ≡ false → length given ≡ n
-    → AreWhole rate (n - c.skip - phase) m → AreInnerBlocks c phase given blocks left
-    → m ≡ length (inner_bits c given blocks)
-bits-coded c rate phase n m given blocks left is plain long whole are =
-    subst (λ (r : Option Rate). BlocksAt r c phase given blocks left → m ≡ length (bits_at r c given blocks)) (sym is)
-    (λ at. counted (blocks-unfollowed c rate (soft_octets c phase given) blocks left plain at)) are
-  where
-    counted : AreBlocksOf (settings_of c rate) (soft_octets c phase given) blocks left
-        → m ≡ length (map (λ bit. bit == 1) (kept_bits blocks))
-    counted of =
-        let s = settings_of c rate in
-        let size : length (soft_octets c phase given) ≡ n - c.skip - phase = length-soft c phase given
-        ∙ ap (λ k. k - c.skip - phase) long in
-        let steps : AreWhole rate (n - c.skip - phase) of.count =
-        (omega (arith, size, of.steps.whole), omega (arith, size, of.steps.most)) in
-        let same : m ≡ of.count = one-count rate (n - c.skip - phase) m of.count whole steps in
-        let kept = kept-count rate s.invert s.keep s.ahead (first_start s.start) 0 of.count
-        (soft_octets c phase given) blocks of.steps.whole of.are in
-        same ∙ sym kept ∙ sym (length-map (kept_bits blocks) (λ bit. bit == 1))
 
 pub bits-plain : (c : Configuration) (n m : ℕ) (given : List ℕ) (blocks : List WindowBlock) → c.inner ≡ None
     → length given ≡ n

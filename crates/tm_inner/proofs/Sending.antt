@@ -1,5 +1,5 @@
 -- An inner sender that is given nothing, and one piece after another.
-use Rattle.std.proofs.Common.{◌≡◌, ℕ, ◌+◌, ◌≤◌, Bool, true, false, List, [], ◌++◌, length, take, Option, Some, None, refl, sym, ap, ◌∙◌, subst}
+use Rattle.std.proofs.Common.{◌≡◌, ℕ, ◌+◌, ◌≤◌, Bool, true, false, List, [], ◌++◌, length, take, Option, Some, None, refl, sym, ap, ◌∙◌, subst, Result, Ok, Err, IsErr, OnErr}
 use Rattle.std.proofs.Math.Seq.{take-append-add}
 use Rattle.std.proofs.lemmas.List.{take-append-le}
 use Rattle.std.specs.Io.KnownBytes.{append_known}
@@ -14,6 +14,10 @@ use Rattle.tm_conv.specs.Encoding.{Encoding}
 use Rattle.tm_inner.specs.Symbols.{low_level, plain_symbols, symbols_by, symbols_of_octets}
 use Rattle.tm_inner.specs.Sending.{InnerSending, IsEncoderOf, KeepsFor, InnerSenderStandsFor, InnerSends, InnerSendsPrefix, spread}
 use Rattle.tm_inner.proofs.Symbols.{octets-due, spread-append, spread-due, symbols-go_on}
+
+pub on_err_of : {T E : Type 0} (r : Result T E) (P : Type 0) → IsErr r → P → OnErr r P
+on_err_of (Ok x) P is p = absurd (cc)
+on_err_of (Err e) P is p = p
 
 pub sends-none : (sender : InnerSending) (taken : Option (List ℕ)) → InnerSends sender sender taken taken []
 sends-none sender taken = record {

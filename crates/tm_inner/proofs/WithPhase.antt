@@ -2,14 +2,14 @@
 -- is, and it goes on as octets come.
 use Rattle.std.proofs.Common.{◌≡◌, inl, inr, ℕ, ◌+◌, ◌-◌, Bool, List, ◌++◌, length, drop, map, refl, sym, ap, ◌∙◌, subst, min, Option, Some, None}
 use Rattle.tm_base.specs.Handed.{Handed, Item}
-use Rattle.tm_config.specs.Configuration.{Configuration}
+use Rattle.tm_base.specs.SoftForm.{from_form}
+use Rattle.tm_config.specs.Configuration.{Configuration, is_signed}
 use Rattle.tm_config.proofs.Choices.{given_or_find, never_both}
 use Rattle.tm_conv.specs.declared.rates.Rate.{Rate}
 use Rattle.tm_windows.specs.declared.choosing.Chosen.{Chosen}
 use Rattle.tm_windows.specs.Phase.{IsPhase}
 use Rattle.tm_inner.specs.Symbols.{is_inverted}
 use Rattle.tm_inner.specs.Phase.{PhaseAt, IsChosen, IsChosenBy, IsChosenSoFar, IsSettled, IsSettledBy, phase_octets, skip_of, skipped_at, with_phase, WithPhase, WithPhaseSettled, WithPhaseSoFar}
-use Rattle.tm_inner.specs.Receiving.{soft_form}
 use Rattle.tm_inner.proofs.GivenPieces.{phase_octets-more}
 use Rattle.tm_inner.proofs.PhasePieces.{PhaseStays, choice-more, settled-more, with_phase-more}
 
@@ -60,13 +60,13 @@ pub choice-stays : PhaseStays → (c : Configuration) (octets more : List ℕ) (
 choice-stays stays c octets more chosen settled is =
     let skipped = min (skipped_at c.inner c - length octets) (length more) in
     subst (λ (l : List ℕ). IsChosenBy c l chosen) (sym (phase_octets-more c octets more skipped refl))
-    (choice-more stays c (phase_octets c octets) (soft_form c (drop skipped more)) chosen settled is)
+    (choice-more stays c (phase_octets c octets) (from_form (is_signed c.soft) (drop skipped more)) chosen settled is)
 
 pub settled-stays : (c : Configuration) (octets more : List ℕ) → IsSettled c octets → IsSettled c (octets ++ more)
 settled-stays c octets more settled =
     let skipped = min (skipped_at c.inner c - length octets) (length more) in
     subst (λ (l : List ℕ). IsSettledBy c l) (sym (phase_octets-more c octets more skipped refl))
-    (settled-more c (phase_octets c octets) (soft_form c (drop skipped more)) settled)
+    (settled-more c (phase_octets c octets) (from_form (is_signed c.soft) (drop skipped more)) settled)
 
 pub so_far-stays : PhaseStays → (c : Configuration) (octets more : List ℕ) (chosen : Option Chosen)
     → IsSettled c octets → IsChosenSoFar c octets chosen

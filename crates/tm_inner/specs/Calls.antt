@@ -1,37 +1,16 @@
--- What the calls of an inner receiver, and of the decoder within it, promise.
-use Rattle.std.specs.Prelude.{◌≡◌, ◌↔◌, ℕ, ◌+◌, ◌<◌, ◌≤◌, ◌++◌, true, false, List, length, Result, IfOk, OnErr, OnOk, IsErrOf, IsTrue}
+-- What the calls of an inner receiver promise.
+use Rattle.std.specs.Prelude.{◌≡◌, ◌↔◌, ℕ, ◌+◌, ◌<◌, ◌≤◌, ◌++◌, true, false, List, length, Result, IfOk, OnOk, IsErrOf, IsTrue}
 use Rattle.tm_base.specs.Calls.{CallAnswers, TakerCall}
 use Rattle.tm_base.specs.Handed.{Handed, items_of}
-use Rattle.tm_base.specs.Outside.{HasCause}
 use Rattle.tm_viterbi.specs.WindowBlock.{WindowBlock}
 use Rattle.tm_viterbi.specs.WindowSizes.{stream_bound}
-use Rattle.tm_viterbi.specs.declared.decoder.FeedError.{FeedError}
-use Rattle.tm_viterbi.specs.declared.decoder.FeedError.TheVariants.{Stopped, Taker}
-use Rattle.tm_windows.specs.Windows.{AreFirstIn}
-use Rattle.tm_inner.specs.declared.inner_decoder.InnerDecoder.{InnerDecoder}
-use Rattle.tm_inner.specs.declared.inner_receiver.InnerEnd.{InnerEnd}
+use Rattle.tm_windows.specs.declared.decoder.FeedError.{FeedError}
+use Rattle.tm_windows.specs.declared.decoder.FeedError.TheVariants.{Stopped, Taker}
+use Rattle.tm_inner.specs.declared.decoder.InnerEnd.{InnerEnd}
 use Rattle.tm_inner.specs.Inner.{inner_bits, reported_slips}
-use Rattle.tm_inner.specs.InnerDecoding.{has_stopped_in, windows_in, StandsIn}
 use Rattle.tm_inner.specs.Phase.{IsChosen, IsChosenSoFar}
-use Rattle.tm_inner.specs.Receiving.{Hands, HandsPrefix, InnerReceiving, InnerReceiverStandsFor}
+use Rattle.tm_inner.specs.Receiving.{InnerReceiving, InnerReceiverStandsFor}
 use Rattle.tm_inner.specs.Handing.{AreHanded, AreHandedDue, AreHandedFirst, AreHandedPrefix}
-
--- ---- of the decoder
-
--- given these soft octets, a decoder that had not stopped handed over blocks that are due, or the
--- first of them until the taker failed
-pub record GivesSoft {T R E : Type 0} (took broke : T → WindowBlock → T → Type 0) (faults : T → ℕ)
-    (is_last : T → Type 0) (before now : InnerDecoder) (taker taker_now : T) (soft : List ℕ)
-    (result : Result R E) : Type 0 where
-  pub windows : windows_in now ≡ windows_in before
-  pub fresh : OnOk result (has_stopped_in now ≡ false)
-  pub stopped : OnErr result (has_stopped_in now ≡ true)
-  pub handed : OnOk result (Hands took StandsIn before now taker taker_now soft)
-  pub prefix : OnErr result (HandsPrefix took broke StandsIn (AreFirstIn (windows_in before)) before
-      taker taker_now soft)
-  pub cause : HasCause (faults taker) (faults taker_now) (is_last taker_now) result
-
--- ---- of the receiver
 
 -- it is refused once the receiver has stopped, and fails only where the taker does
 abbrev pub Calls : {R : Type 0} → (before now : InnerReceiving) → TakerCall (Handed WindowBlock)
@@ -49,7 +28,7 @@ pub record Feeds {R : Type 0} (before now : InnerReceiving) (octets : List ℕ)
   pub chosen : (given : List ℕ) (done : List (Handed WindowBlock))
       → InnerReceiverStandsFor before given done
       → before.has_stopped ≡ false
-      → IsChosenSoFar before.config (given ++ octets) now.phased.chosen
+      → IsChosenSoFar before.config (given ++ octets) now.chosen
   pub handed : OnOk result ((more : List (Handed WindowBlock)) × taker.took more
       × ((given : List ℕ) (done : List (Handed WindowBlock))
       → length given + length octets < stream_bound
@@ -71,7 +50,7 @@ pub record Finishes (before now : InnerReceiving) (taker : TakerCall (Handed Win
   pub config : now.config ≡ before.config
   pub chosen : (given : List ℕ) (done : List (Handed WindowBlock))
       → InnerReceiverStandsFor before given done
-      → before.has_stopped ≡ false → IsChosen before.config given now.phased.chosen
+      → before.has_stopped ≡ false → IsChosen before.config given now.chosen
   pub handed : IfOk result (λ end. (last : List (Handed WindowBlock)) × taker.took last
       × ((given : List ℕ) (done : List (Handed WindowBlock))
       → InnerReceiverStandsFor before given done

@@ -1,11 +1,12 @@
 -- What is handed over for received octets: the symbol phase, where it is to be found, and then
 -- blocks.
-use Rattle.std.specs.Prelude.{◌⊎◌, ℕ, List}
+use Rattle.std.specs.Prelude.{◌≡◌, ◌⊎◌, ℕ, List, true, false}
 use Rattle.tm_base.specs.Handed.{Handed}
 use Rattle.tm_config.specs.Configuration.{Configuration}
 use Rattle.tm_viterbi.specs.WindowBlock.{WindowBlock}
 use Rattle.tm_inner.specs.Inner.{AreInnerBlocks, AreInnerDue}
-use Rattle.tm_inner.specs.Phase.{WithPhase, WithPhaseSettled, WithPhaseSoFar}
+use Rattle.tm_inner.specs.InnerDecoding.{InnerDecoding}
+use Rattle.tm_inner.specs.Phase.{IsChosen, IsChosenSoFar, IsSettled, WithPhase, WithPhaseSettled, WithPhaseSoFar}
 use Rattle.tm_inner.specs.Receiving.{AreInnerFirst}
 
 -- all that is handed over, and how many octets are left over
@@ -25,3 +26,14 @@ AreHandedFirst c octets = WithPhaseSettled (λ phase. AreInnerFirst c phase octe
 abbrev pub AreHandedPrefix : Configuration → List ℕ → List (Handed WindowBlock) → Type 0
 AreHandedPrefix c octets = WithPhase (λ phase blocks. AreInnerFirst c phase octets blocks ⊎
     ((left : ℕ) × AreInnerBlocks c phase octets blocks left)) c octets
+
+-- the phase that a decoder keeps is the one chosen of these octets, once it is settled, or at the end
+pub record IsKept (d : InnerDecoding) (octets : List ℕ) : Type 0 where
+  pub so_far : d.has_ended ≡ false → IsChosenSoFar d.config octets d.chosen
+  pub at_end : d.has_ended ≡ true → IsChosen d.config octets d.chosen
+
+-- the first of what is read of a decoder for these octets: before the end the phase is settled
+pub record IsReadPart (d : InnerDecoding) (octets : List ℕ)
+    (handed : List (Handed WindowBlock)) : Type 0 where
+  pub first : WithPhase (λ phase. AreInnerFirst d.config phase octets) d.config octets handed
+  pub settled : d.has_ended ≡ false → IsSettled d.config octets

@@ -1,8 +1,9 @@
 -- The bits that are received: those that the inner code is decoded to (CCSDS 131.0-B, Convolutional
 -- Coding).
-use Rattle.std.specs.Prelude.{◌≡◌, ◌⊎◌, ℕ, ◌+◌, ◌*◌, ◌%◌, ◌==◌, nat_le, Bool, true, false, if◌then◌else◌}
+use Rattle.std.specs.Prelude.{◌≡◌, ◌⊎◌, ℕ, ◌*◌, ◌==◌, nat_le, Bool, true, false, if◌then◌else◌}
 use Rattle.std.specs.Prelude.{List, [], drop, map, Option, Some, None}
 use Rattle.tm_base.specs.Bits.{bits_of}
+use Rattle.tm_base.specs.SoftForm.{unsigned_value}
 use Rattle.tm_config.specs.Configuration.{Configuration, is_signed}
 use Rattle.tm_conv.specs.declared.rates.Rate.{Rate}
 use Rattle.tm_conv.specs.declared.rates.Rate.TheVariants.{R12}
@@ -11,8 +12,7 @@ use Rattle.tm_viterbi.specs.Settings.{Settings}
 use Rattle.tm_viterbi.specs.WindowBlock.{WindowBlock}
 use Rattle.tm_viterbi.specs.Clean.{kept_bits}
 use Rattle.tm_windows.specs.Slip.{steps_seen}
-use Rattle.tm_windows.specs.Followed.{Windows, slips_of}
-use Rattle.tm_windows.specs.Windows.{AreBlocksIn, AreDueIn}
+use Rattle.tm_windows.specs.Windows.{Windows, AreBlocksIn, AreDueIn, slips_of}
 use Rattle.tm_inner.specs.Symbols.{is_inverted}
 
 -- how soft octets of this rate are decoded
@@ -36,11 +36,6 @@ windows_of c rate = record {
 -- followed
 abbrev pub reported_slips : Configuration → List WindowBlock → Option ℕ
 reported_slips c blocks = if c.follow then Some (slips_of blocks) else None
-
--- an octet, signed or not, as one of which 0 is the surest 0 and 255 the surest 1; signed these are
--- -128 and 127, in two's complement
-abbrev pub unsigned_value : Bool → ℕ → ℕ
-unsigned_value is_signed octet = if is_signed then (octet + 128) % 256 else octet
 
 -- a soft octet as such, by the form of a configuration
 abbrev pub soft_value : Configuration → ℕ → ℕ

@@ -1,55 +1,128 @@
--- What contracts see of the decoder of the inner code, with one worker or with several.
-use Rattle.std.specs.Prelude.{◌≡◌, ℕ, ◌+◌, ◌<◌, ◌≤◌, Bool, false, List, length, Option, Some, None, IsTrue}
+-- What contracts see of the decoder of a configuration's inner code, and for which octets, put in so
+-- far, and which blocks, decoded so far, it stands.
+use Rattle.std.specs.Prelude.{◌≡◌, ◌⊎◌, ℕ, ◌*◌, ◌<◌, ◌≤◌, Bool, true, false, List, [], length, Option, Some, None, nat_lt, if◌then◌else◌, ◌||◌}
+use Rattle.std.specs.Option.{is_some}
 use Rattle.tm_config.specs.Configuration.{Configuration}
+use Rattle.tm_config.specs.declared.values.Sought.{Sought}
+use Rattle.tm_config.specs.declared.values.Sought.TheVariants.{Given, Find}
+use Rattle.tm_conv.specs.declared.rates.Rate.{Rate}
 use Rattle.tm_viterbi.specs.WindowBlock.{WindowBlock}
 use Rattle.tm_viterbi.specs.WindowSizes.{stream_bound}
-use Rattle.tm_viterbi.specs.Decoding.{DecoderStandsFor}
-use Rattle.tm_windows.specs.Followed.{Windows, slips_of, kept_of}
-use Rattle.tm_windows.specs.Gathered.{IsOpen, room_of}
-use Rattle.tm_windows.specs.Sharing.{SharesAmong}
-use Rattle.tm_windows.specs.ParallelDecoding.{ParallelStandsFor}
-use Rattle.tm_inner.specs.declared.inner_decoder.InnerDecoder.{InnerDecoder}
-use Rattle.tm_inner.specs.declared.inner_decoder.InnerDecoder.TheVariants.{One, Many}
+use Rattle.tm_windows.specs.Queue.{Queueing, AwaitsPhase, QueueStandsFor, QueueEndsFor, HoldsRun, IsOpen, SharesAmong, fill_room, reached}
+use Rattle.tm_windows.specs.declared.choosing.Chosen.{Chosen}
+use Rattle.tm_inner.specs.Inner.{windows_of}
+use Rattle.tm_inner.specs.Phase.{IsChosenBy, phase_octets}
 
--- how it decodes
-abbrev pub windows_in : InnerDecoder → Windows
-windows_in (One decoder) = record { settings = decoder.settings; seen = None }
-windows_in (Many decoder) = decoder.windows
+-- what contracts see of it
+pub record InnerDecoding : Type 0 where
+  pub config : Configuration
+  -- that of the inner code; None where there is no inner code
+  pub queue : Option Queueing
+  -- how many octets were given, up to the greatest value that is counted
+  pub count : ℕ
+  -- None before the choice of the phase, and where it is given
+  pub chosen : Option Chosen
+  -- the phase was read, or is given
+  pub has_phase : Bool
+  -- no octets come any more
+  pub has_ended : Bool
 
--- an earlier call answered Taker, or `finish` was called
-abbrev pub has_stopped_in : InnerDecoder → Bool
-has_stopped_in (One decoder) = decoder.has_stopped
-has_stopped_in (Many decoder) = decoder.has_stopped
+-- the queue is that of the configuration's inner code, and there is none where it has no inner code
+abbrev pub IsQueueOf : Configuration → Option Queueing → Type 0
+IsQueueOf c None = c.inner ≡ None
+IsQueueOf c (Some queue) = (rate : Rate) × (c.inner ≡ Some rate) × (queue.windows ≡ windows_of c rate)
+    × ((c.phase ≡ Given × (queue.find ≡ false)) ⊎ (c.phase ≡ Find × (queue.find ≡ true)))
 
--- it has as many workers as it was opened for, and windows at a time for these; one worker has the
--- decoder of one, unless the phase is followed
-abbrev pub HasWorkers : ℕ → Configuration → Option InnerDecoder → Type 0
-HasWorkers workers c None = Unit {0}
-HasWorkers workers c (Some (One decoder)) = workers ≡ 1
-HasWorkers workers c (Some (Many decoder)) =
-    SharesAmong workers decoder.gathering.workers × (workers ≡ 1 → IsTrue c.follow)
+-- the queue ends with it, and was given no more octets than it was, fewer than 2^60
+abbrev pub GoesWith : Option Queueing → (count : ℕ) → (has_ended : Bool) → Type 0
+GoesWith None count has_ended = Unit {0}
+GoesWith (Some queue) count has_ended = (queue.has_ended ≡ has_ended) × (reached queue ≤ count)
+    × (reached queue < stream_bound)
 
--- it can take so many octets, all of them, and decode none yet
-abbrev pub CanGather : InnerDecoder → ℕ → Type 0
-CanGather (One decoder) count = ⊥
-CanGather (Many decoder) count =
-    (decoder.has_stopped ≡ false) × (decoder.count + count < stream_bound)
-    × (length decoder.gathering.held.octets + count ≤ room_of decoder.gathering)
+-- it has as many workers as it was opened for, and windows at a time for these
+abbrev pub HasWorkers : ℕ → Option Queueing → Type 0
+HasWorkers workers None = Unit {0}
+HasWorkers workers (Some queue) = SharesAmong workers queue
 
--- the octets that it holds close no window
-abbrev pub HasClosed : InnerDecoder → Type 0
-HasClosed (One decoder) = Unit {0}
-HasClosed (Many decoder) = IsOpen decoder.gathering
+-- these soft octets were put in, and these blocks were decoded; with no inner code there are none
+abbrev pub DecodesFor : Option Queueing → List ℕ → List WindowBlock → Type 0
+DecodesFor None soft blocks = blocks ≡ []
+DecodesFor (Some queue) soft blocks = QueueStandsFor queue soft blocks
 
--- it was given these octets and no others, and has handed over these blocks, the first of those
--- that are due
-abbrev pub StandsIn : InnerDecoder → List ℕ → List WindowBlock → Type 0
-StandsIn (One decoder) given done = DecoderStandsFor decoder given done
-StandsIn (Many decoder) given done = ParallelStandsFor decoder given done
+-- nothing is left to decode
+abbrev pub IsDrained : Option Queueing → Type 0
+IsDrained None = Unit {0}
+IsDrained (Some queue) = IsOpen queue
 
--- it has counted before how many of the windows of these blocks octets were dropped; one with
--- several workers has counted how many steps they keep, too
-abbrev pub HasCounted : InnerDecoder → List WindowBlock → Type 0
-HasCounted (One decoder) blocks = slips_of blocks ≡ 0
-HasCounted (Many decoder) blocks =
-    (slips_of blocks ≡ decoder.gathering.slips) × (kept_of blocks ≡ decoder.gathering.t)
+-- how many soft octets are held
+abbrev pub held_in : Option Queueing → List ℕ
+held_in None = []
+held_in (Some queue) = queue.held
+
+-- the phase is the one that its queue has chosen
+abbrev pub HasChosen : Option Queueing → Option Chosen → Type 0
+HasChosen None chosen = Unit {0}
+HasChosen (Some queue) chosen = queue.chosen ≡ chosen
+
+-- These octets and no others were put in, fewer than 2^60, and these blocks were decoded, the ready
+-- ones last. The phase is that of the octets, or it is still to be chosen, and there are no blocks.
+pub record InnerDecoderStandsFor (d : InnerDecoding) (given : List ℕ)
+    (blocks : List WindowBlock) : Type 0 where
+  pub of : IsQueueOf d.config d.queue
+  pub same : HasChosen d.queue d.chosen
+  pub count : length given ≡ d.count
+  pub few : length given < stream_bound
+  pub decodes : DecodesFor d.queue (phase_octets d.config given) blocks
+  pub choice : ((d.chosen ≡ None) × (blocks ≡ []) × (d.has_ended ≡ false)) ⊎
+      IsChosenBy d.config (phase_octets d.config given) d.chosen
+
+-- all octets were given and decoded, and so many octets are left over
+abbrev pub EndsFor : Option Queueing → List ℕ → List WindowBlock → ℕ → Type 0
+EndsFor None soft blocks left = (blocks ≡ []) × (left ≡ 0)
+EndsFor (Some queue) soft blocks left = QueueEndsFor queue soft blocks left
+
+-- the blocks that are ready
+abbrev pub ready_in : Option Queueing → List WindowBlock
+ready_in None = []
+ready_in (Some queue) = queue.ready
+
+-- so many octets are left of those that were to be put in: none, or there is no room for one more
+abbrev pub HasFilled : Option Queueing → ℕ → Type 0
+HasFilled None left = left ≡ 0
+HasFilled (Some queue) left = (left ≡ 0) ⊎ (fill_room queue ≤ length queue.held)
+
+-- what is held closes windows that keep more bits than so many
+abbrev pub HoldsMore : Option Queueing → ℕ → Type 0
+HoldsMore None bits = Unit {0}
+HoldsMore (Some queue) bits = AwaitsPhase queue ⊎ ((count : ℕ) × HoldsRun queue count
+    × (bits < count * queue.windows.settings.keep))
+
+-- the phase is chosen, or given
+abbrev pub IsSettledQueue : Option Queueing → Type 0
+IsSettledQueue None = Unit {0}
+IsSettledQueue (Some queue) = AwaitsPhase queue → ⊥
+
+-- it is for the same octets, ended or not, and a phase that is settled stays so
+pub record IsSameDecoder (before now : InnerDecoding) : Type 0 where
+  pub config : now.config ≡ before.config
+  pub ended : now.has_ended ≡ before.has_ended
+  pub settled : IsSettledQueue before.queue → IsSettledQueue now.queue
+
+-- with no inner code phase 0 at no cost is chosen by the first octet, or at the end
+abbrev pub plain_phase_by : Sought → Bool → Option Chosen
+plain_phase_by Find true = Some (record { skip = 0; cost = 0 })
+plain_phase_by phase settled = None
+
+abbrev pub plain_phase : Configuration → (count : ℕ) → (has_ended : Bool) → Option Chosen
+plain_phase c count has_ended = plain_phase_by c.phase (nat_lt 0 count || has_ended)
+
+abbrev pub chosen_in : Configuration → Option Queueing → ℕ → Bool → Option Chosen
+chosen_in c None count has_ended = plain_phase c count has_ended
+chosen_in c (Some queue) count has_ended = queue.chosen
+
+-- the phase, where it was chosen and not read yet; and whether it was read after that
+abbrev pub unread : InnerDecoding → Option Chosen
+unread d = if d.has_phase then None else d.chosen
+
+abbrev pub has_phase_now : InnerDecoding → Bool
+has_phase_now d = d.has_phase || is_some d.chosen

@@ -1,47 +1,28 @@
-// The receiver's first stage.
-ghost use Rattle.std.specs.Prelude.{◌≡◌, ◌↔◌, ◌++◌, ℕ, ◌+◌, ◌-◌, ◌<◌, ◌≤◌, ◌==◌, ◌⊎◌, IsTrue, List, [], true, false, IfOk, OnOk, IsErrOf, None, length, drop, map, min, take};
+// The receiver's first stage, handed over.
+ghost use Rattle.std.specs.Prelude.{◌≡◌, ◌≢◌, ◌++◌, ℕ, ◌-◌, ◌+◌, ◌<◌, ◌≤◌, ◌==◌, List, [], false, IfOk, OnOk, OnErr, IsErrOf, Err, None, length, drop, map};
 ghost use Rattle.std.specs.Option.{is_some};
 ghost use Rattle.tm_base.specs.Calls.{taker_call};
-ghost use Rattle.tm_base.specs.Handed.{Handed, Item, items_of, on_handed};
+ghost use Rattle.tm_base.specs.Handed.{Handed, items_of, on_handed};
+ghost use Rattle.tm_base.specs.Outside.{HasCause, Rose};
 ghost use Rattle.tm_base.specs.Takers.{HandedOver, HandedPart};
-ghost use Rattle.tm_base.specs.Limits.{most_workers};
-ghost use Rattle.tm_config.specs.Configuration.{unfollowed};
 ghost use Rattle.tm_conv.specs.Path.{AreBits};
 ghost use Rattle.tm_viterbi.specs.WindowBlock.{WindowBlock};
-ghost use Rattle.tm_viterbi.specs.Clean.{kept_bits};
 ghost use Rattle.tm_viterbi.specs.WindowSizes.{stream_bound};
-ghost use Rattle.tm_windows.specs.Followed.{slips_of};
-ghost use Rattle.tm_inner.specs.Inner.{AreInnerBlocks, inner_bits, nearest_bit, plain_bits, plain_count, reported_slips};
-ghost use Rattle.tm_inner.specs.Phase.{IsChosen, IsChosenSoFar, phase_octets, skip_of, skipped_at};
-ghost use Rattle.tm_inner.specs.InnerDecoding.{HasWorkers};
-ghost use Rattle.tm_inner.specs.Receiving.{GathersNothing, HasCountedAll, HasGathered, IsCount, InnerReceiverStandsFor};
-ghost use Rattle.tm_inner.specs.Calls.{Calls, Feeds, Finishes};
-ghost use Rattle.tm_inner.specs.Handing.{AreHanded, AreHandedDue, AreHandedFirst, AreHandedPrefix};
+ghost use Rattle.tm_windows.specs.Windows.{slips_of};
+ghost use Rattle.tm_inner.specs.Inner.{inner_bits, nearest_bit, plain_bits, plain_count, reported_slips};
+ghost use Rattle.tm_inner.specs.Phase.{IsChosen, IsChosenSoFar, phase_octets, with_phase};
+ghost use Rattle.tm_inner.specs.InnerDecoding.{IsDrained, IsSameDecoder, has_phase_now, held_in, unread};
+ghost use Rattle.tm_inner.specs.Receiving.{Hands, HandsPrefix, HasHanded, HasRead, InnerReceiverStandsFor};
+ghost use Rattle.tm_inner.specs.Calls.{Feeds, Finishes};
+ghost use Rattle.tm_inner.specs.Handing.{AreHanded, AreHandedFirst, AreHandedPrefix, IsKept, IsReadPart};
 
-use crate::code::{is_packed, is_signed, rate_of};
-use crate::counting::{count_bits, plain_count};
-use crate::feeding::to_unsigned;
-use crate::nearest::nearest_bits;
-use crate::phased::Phased;
-use crate::workers::{Alone, Feeding, WithWorkers};
+use crate::decoder::{InnerDecoder, InnerEnd};
 use std::alloc::Global;
 use std::marker::Model;
-use std::thread::Threads;
 use tm_base::{Failed, NoMemory};
 use tm_config::Config;
-use tm_viterbi::{BlockTaker, FeedError};
-use tm_windows::Chosen;
-
-/// What came of all octets.
-#[derive(Clone, Copy, Debug, PartialEq, Eq)]
-pub struct InnerEnd {
-    /// How many bits were received.
-    pub bits: u64,
-    /// Before how many windows octets were dropped; None where the symbol phase is not followed.
-    pub slips: Option<u64>,
-    /// How many octets are left over after the last whole step of the inner code: none or one.
-    pub leftover: u8,
-}
+use tm_viterbi::BlockTaker;
+use tm_windows::{AllError, Alone, Chosen, FeedError};
 
 /// Makes the blocks of the inner code of octets that are received, piece by piece (CCSDS 131.0-B, Convolutional
 /// Coding): it drops the octets that are to be skipped, undoes the soft form, finds the symbol phase where it isn't
@@ -49,49 +30,40 @@ pub struct InnerEnd {
 /// memory at `open`.
 #[derive(Drop)]
 pub struct InnerReceiver {
-    config: Config,
-    phased: Phased,
-    // The octets given.
-    count: u64,
+    decoder: InnerDecoder,
     has_stopped: bool,
 }
 
 impl Model for InnerReceiver {
     ghost use Rattle.std.specs.Prelude.{◌≡◌, false};
-    ghost use Rattle.tm_inner.specs.Receiving.{InnerReceiving, HasStopped};
+    ghost use Rattle.tm_inner.specs.InnerDecoding.{IsDrained};
+    ghost use Rattle.tm_inner.specs.Receiving.{InnerReceiving};
 
     ghost Value = { InnerReceiving };
 
-    ghost view = { λ r. record { config = r.config; phased = r.phased; count = r.count; has_stopped = r.has_stopped } };
+    ghost view = { λ r. record {
+      config = r.decoder.config;
+      decoder = r.decoder;
+      count = r.decoder.count;
+      chosen = r.decoder.chosen;
+      has_stopped = r.has_stopped;
+    } };
 
-    ghost invariant = { λ r. (r.phased.config ≡ r.config)
-        × (r.has_stopped ≡ false → HasStopped false r.phased.decoder) };
+    ghost invariant = { λ r. r.has_stopped ≡ false
+        → (r.decoder.has_ended ≡ false) × IsDrained r.decoder.queue };
 }
 
 impl InnerReceiver {
-    /// The inner receiver of a configuration, which was given nothing yet, with one worker. It fails only where there
-    /// isn't enough memory.
+    /// The inner receiver of a configuration, which was given nothing yet. It fails only where there isn't enough
+    /// memory.
     pub fn open(alloc: Global, config: &Config) -> Result<InnerReceiver, NoMemory>
         ensures config { IfOk result (λ r. r.config ≡ config.now) }
         ensures fresh { IfOk result (λ r. r.has_stopped ≡ false) }
         ensures stands { IfOk result (λ r. InnerReceiverStandsFor r [] []) }
     {
-        InnerReceiver::open_for(alloc, config, 1)
-    }
-
-    /// The same with 1 to 64 workers, by which windows are decoded side by side where the calls are given threads.
-    pub fn open_for(alloc: Global, config: &Config, workers: u8) -> Result<InnerReceiver, NoMemory>
-        requires workers { (0 < workers) × (workers ≤ most_workers) }
-        ensures config { IfOk result (λ r. r.config ≡ config.now) }
-        ensures fresh { IfOk result (λ r. r.has_stopped ≡ false) }
-        ensures stands { IfOk result (λ r. InnerReceiverStandsFor r [] []) }
-        ensures workers { IfOk result (λ r. HasWorkers workers config.now r.phased.decoder) }
-    {
-        let phased = Phased::open(alloc, config, workers)?;
+        let decoder = InnerDecoder::open(alloc, config, 1)?;
         Ok(InnerReceiver {
-            config: *config,
-            phased,
-            count: 0,
+            decoder,
             has_stopped: false,
         })
     }
@@ -110,119 +82,16 @@ impl InnerReceiver {
             (taker_call (on_handed B.took_phase B.took) (on_handed B.broke_phase B.broke) B.faults B.is_last
             blocks.old blocks.new) result }
     {
-        self.feed_by(&Alone, octets, blocks)
-    }
-
-    /// Does what `feed` does, and has the workers decode the windows side by side that are closed by these octets.
-    pub fn feed_with<R: Threads + Sync, B: BlockTaker>(
-        &mut self,
-        rt: &R,
-        octets: &[u8],
-        blocks: &mut B,
-    ) -> Result<(), FeedError>
-        ensures { Feeds self.old self.new octets.now
-            (taker_call (on_handed B.took_phase B.took) (on_handed B.broke_phase B.broke) B.faults B.is_last
-            blocks.old blocks.new) result }
-    {
-        self.feed_by(&WithWorkers { rt }, octets, blocks)
-    }
-
-    // Does what `feed` does, in this way.
-    fn feed_by<F: Feeding<B>, B: BlockTaker>(
-        &mut self,
-        by: &F,
-        octets: &[u8],
-        blocks: &mut B,
-    ) -> Result<(), FeedError>
-        requires ready { F.is_ready by.now }
-        ensures call { Calls self.old self.new
-            (taker_call (on_handed B.took_phase B.took) (on_handed B.broke_phase B.broke) B.faults B.is_last
-            blocks.old blocks.new) result }
-        ensures stops { IsTrue self.new.has_stopped ↔ OnOk result ⊥ }
-        ensures config { self.new.config ≡ self.old.config }
-        ensures chosen { (given : List ℕ) (done : List (Handed WindowBlock))
-            → InnerReceiverStandsFor self.old given done
-            → self.old.has_stopped ≡ false
-            → IsChosenSoFar self.old.config (given ++ octets.now) self.new.phased.chosen }
-        ensures handed { OnOk result ((more : List (Handed WindowBlock))
-            × HandedOver (on_handed B.took_phase B.took) blocks.old more blocks.new
-            × ((given : List ℕ) (done : List (Handed WindowBlock)) → length given + length octets.now < stream_bound
-            → InnerReceiverStandsFor self.old given done
-            → InnerReceiverStandsFor self.new (given ++ octets.now) (done ++ more)
-            × AreHandedDue self.old.config (given ++ octets.now) (done ++ more))) }
-        ensures prefix { IsErrOf result FeedError.Taker
-            → (tried : List (Handed WindowBlock))
-            × HandedPart (on_handed B.took_phase B.took) (on_handed B.broke_phase B.broke) blocks.old tried blocks.new
-            × ((given : List ℕ) (done : List (Handed WindowBlock)) → length given + length octets.now < stream_bound
-            → InnerReceiverStandsFor self.old given done
-            → AreHandedFirst self.old.config (given ++ octets.now) (done ++ tried)) }
-    {
         if self.has_stopped {
             return Err(FeedError::Stopped);
         }
-        let skipped = self.octets_to_skip(octets.len());
-        self.count = self.count.saturating_add(octets.len() as u64);
-        match self.phased.feed(by, &octets[skipped..], blocks) {
+        match take(&mut self.decoder, octets, blocks) {
             Ok(()) => Ok(()),
             Err(Failed) => {
                 self.has_stopped = true;
                 Err(FeedError::Taker)
             }
         }
-    }
-
-    /// Takes of the next octets the first ones, all or so many that it has no room for all others, and decodes none:
-    /// the blocks that are due with them are handed over by the next call that is not of this kind. Answers how many
-    /// octets it took. With one worker or no inner code, while octets are to be skipped or the symbol phase is to be
-    /// chosen, where an earlier call answered `Taker`, and after `finish` these are none.
-    ///
-    /// The octets given in all are to be below 2^60.
-    pub fn gather(&mut self, octets: &[u8]) -> usize
-        ensures config { self.new.config ≡ self.old.config }
-        ensures stopped { self.new.has_stopped ≡ self.old.has_stopped }
-        ensures chosen { self.new.phased.chosen ≡ self.old.phased.chosen }
-        ensures most { result ≤ length octets.now }
-        ensures all { GathersNothing self.old
-            ⊎ HasGathered self.new.phased.decoder (length octets.now - result) }
-        ensures gathered { (given : List ℕ) (done : List (Handed WindowBlock)) → length given + result < stream_bound
-            → InnerReceiverStandsFor self.old given done
-            → InnerReceiverStandsFor self.new (given ++ take result octets.now) done }
-    {
-        if self.has_stopped || self.octets_to_skip(octets.len()) > 0 {
-            return 0;
-        }
-        let taken = self.phased.gather(octets);
-        self.count = self.count.saturating_add(taken as u64);
-        taken
-    }
-
-    /// How many blocks are due and were not handed over yet, as octets were gathered. Where the symbol phase is
-    /// followed there may be fewer, since octets may be dropped; with the blocks that were handed over it counts no
-    /// more than would be due if none were.
-    pub fn count_due(&self) -> usize
-        ensures due { (given : List ℕ) (done : List (Handed WindowBlock)) → InnerReceiverStandsFor self.now given done
-            → (more : List WindowBlock) × IsCount self.now.config (length more) result
-            × AreHandedDue self.now.config given (done ++ map Item more) }
-        ensures most { (given : List ℕ) (done all : List (Handed WindowBlock))
-            → InnerReceiverStandsFor self.now given done
-            → AreHandedDue (unfollowed self.now.config) given all
-            → length (items_of done) + result ≤ length (items_of all) }
-    {
-        self.phased.count_due()
-    }
-
-    /// How many bits these blocks keep. Where the symbol phase is followed there may be fewer of them, too; with the
-    /// bits of the blocks that were handed over it counts no more than if no octet were dropped.
-    pub fn bits_due(&self) -> u64
-        ensures due { (given : List ℕ) (done : List (Handed WindowBlock)) → InnerReceiverStandsFor self.now given done
-            → (more : List WindowBlock) × IsCount self.now.config (length (kept_bits more)) result
-            × AreHandedDue self.now.config given (done ++ map Item more) }
-        ensures most { (given : List ℕ) (done all : List (Handed WindowBlock))
-            → InnerReceiverStandsFor self.now given done
-            → AreHandedDue (unfollowed self.now.config) given all
-            → length (kept_bits (items_of done)) + result ≤ length (kept_bits (items_of all)) }
-    {
-        (self.count_due() as u64).saturating_mul(self.config.keep())
     }
 
     /// Hands over what is left: the symbol phase, where it is to be found and was not chosen yet, and the last blocks.
@@ -236,69 +105,24 @@ impl InnerReceiver {
             (taker_call (on_handed B.took_phase B.took) (on_handed B.broke_phase B.broke) B.faults B.is_last
             blocks.old blocks.new) result }
     {
-        self.finish_by(&Alone, blocks)
-    }
-
-    /// Does what `finish` does, and has the workers decode windows side by side.
-    pub fn finish_with<R: Threads + Sync, B: BlockTaker>(
-        &mut self,
-        rt: &R,
-        blocks: &mut B,
-    ) -> Result<InnerEnd, FeedError>
-        ensures { Finishes self.old self.new
-            (taker_call (on_handed B.took_phase B.took) (on_handed B.broke_phase B.broke) B.faults B.is_last
-            blocks.old blocks.new) result }
-    {
-        self.finish_by(&WithWorkers { rt }, blocks)
-    }
-
-    // Does what `finish` does, in this way.
-    fn finish_by<F: Feeding<B>, B: BlockTaker>(
-        &mut self,
-        by: &F,
-        blocks: &mut B,
-    ) -> Result<InnerEnd, FeedError>
-        requires ready { F.is_ready by.now }
-        ensures call { Calls self.old self.new
-            (taker_call (on_handed B.took_phase B.took) (on_handed B.broke_phase B.broke) B.faults B.is_last
-            blocks.old blocks.new) result }
-        ensures stops { self.new.has_stopped ≡ true }
-        ensures config { self.new.config ≡ self.old.config }
-        ensures chosen { (given : List ℕ) (done : List (Handed WindowBlock))
-            → InnerReceiverStandsFor self.old given done
-            → self.old.has_stopped ≡ false
-            → IsChosen self.old.config given self.new.phased.chosen }
-        ensures handed { IfOk result (λ end. (last : List (Handed WindowBlock))
-            × HandedOver (on_handed B.took_phase B.took) blocks.old last blocks.new
-            × ((given : List ℕ) (done : List (Handed WindowBlock)) → InnerReceiverStandsFor self.old given done
-            → AreHanded self.old.config given (done ++ last) end.leftover
-            × (end.bits ≡ length (inner_bits self.old.config given (items_of (done ++ last))))
-            × (end.slips ≡ reported_slips self.old.config (items_of (done ++ last))))) }
-        ensures prefix { IsErrOf result FeedError.Taker
-            → (tried : List (Handed WindowBlock))
-            × HandedPart (on_handed B.took_phase B.took) (on_handed B.broke_phase B.broke) blocks.old tried blocks.new
-            × ((given : List ℕ) (done : List (Handed WindowBlock)) → InnerReceiverStandsFor self.old given done
-            → AreHandedPrefix self.old.config given (done ++ tried)) }
-        ensures left { IfOk result (λ end. end.leftover ≤ 1) }
-    {
         if self.has_stopped {
             return Err(FeedError::Stopped);
         }
         self.has_stopped = true;
-        match self.phased.end(by, blocks) {
-            Ok(leftover) => Ok(ended(&self.config, &self.phased, self.count, leftover)),
-            Err(Failed) => Err(FeedError::Taker),
-        }
+        let Ok(end) = end(&mut self.decoder, blocks) else {
+            return Err(FeedError::Taker);
+        };
+        Ok(end)
     }
 
     /// The symbol phase that was chosen: None before the choice, and where the phase is given.
     pub fn chosen(&self) -> Option<Chosen>
-        ensures value { result ≡ self.now.phased.chosen }
+        ensures value { result ≡ self.now.chosen }
         ensures so_far { (given : List ℕ) (done : List (Handed WindowBlock))
             → InnerReceiverStandsFor self.now given done
             → IsChosenSoFar self.now.config given result }
     {
-        self.phased.chosen()
+        self.decoder.chosen()
     }
 
     /// Before how many windows octets were dropped, of those whose blocks were handed over: none where the symbol phase
@@ -307,14 +131,14 @@ impl InnerReceiver {
         ensures { (given : List ℕ) (done : List (Handed WindowBlock)) → InnerReceiverStandsFor self.now given done
             → result ≡ slips_of (items_of done) }
     {
-        self.phased.slips()
+        self.decoder.slips()
     }
 
     /// Whether the configuration has an inner code. Where it has none, no block comes, and the octets hold the bits.
     pub fn has_inner_code(&self) -> bool
         ensures { result ≡ is_some self.now.config.inner }
     {
-        rate_of(&self.config).is_some()
+        self.decoder.has_inner_code()
     }
 
     /// With no inner code, how many bits of the next octets are still to be skipped, 0 to 15. The bits after them are
@@ -327,9 +151,7 @@ impl InnerReceiver {
             → inner_bits self.now.config (given ++ octets) []
             ≡ inner_bits self.now.config given [] ++ drop result (plain_bits self.now.config octets) }
     {
-        self.config
-            .skip()
-            .saturating_sub(plain_count(&self.config, self.count))
+        self.decoder.bits_to_skip()
     }
 
     /// Whether octets hold eight bits each where there is no inner code. Else each is one bit, which `nearest_bits`
@@ -337,7 +159,7 @@ impl InnerReceiver {
     pub fn is_packed(&self) -> bool
         ensures { result ≡ self.now.config.pack }
     {
-        is_packed(&self.config)
+        self.decoder.is_packed()
     }
 
     /// Puts the bits that octets are nearest to in `bits`, each 0 or 1: 1 for an octet from 80 (hex) on, or in the
@@ -348,7 +170,7 @@ impl InnerReceiver {
         ensures are_bits { AreBits bits.new }
         ensures bits { map (λ bit. bit == 1) bits.new ≡ map (nearest_bit self.now.config) octets.now }
     {
-        nearest_bits(&self.config, octets, bits);
+        self.decoder.nearest_bits(octets, bits);
     }
 
     /// Converts the next octets, before they are fed, to soft octets of which 0 is the surest 0 and 255 the surest 1.
@@ -361,64 +183,194 @@ impl InnerReceiver {
             → phase_octets self.now.config (given ++ octets.old)
             ≡ phase_octets self.now.config given ++ drop result octets.new }
     {
-        if is_signed(&self.config) {
-            to_unsigned(octets);
+        self.decoder.to_soft(octets)
+    }
+}
+
+// Puts octets in, those that are below 2^60 with those before, and hands over what is due with them.
+fn take<B: BlockTaker>(
+    decoder: &mut InnerDecoder,
+    octets: &[u8],
+    blocks: &mut B,
+) -> Result<(), Failed>
+    requires drained { IsDrained decoder.old.queue }
+    requires going { decoder.old.has_ended ≡ false }
+    ensures kept { (decoder.new.config ≡ decoder.old.config) × (decoder.new.has_ended ≡ false) }
+    ensures drained { OnOk result (IsDrained decoder.new.queue) }
+    ensures handed { OnOk result (Hands (on_handed B.took_phase B.took) HasHanded decoder.old decoder.new
+        blocks.old blocks.new octets.now) }
+    ensures prefix { OnErr result (HandsPrefix (on_handed B.took_phase B.took) (on_handed B.broke_phase B.broke)
+        HasHanded (AreHandedFirst decoder.old.config) decoder.old blocks.old blocks.new octets.now) }
+    ensures chosen { (given : List ℕ) (done : List (Handed WindowBlock)) → HasHanded decoder.old given done
+        → IsChosenSoFar decoder.old.config (given ++ octets.now) decoder.new.chosen }
+    ensures cause { HasCause (B.faults blocks.old) (B.faults blocks.new) (B.is_last blocks.new) result }
+{
+    let within = decoder.within(octets.len());
+    take_within(decoder, &octets[..within], blocks)
+}
+
+// The same of octets that are fewer than 2^60 with those before.
+fn take_within<B: BlockTaker>(
+    decoder: &mut InnerDecoder,
+    octets: &[u8],
+    blocks: &mut B,
+) -> Result<(), Failed>
+    requires drained { IsDrained decoder.old.queue }
+    requires going { decoder.old.has_ended ≡ false }
+    ensures kept { (decoder.new.config ≡ decoder.old.config) × (decoder.new.has_ended ≡ false) }
+    ensures drained { OnOk result (IsDrained decoder.new.queue) }
+    ensures handed { OnOk result (Hands (on_handed B.took_phase B.took) HasHanded decoder.old decoder.new
+        blocks.old blocks.new octets.now) }
+    ensures prefix { OnErr result (HandsPrefix (on_handed B.took_phase B.took) (on_handed B.broke_phase B.broke)
+        HasHanded (AreHandedFirst decoder.old.config) decoder.old blocks.old blocks.new octets.now) }
+    ensures chosen { (given : List ℕ) (done : List (Handed WindowBlock))
+        → length given + length octets.now < stream_bound → HasHanded decoder.old given done
+        → IsChosenSoFar decoder.old.config (given ++ octets.now) decoder.new.chosen }
+    ensures cause { HasCause (B.faults blocks.old) (B.faults blocks.new) (B.is_last blocks.new) result }
+{
+    let mut done = 0;
+    while done < octets.len() {
+        done += decoder.fill(&octets[done..]);
+        match hand_due(decoder, blocks) {
+            Ok(()) => {}
+            Err(Failed) => return Err(Failed),
         }
-        self.octets_to_skip(octets.len())
     }
+    Ok(())
+}
 
-    // How many of the next octets, so many, are still to be skipped; with no inner code none, as bits are.
-    fn octets_to_skip(&self, count: usize) -> usize
-        ensures { result ≡ min (skipped_at self.now.config.inner self.now.config - self.now.count) count }
-    {
-        if self.has_inner_code() {
-            let left = self.config.skip().saturating_sub(self.count);
-            left.min(count as u64) as usize
-        } else {
-            0
+// Hands over the phase, where it is chosen now, and the blocks of the windows that are closed.
+fn hand_due<B: BlockTaker>(decoder: &mut InnerDecoder, blocks: &mut B) -> Result<(), Failed>
+    ensures kept { IsSameDecoder decoder.old decoder.new }
+    ensures drained { OnOk result (IsDrained decoder.new.queue × (unread decoder.new ≡ None)) }
+    ensures handed { OnOk result (Hands (on_handed B.took_phase B.took) HasRead decoder.old decoder.new
+        blocks.old blocks.new []) }
+    ensures prefix { OnErr result (HandsPrefix (on_handed B.took_phase B.took) (on_handed B.broke_phase B.broke)
+        HasRead (IsReadPart decoder.old) decoder.old blocks.old blocks.new []) }
+    ensures chosen { (given : List ℕ) (done : List (Handed WindowBlock)) → HasRead decoder.old given done
+        → IsKept decoder.new given }
+    ensures cause { HasCause (B.faults blocks.old) (B.faults blocks.new) (B.is_last blocks.new) result }
+{
+    'runs: loop {
+        match hand_run(decoder, blocks) {
+            Ok(count) => {
+                if count == 0 {
+                    return Ok(());
+                }
+            }
+            Err(Failed) => return Err(Failed),
         }
     }
 }
 
-// What came of so many octets, once the decoder has ended.
-fn ended(config: &Config, phased: &Phased, count: u64, leftover: u8) -> InnerEnd
-    requires { phased.now.config ≡ config.now }
-    ensures left { result.leftover ≡ leftover }
-    ensures counts { (given : List ℕ) (blocks : List WindowBlock) (left : ℕ) → length given ≡ count
-        → length given < stream_bound → AreInnerBlocks config.now (skip_of phased.now.chosen) given blocks left
-        → HasCountedAll phased.now.decoder blocks
-        → (result.bits ≡ length (inner_bits config.now given blocks))
-        × (result.slips ≡ reported_slips config.now blocks) }
+// Decodes the next run of windows, and hands over the phase, where it was chosen since, and their blocks. Answers how
+// many.
+fn hand_run<B: BlockTaker>(decoder: &mut InnerDecoder, blocks: &mut B) -> Result<usize, Failed>
+    ensures kept { IsSameDecoder decoder.old decoder.new }
+    ensures drained { IfOk result (λ count. (count ≡ 0 → IsDrained decoder.new.queue)
+        × (unread decoder.new ≡ None)) }
+    ensures shorter { IfOk result (λ count. 0 < count
+        → length (held_in decoder.new.queue) < length (held_in decoder.old.queue)) }
+    ensures handed { OnOk result (Hands (on_handed B.took_phase B.took) HasRead decoder.old decoder.new
+        blocks.old blocks.new []) }
+    ensures prefix { OnErr result (HandsPrefix (on_handed B.took_phase B.took) (on_handed B.broke_phase B.broke)
+        HasRead (IsReadPart decoder.old) decoder.old blocks.old blocks.new []) }
+    ensures chosen { (given : List ℕ) (done : List (Handed WindowBlock)) → HasRead decoder.old given done
+        → IsKept decoder.new given }
+    ensures cause { HasCause (B.faults blocks.old) (B.faults blocks.new) (B.is_last blocks.new) result }
 {
-    InnerEnd {
-        bits: bits_received(config, phased, count),
-        slips: reported_slips(config, phased),
-        leftover,
+    let count = decoder.decode(&Alone);
+    match hand_phase(decoder, blocks) {
+        Ok(()) => {}
+        Err(Failed) => return Err(Failed),
+    }
+    match decoder.hand(blocks) {
+        Ok(()) => Ok(count),
+        Err(Failed) => Err(Failed),
     }
 }
 
-// How many bits were received with so many octets: a bit for each step, where these were counted.
-fn bits_received(config: &Config, phased: &Phased, count: u64) -> u64
-    requires { phased.now.config ≡ config.now }
-    ensures { (given : List ℕ) (blocks : List WindowBlock) (left : ℕ) → length given ≡ count
-        → length given < stream_bound
-        → AreInnerBlocks config.now (skip_of phased.now.chosen) given blocks left
-        → HasCountedAll phased.now.decoder blocks → result ≡ length (inner_bits config.now given blocks) }
+// Hands over the phase, where it was chosen since.
+fn hand_phase<B: BlockTaker>(decoder: &mut InnerDecoder, blocks: &mut B) -> Result<(), Failed>
+    ensures read { decoder.new ≡ record decoder.old { has_phase = has_phase_now decoder.old } }
+    ensures ok { OnOk result (HandedOver (on_handed B.took_phase B.took) blocks.old
+        (with_phase (unread decoder.old) []) blocks.new) }
+    ensures err { OnErr result (HandedPart (on_handed B.took_phase B.took) (on_handed B.broke_phase B.broke) blocks.old
+        (with_phase (unread decoder.old) []) blocks.new) }
+    ensures cause { HasCause (B.faults blocks.old) (B.faults blocks.new) (B.is_last blocks.new) result }
 {
-    match phased.steps() {
-        Some(steps) => steps,
-        None => count_bits(config, phased.skip(), count),
+    match decoder.new_phase() {
+        Some(chosen) => blocks.phase(chosen.skip, chosen.cost),
+        None => Ok(()),
     }
 }
 
-// Before how many windows octets were dropped, where the symbol phase is followed.
-fn reported_slips(config: &Config, phased: &Phased) -> Option<u64>
-    ensures { (blocks : List WindowBlock) → HasCountedAll phased.now.decoder blocks
-        → result ≡ reported_slips config.now blocks }
+// Ends a decoder, and hands over what is left.
+fn end<B: BlockTaker>(decoder: &mut InnerDecoder, blocks: &mut B) -> Result<InnerEnd, Failed>
+    ensures config { decoder.new.config ≡ decoder.old.config }
+    ensures handed { IfOk result (λ end. (last : List (Handed WindowBlock))
+        × HandedOver (on_handed B.took_phase B.took) blocks.old last blocks.new
+        × ((given : List ℕ) (done : List (Handed WindowBlock)) → HasHanded decoder.old given done
+        → AreHanded decoder.old.config given (done ++ last) end.leftover
+        × (end.bits ≡ length (inner_bits decoder.old.config given (items_of (done ++ last))))
+        × (end.slips ≡ reported_slips decoder.old.config (items_of (done ++ last))))) }
+    ensures prefix { OnErr result ((tried : List (Handed WindowBlock))
+        × HandedPart (on_handed B.took_phase B.took) (on_handed B.broke_phase B.broke) blocks.old tried blocks.new
+        × ((given : List ℕ) (done : List (Handed WindowBlock)) → HasHanded decoder.old given done
+        → AreHandedPrefix decoder.old.config given (done ++ tried))) }
+    ensures chosen { (given : List ℕ) (done : List (Handed WindowBlock)) → HasHanded decoder.old given done
+        → IsChosen decoder.old.config given decoder.new.chosen }
+    ensures left { IfOk result (λ end. end.leftover ≤ 1) }
+    ensures cause { HasCause (B.faults blocks.old) (B.faults blocks.new) (B.is_last blocks.new) result }
 {
-    if config.values().follow {
-        Some(phased.slips())
-    } else {
-        None
+    decoder.settle();
+    match hand_due(decoder, blocks) {
+        Ok(()) => {}
+        Err(Failed) => return Err(Failed),
+    }
+    let end = decoder.last();
+    match decoder.hand(blocks) {
+        Ok(()) => Ok(end),
+        Err(Failed) => Err(Failed),
+    }
+}
+
+/// Hands over the symbol phase of received octets, fewer than 2^60, where it is to be found, and their blocks. Answers
+/// how many bits were received, how often octets were dropped, and how many are left over. With no inner code no block
+/// comes.
+///
+/// `Memory` comes only where there isn't enough of it. `Taker` comes where `blocks` fails; a prefix of all was then
+/// handed over.
+pub fn inner_all<B: BlockTaker>(
+    alloc: Global,
+    config: &Config,
+    octets: &[u8],
+    blocks: &mut B,
+) -> Result<InnerEnd, AllError>
+    ensures handed { IfOk result (λ end. (all : List (Handed WindowBlock))
+        × HandedOver (on_handed B.took_phase B.took) blocks.old all blocks.new
+        × (length octets.now < stream_bound → AreHanded config.now octets.now all end.leftover
+        × (end.bits ≡ length (inner_bits config.now octets.now (items_of all)))
+        × (end.slips ≡ reported_slips config.now (items_of all)))) }
+    ensures prefix { IsErrOf result AllError.Taker
+        → (tried : List (Handed WindowBlock)) × HandedPart (on_handed B.took_phase B.took)
+        (on_handed B.broke_phase B.broke) blocks.old tried blocks.new
+        × (length octets.now < stream_bound → AreHandedPrefix config.now octets.now tried) }
+    ensures left { IfOk result (λ end. end.leftover ≤ 1) }
+    ensures unchanged { IsErrOf result AllError.Memory → blocks.new ≡ blocks.old }
+    ensures later { B.faults blocks.old ≤ B.faults blocks.new }
+    ensures rose { IsErrOf result AllError.Taker
+        → Rose (B.faults blocks.old) (B.faults blocks.new) (B.is_last blocks.new) }
+    ensures same { result ≢ Err AllError.Taker → B.faults blocks.new ≡ B.faults blocks.old }
+{
+    let Ok(mut receiver) = InnerReceiver::open(alloc, config) else {
+        return Err(AllError::Memory);
+    };
+    let Ok(()) = receiver.feed(octets, blocks) else {
+        return Err(AllError::Taker);
+    };
+    match receiver.finish(blocks) {
+        Ok(end) => Ok(end),
+        Err(_) => Err(AllError::Taker),
     }
 }

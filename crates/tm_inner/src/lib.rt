@@ -5,20 +5,15 @@
 
 mod code;
 mod counting;
-mod feeding;
-mod held_symbols;
-mod inner_decoder;
+mod decoder;
 mod inner_receiver;
 mod inner_sender;
 mod laws;
 mod nearest;
-mod phased;
-mod received_whole;
 mod spreading;
-mod workers;
 
 pub use code::{held_bits, is_inverted, rate_of, shape_of};
-pub use inner_receiver::{InnerEnd, InnerReceiver};
+pub use decoder::{InnerDecoder, InnerEnd};
+pub use inner_receiver::{InnerReceiver, inner_all};
 pub use inner_sender::{InnerSender, SendError};
 pub use laws::{clean_inner_law, due_bits_law, inner_law, metric_law};
-pub use received_whole::inner_all;

@@ -4,7 +4,7 @@ ghost use Rattle.tm_conv.specs.Path.{AreBits};
 ghost use Rattle.tm_inner.specs.Inner.{nearest_bit};
 
 use crate::code::is_signed;
-use crate::held_symbols::unsigned;
+use tm_base::unsigned;
 use tm_config::Config;
 
 // Puts the bits that octets are nearest to in `bits`, each 0 or 1.

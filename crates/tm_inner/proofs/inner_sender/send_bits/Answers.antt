@@ -2,8 +2,7 @@ use Rattle.std.proofs.Common.{◌+◌, ◌-◌, ◌≤◌, ◌++◌, ◌∙◌, 
 use Rattle.std.proofs.lemmas.Grind.{common_steps}
 use Rattle.tm_base.specs.Written.{Wrote}
 use Rattle.tm_base.proofs.Pieces.{piece-joined}
-use Rattle.tm_inner.proofs.Sending.{spread-prefix, spread-more}
-use Rattle.tm_viterbi.proofs.Handing.{on_err_of}
+use Rattle.tm_inner.proofs.Sending.{on_err_of, spread-prefix, spread-more}
 use Rattle.tm_inner.proofs.inner_sender.send_bits.Goals as goal
 
 pub returns-in_err-put_all-clause-prefix : goal.returns-in_err-put_all-clause-prefix

@@ -7,7 +7,7 @@ use Rattle.tm_conv.specs.Encoding.{Encoding}
 use Rattle.tm_inner.specs.Sending.{EncodesFor, encoded}
 use Rattle.tm_inner.proofs.Symbols.{encoded-goes_on}
 use Rattle.tm_inner.proofs.Coding.{GoesOnBy, fed-piece, fed-piece_prefix}
-use Rattle.tm_viterbi.proofs.Handing.{on_err_of}
+use Rattle.tm_inner.proofs.Sending.{on_err_of}
 use Rattle.tm_inner.proofs.inner_sender.send_symbols.Given.{Over}
 use Rattle.tm_inner.proofs.inner_sender.send_symbols.Goals as goal
 use Rattle.tm_inner.proofs.inner_sender.send_symbols.Goals.{After-put_all}

@@ -1,0 +1,58 @@
+use Rattle.std.proofs.Common.{◌≡◌, ◌∙◌, ℕ, ap, arith, sym, subst, if◌then◌else◌, Option, Some, None}
+use Rattle.tm_windows.specs.Queue.{Queueing}
+use Rattle.tm_inner.specs.InnerDecoding.{InnerDecoding, IsQueueOf, ready_in}
+use Rattle.tm_inner.specs.declared.decoder.InnerDecoder.TheInside.{Inside}
+use Rattle.tm_inner.specs.declared.decoder.InnerEnd.{InnerEnd}
+use Rattle.tm_inner.proofs.Decoders.{decoding}
+use Rattle.tm_inner.proofs.DecoderCalls.{Ends, ends-plain, ends-queue}
+use Rattle.tm_inner.proofs.PlainBits.{count-few}
+use Rattle.tm_inner.proofs.decoder.InnerDecoder.last.Goals as goal
+use Rattle.tm_inner.proofs.decoder.InnerDecoder.last.Goals.{in-Some, in-None}
+
+pub returns-clause-ends : goal.returns-clause-ends
+returns-clause-ends c =
+    let s = c.self.inside in
+    let Said : Option Queueing → Inside → InnerEnd → Type 0 = λ before now end.
+    Ends (decoding s.config before s.count s.has_phase s.has_ended) (ready_in now.queue) end.leftover end.bits
+    end.slips in
+    let said : Said s.queue c.match-self.self-inside c.match-self.result = elim c.match-self.branch as
+    (λ _. Said s.queue c.match-self.self-inside c.match-self.result) [
+      | in-Some w ↦ (
+          let now = w.last-leftover.new.self in
+          let h = w.last-leftover.ensures in
+          let after : Inside = record s { queue = Some now } in
+          let end : ℕ → Option ℕ → InnerEnd = λ bits slips.
+          record { bits = bits; slips = slips; leftover = w.last-leftover.result } in
+          let slips : (if s.config.follow then Some now.slips else None) ≡ w.reported.result =
+          ap (λ (n : ℕ). if s.config.follow then Some n else None) (sym w.slips.ensures) ∙ sym w.reported.ensures in
+          subst (λ (v : Inside). Said s.queue v c.match-self.result) (sym w.self-inside-is)
+          (subst (Said s.queue after) (sym w.result-is)
+          (subst (λ (o : Option Queueing). Said o after (end w.steps.result w.reported.result)) (sym w.in-Some.is)
+          (subst (λ (bits : ℕ). Said (Some w.in-Some.queue) after (end bits w.reported.result)) (sym w.steps.ensures)
+          (subst (λ (o : Option ℕ). Said (Some w.in-Some.queue) after (end now.t o)) slips
+          (ends-queue s.config w.in-Some.queue now s.count w.last-leftover.result s.has_phase s.has_ended
+          (subst (IsQueueOf s.config) w.in-Some.is c.self.invariant.0) h.same h.phase h.ends)))))
+          )
+      | in-None w ↦ (
+          let bits = w.saturating_sub.result in
+          let end : Option ℕ → InnerEnd = λ slips. record { bits = bits; slips = slips; leftover = 0 } in
+          subst (λ (v : Inside). Said s.queue v c.match-self.result) (sym w.self-inside-is)
+          (subst (Said s.queue s) (sym w.result-is)
+          (subst (λ (o : Option Queueing). Said o (record s { queue = o }) (end w.reported-in-None.result))
+          (sym w.in-None.is)
+          (subst (λ (o : Option ℕ). Said None (record s { queue = None }) (end o)) (sym w.reported-in-None.ensures)
+          (ends-plain s.config s.count bits s.has_phase s.has_ended
+          (subst (IsQueueOf s.config) w.in-None.is c.self.invariant.0)
+          (λ few. omega (
+            arith,
+            few,
+            w.plain_count.ensures,
+            w.saturating_sub.ensures,
+            w.skip.ensures.value,
+            count-few s.config s.count,
+          ))))))
+          )
+    ] in
+    let end = c.match-self.result in
+    subst (λ (d : InnerDecoding). Ends d (ready_in c.match-self.self-inside.queue) end.leftover end.bits end.slips)
+    c.self.view_is said

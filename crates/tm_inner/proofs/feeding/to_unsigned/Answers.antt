@@ -1,8 +1,0 @@
-use Rattle.std.proofs.Common.{ℕ, ◌+◌, ◌%◌}
-use Rattle.tm_inner.proofs.GivenPieces.{converted-more}
-use Rattle.tm_inner.proofs.feeding.to_unsigned.Goals as goal
-
-pub loop-k-preserved : goal.loop-k-preserved
-loop-k-preserved c =
-    converted-more (λ (octet : ℕ). (octet + 128) % 256) c.loop-k.k c.args.octets.now c.loop-k.octets
-    c.loop-k-test.true c.loop-k.invariant

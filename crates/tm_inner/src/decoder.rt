@@ -1,0 +1,384 @@
+// The inner code of a configuration over a queue of windows.
+ghost use Rattle.std.specs.Prelude.{◌≡◌, ◌++◌, ◌==◌, ℕ, ◌-◌, ◌+◌, ◌<◌, ◌≤◌, List, [], true, false, IfOk, OnErr, OnOk, IsTrue, Some, drop, length, map, min, slice_index_or, take};
+ghost use Rattle.std.specs.Option.{is_some};
+ghost use Rattle.tm_base.specs.Limits.{most_workers};
+ghost use Rattle.tm_base.specs.Outside.{HasCause};
+ghost use Rattle.tm_base.specs.Takers.{HandedOver, HandedPart};
+ghost use Rattle.tm_conv.specs.Path.{AreBits};
+ghost use Rattle.tm_viterbi.specs.Clean.{kept_bits};
+ghost use Rattle.tm_viterbi.specs.WindowBlock.{WindowBlock};
+ghost use Rattle.tm_viterbi.specs.WindowSizes.{stream_bound};
+ghost use Rattle.tm_windows.specs.Windows.{slips_of};
+ghost use Rattle.tm_windows.specs.declared.choosing.Chosen.{Chosen};
+ghost use Rattle.tm_inner.specs.Inner.{AreInnerBlocks, AreInnerDue, inner_bits, nearest_bit, plain_count, reported_slips};
+ghost use Rattle.tm_inner.specs.Phase.{IsChosen, IsSettled, IsSoFarBy, phase_octets, skip_of, skipped_at};
+ghost use Rattle.tm_inner.specs.InnerDecoding.{DecodesFor, GoesWith, HasChosen, HasFilled, HasWorkers, HoldsMore, InnerDecoderStandsFor, IsDrained, IsQueueOf, IsSettledQueue, has_phase_now, held_in, plain_phase, ready_in, unread};
+ghost use Rattle.tm_inner.specs.Receiving.{HasHanded};
+
+use crate::code::{is_packed, is_signed, rate_of, shape_of};
+use crate::counting::{plain_count, reported};
+use crate::nearest::nearest_bits;
+use std::alloc::Global;
+use std::marker::Model;
+use tm_base::{Failed, NoMemory, to_unsigned};
+use tm_config::{Config, Sought};
+use tm_viterbi::BlockTaker;
+use tm_windows::{Chosen, Crew, QueueSettings, STREAM_BOUND, WindowQueue};
+
+/// What came of all octets.
+#[derive(Clone, Copy, Debug, PartialEq, Eq)]
+pub struct InnerEnd {
+    /// How many bits were received.
+    pub bits: u64,
+    /// Before how many windows octets were dropped; None where the symbol phase is not followed.
+    pub slips: Option<u64>,
+    /// How many octets are left over after the last whole step of the inner code: none or one.
+    pub leftover: u8,
+}
+
+/// The decoder of a configuration's inner code (CCSDS 131.0-B, Convolutional Coding): it drops the octets that are to be
+/// skipped, undoes the soft form, and has a queue of windows. With no inner code the octets hold the bits themselves,
+/// and it only counts them. It hands nothing over: octets are put in, runs of windows are decoded by a crew, and the
+/// symbol phase and blocks are read. It takes all its memory at `open`.
+#[derive(Drop)]
+pub struct InnerDecoder {
+    config: Config,
+    // None where there is no inner code.
+    queue: Option<WindowQueue>,
+    // The octets given.
+    count: u64,
+    // Whether the symbol phase was read, or is given.
+    has_phase: bool,
+    // Whether all octets were given.
+    has_ended: bool,
+}
+
+// The queue of windows of a configuration, for so many workers, or None where there is no inner code.
+fn queue_of(alloc: Global, config: &Config, workers: u8) -> Result<Option<WindowQueue>, NoMemory>
+    requires { (0 < workers) × (workers ≤ most_workers) }
+    ensures of { IfOk result (IsQueueOf config.now) }
+    ensures stands { IfOk result (λ queue. DecodesFor queue [] [] × IsDrained queue × HasChosen queue None) }
+    ensures goes { IfOk result (λ queue. GoesWith queue 0 false) }
+    ensures workers { IfOk result (HasWorkers workers) }
+{
+    let Some(rate) = rate_of(config) else {
+        return Ok(None);
+    };
+    let settings = QueueSettings {
+        shape: shape_of(rate, config),
+        start: config.values().start,
+        find: config.values().phase == Sought::Find,
+        follow: config.values().follow,
+    };
+    let queue = WindowQueue::open(alloc, settings, workers)?;
+    Ok(Some(queue))
+}
+
+impl Model for InnerDecoder {
+    ghost use Rattle.tm_config.specs.Accepted.{IsAccepted};
+    ghost use Rattle.tm_inner.specs.InnerDecoding.{GoesWith, InnerDecoding, IsQueueOf, chosen_in};
+
+    ghost Value = { InnerDecoding };
+
+    ghost view = { λ d. record {
+      config = d.config;
+      queue = d.queue;
+      count = d.count;
+      chosen = chosen_in d.config d.queue d.count d.has_ended;
+      has_phase = d.has_phase;
+      has_ended = d.has_ended;
+    } };
+
+    ghost invariant = { λ d. IsQueueOf d.config d.queue × GoesWith d.queue d.count d.has_ended × IsAccepted d.config };
+}
+
+impl InnerDecoder {
+    /// The decoder of a configuration for 1 to 64 workers, which was given nothing yet. It fails only where there isn't
+    /// enough memory.
+    pub fn open(alloc: Global, config: &Config, workers: u8) -> Result<InnerDecoder, NoMemory>
+        requires workers { (0 < workers) × (workers ≤ most_workers) }
+        ensures config { IfOk result (λ d. d.config ≡ config.now) }
+        ensures going { IfOk result (λ d. d.has_ended ≡ false) }
+        ensures stands { IfOk result (λ d. HasHanded d [] []) }
+        ensures workers { IfOk result (λ d. HasWorkers workers d.queue) }
+    {
+        let queue = queue_of(alloc, config, workers)?;
+        Ok(InnerDecoder {
+            config: *config,
+            queue,
+            count: 0,
+            has_phase: config.values().phase == Sought::Given,
+            has_ended: false,
+        })
+    }
+
+    /// Takes of the next octets the first ones, all or so many that it has no room for all others, decodes none, and
+    /// answers how many. With no inner code it takes all. The octets given in all are to be below 2^60.
+    pub fn fill(&mut self, octets: &[u8]) -> usize
+        ensures config { self.new.config ≡ self.old.config }
+        ensures most { result ≤ length octets.now }
+        ensures all { HasFilled self.new.queue (length octets.now - result) }
+        ensures some { IsDrained self.old.queue → 0 < length octets.now → 0 < result }
+        ensures stands { (given : List ℕ) (blocks : List WindowBlock) → self.old.has_ended ≡ false
+            → length given + result < stream_bound → InnerDecoderStandsFor self.old given blocks
+            → InnerDecoderStandsFor self.new (given ++ take result octets.now) blocks }
+        ensures settled { (chosen : Chosen) → self.old.chosen ≡ Some chosen → self.new.chosen ≡ Some chosen }
+        ensures coded { is_some self.old.config.inner ≡ true → self.new.chosen ≡ self.old.chosen }
+        ensures phase { (self.new.has_phase ≡ self.old.has_phase) × (self.new.has_ended ≡ self.old.has_ended) }
+        ensures moved { length (held_in self.new.queue) ≤ length (held_in self.old.queue) + result }
+    {
+        if self.has_ended || octets.len() as u64 >= STREAM_BOUND.saturating_sub(self.count) {
+            self.count = self.count.saturating_add(octets.len() as u64);
+            return octets.len();
+        }
+        let skipped = self.octets_to_skip(octets.len());
+        let taken = match &mut self.queue {
+            Some(queue) => skipped + queue.fill(is_signed(&self.config), &octets[skipped..]),
+            None => octets.len(),
+        };
+        self.count = self.count.saturating_add(taken as u64);
+        taken
+    }
+
+    /// Decodes the next windows that are closed, and answers how many. Their blocks are ready then, and no others. With
+    /// none ready, all that is due was decoded. The symbol phase may have been chosen: before the end it is, once it is
+    /// settled.
+    pub fn decode<C: Crew>(&mut self, crew: &C) -> usize
+        requires ready { C.is_ready crew.now }
+        ensures config { self.new.config ≡ self.old.config }
+        ensures count { result ≡ length (ready_in self.new.queue) }
+        ensures stands { (given : List ℕ) (blocks : List WindowBlock) → InnerDecoderStandsFor self.old given blocks
+            → InnerDecoderStandsFor self.new given (blocks ++ ready_in self.new.queue)
+            × (self.old.has_ended ≡ false
+            → IsSoFarBy self.new.config (phase_octets self.new.config given) self.new.chosen) }
+        ensures drained { result ≡ 0 → IsDrained self.new.queue }
+        ensures shorter { 0 < result → length (held_in self.new.queue) < length (held_in self.old.queue) }
+        ensures settled { (chosen : Chosen) → self.old.chosen ≡ Some chosen → self.new.chosen ≡ Some chosen }
+        ensures still { IsSettledQueue self.old.queue → IsSettledQueue self.new.queue }
+        ensures phase { (self.new.has_phase ≡ self.old.has_phase) × (self.new.has_ended ≡ self.old.has_ended) }
+    {
+        match &mut self.queue {
+            Some(queue) => queue.decode(crew),
+            None => 0,
+        }
+    }
+
+    /// Says that no octets come any more: the symbol phase is chosen, where it is to be found and was not chosen yet.
+    pub fn settle(&mut self)
+        ensures config { self.new.config ≡ self.old.config }
+        ensures stands { (given : List ℕ) (blocks : List WindowBlock) → InnerDecoderStandsFor self.old given blocks
+            → InnerDecoderStandsFor self.new given blocks × IsChosen self.new.config given self.new.chosen }
+        ensures settled { IsSettledQueue self.new.queue }
+        ensures stays { (chosen : Chosen) → self.old.chosen ≡ Some chosen → self.new.chosen ≡ Some chosen }
+        ensures ended { self.new.has_ended ≡ true }
+        ensures phase { self.new.has_phase ≡ self.old.has_phase }
+    {
+        self.has_ended = true;
+        match &mut self.queue {
+            Some(queue) => queue.settle(),
+            None => {}
+        }
+    }
+
+    /// Decodes the last window, once no other is closed: its block is ready then, where a step is left for it. Answers
+    /// what came of all octets.
+    pub fn last(&mut self) -> InnerEnd
+        requires settled { IsSettledQueue self.old.queue }
+        requires drained { IsDrained self.old.queue }
+        ensures config { self.new.config ≡ self.old.config }
+        ensures ends { (given : List ℕ) (blocks : List WindowBlock) → InnerDecoderStandsFor self.old given blocks
+            → IsChosen self.old.config given self.old.chosen
+            → AreInnerBlocks self.old.config (skip_of self.old.chosen) given
+            (blocks ++ ready_in self.new.queue) result.leftover
+            × (result.bits ≡ length (inner_bits self.old.config given (blocks ++ ready_in self.new.queue)))
+            × (result.slips ≡ reported_slips self.old.config (blocks ++ ready_in self.new.queue)) }
+        ensures left { result.leftover ≤ 1 }
+        ensures one { length (ready_in self.new.queue) ≤ 1 }
+        ensures phase { (self.new.chosen ≡ self.old.chosen) × (self.new.has_phase ≡ self.old.has_phase) }
+    {
+        match &mut self.queue {
+            Some(queue) => {
+                let leftover = queue.last();
+                InnerEnd {
+                    bits: queue.steps(),
+                    slips: reported(&self.config, queue.slips()),
+                    leftover,
+                }
+            }
+            None => InnerEnd {
+                bits: plain_count(&self.config, self.count).saturating_sub(self.config.skip()),
+                slips: reported(&self.config, 0),
+                leftover: 0,
+            },
+        }
+    }
+
+    /// The symbol phase, once: where it was chosen since this was asked last.
+    pub fn new_phase(&mut self) -> Option<Chosen>
+        ensures value { result ≡ unread self.old }
+        ensures read { self.new ≡ record self.old { has_phase = has_phase_now self.old } }
+    {
+        if self.has_phase {
+            return None;
+        }
+        let chosen = self.chosen();
+        self.has_phase = chosen.is_some();
+        chosen
+    }
+
+    /// How many blocks are ready.
+    pub fn ready(&self) -> usize
+        ensures { result ≡ length (ready_in self.now.queue) }
+    {
+        match &self.queue {
+            Some(queue) => queue.count(),
+            None => 0,
+        }
+    }
+
+    /// The bits that a block keeps which is ready, each 0 or 1.
+    pub fn kept_bits(&self, index: usize) -> &[u8]
+        requires { index < length (ready_in self.now.queue) }
+        ensures { (block : WindowBlock) → result.now ≡ take (slice_index_or (ready_in self.now.queue) index block).kept
+            (slice_index_or (ready_in self.now.queue) index block).bits }
+    {
+        match &self.queue {
+            Some(queue) => queue.kept_bits(index),
+            None => &[],
+        }
+    }
+
+    /// Hands over the blocks that are ready.
+    pub fn hand<B: BlockTaker>(&self, blocks: &mut B) -> Result<(), Failed>
+        ensures ok { OnOk result (HandedOver B.took blocks.old (ready_in self.now.queue) blocks.new) }
+        ensures err { OnErr result (HandedPart B.took B.broke blocks.old (ready_in self.now.queue) blocks.new) }
+        ensures cause { HasCause (B.faults blocks.old) (B.faults blocks.new) (B.is_last blocks.new) result }
+    {
+        match &self.queue {
+            Some(queue) => queue.hand(blocks),
+            None => Ok(()),
+        }
+    }
+
+    /// Whether what the next call of `decode` would decode keeps at most so many bits, and it would choose no phase.
+    pub fn may_wait(&self, bits: u64) -> bool
+        ensures waits { IsTrue result → self.now.has_ended ≡ false → (given : List ℕ) (blocks : List WindowBlock)
+            → InnerDecoderStandsFor self.now given blocks → IsSettled self.now.config given
+            × IsChosen self.now.config given self.now.chosen
+            × ((more : List WindowBlock) × (length (kept_bits more) ≤ bits)
+            × AreInnerDue self.now.config (skip_of self.now.chosen) given (blocks ++ more)) }
+        ensures lets { result ≡ false → HoldsMore self.now.queue bits }
+        ensures coded { IsTrue result → is_some self.now.config.inner ≡ true }
+    {
+        match &self.queue {
+            Some(queue) => queue.may_wait(bits),
+            None => false,
+        }
+    }
+
+    /// The symbol phase that was chosen: None before the choice, and where the phase is given.
+    pub fn chosen(&self) -> Option<Chosen>
+        ensures { result ≡ self.now.chosen }
+    {
+        match &self.queue {
+            Some(queue) => queue.chosen(),
+            None => self.plain_phase(),
+        }
+    }
+
+    // With no inner code phase 0 at no cost, from the first octet on or at the end.
+    fn plain_phase(&self) -> Option<Chosen>
+        ensures { result ≡ plain_phase self.now.config self.now.count self.now.has_ended }
+    {
+        if self.config.values().phase == Sought::Find && (self.count > 0 || self.has_ended) {
+            Some(Chosen { skip: 0, cost: 0 })
+        } else {
+            None
+        }
+    }
+
+    /// Before how many of the windows that were decoded octets were dropped.
+    pub fn slips(&self) -> u64
+        ensures { (given : List ℕ) (blocks : List WindowBlock) → InnerDecoderStandsFor self.now given blocks
+            → result ≡ slips_of blocks }
+    {
+        match &self.queue {
+            Some(queue) => queue.slips(),
+            None => 0,
+        }
+    }
+
+    /// Whether the configuration has an inner code. Where it has none, no block comes, and the octets hold the bits.
+    pub fn has_inner_code(&self) -> bool
+        ensures { result ≡ is_some self.now.config.inner }
+    {
+        self.queue.is_some()
+    }
+
+    /// With no inner code, how many bits of the next octets are still to be skipped, 0 to 15. The bits after them are
+    /// received.
+    pub fn bits_to_skip(&self) -> u64
+        ensures { result ≡ self.now.config.skip - plain_count self.now.config self.now.count }
+    {
+        self.config
+            .skip()
+            .saturating_sub(plain_count(&self.config, self.count))
+    }
+
+    /// Whether octets hold eight bits each where there is no inner code. Else each is one bit, which `nearest_bits`
+    /// says.
+    pub fn is_packed(&self) -> bool
+        ensures { result ≡ self.now.config.pack }
+    {
+        is_packed(&self.config)
+    }
+
+    /// Puts the bits that octets are nearest to in `bits`, each 0 or 1: 1 for an octet from 80 (hex) on, or in the
+    /// signed form from 00 to 7F.
+    pub fn nearest_bits(&self, octets: &[u8], bits: &mut [u8])
+        requires { length bits.old ≡ length octets.now }
+        ensures size { length bits.new ≡ length bits.old }
+        ensures are_bits { AreBits bits.new }
+        ensures bits { map (λ bit. bit == 1) bits.new ≡ map (nearest_bit self.now.config) octets.now }
+    {
+        nearest_bits(&self.config, octets, bits);
+    }
+
+    /// Converts the next octets, before they are put in, to soft octets of which 0 is the surest 0 and 255 the surest
+    /// 1. Answers how many of the first are still to be skipped. The symbol phase, where it is to be found, is found in
+    /// those after them.
+    pub fn to_soft(&self, octets: &mut [u8]) -> usize
+        ensures size { length octets.new ≡ length octets.old }
+        ensures skipped { result ≤ length octets.old }
+        ensures soft { (given : List ℕ) (blocks : List WindowBlock) → InnerDecoderStandsFor self.now given blocks
+            → phase_octets self.now.config (given ++ octets.old)
+            ≡ phase_octets self.now.config given ++ drop result octets.new }
+    {
+        if is_signed(&self.config) {
+            to_unsigned(octets);
+        }
+        self.octets_to_skip(octets.len())
+    }
+
+    /// How many of the next octets, so many, may be given: in all they are below 2^60. With one more given the symbol
+    /// phase is settled.
+    pub fn within(&self, count: usize) -> usize
+        ensures value { result ≡ min count (stream_bound - 1 - self.now.count) }
+        ensures settles { (octets : List ℕ) → stream_bound ≤ length octets + 1 → IsSettled self.now.config octets }
+    {
+        let left = (STREAM_BOUND - 1).saturating_sub(self.count);
+        left.min(count as u64) as usize
+    }
+
+    // How many of the next octets, so many, are still to be skipped; with no inner code none, as bits are.
+    fn octets_to_skip(&self, count: usize) -> usize
+        ensures { result ≡ min (skipped_at self.now.config.inner self.now.config - self.now.count) count }
+    {
+        if self.has_inner_code() {
+            let left = self.config.skip().saturating_sub(self.count);
+            left.min(count as u64) as usize
+        } else {
+            0
+        }
+    }
+}
