@@ -1,17 +1,19 @@
 // Worked values: the octets of a few steps, the bits that are received, and the blocks that are handed over.
 mod takers;
 
-ghost use Rattle.std.specs.Prelude.{◌≤◌};
+ghost use Rattle.std.specs.Prelude.{◌≡◌, ◌≤◌, IfOk, OnOk};
+ghost use Rattle.tm_inner.specs.InnerDecoding.{IsDrained, IsSettledQueue};
 
 use std::alloc::{AllocError, Global};
 use std::process::Abort;
 use std::test::Fail;
 use std::thread::Threads;
 use takers::{Collector, Kept};
+use tm_base::Failed;
 use tm_config::{Config, Raw};
-use tm_inner::{InnerEnd, InnerReceiver, inner_all};
-use tm_viterbi::FeedError;
-use tm_windows::Chosen;
+use tm_inner::{InnerDecoder, InnerEnd, InnerReceiver, inner_all};
+use tm_viterbi::BlockTaker;
+use tm_windows::{Alone, Chosen, Crew, FeedError, Threaded};
 
 // Options, octets, and what comes of them, with the skip and the cost of their phase where it is to be found.
 #[derive(Clone, Copy)]
@@ -240,9 +242,11 @@ fn opened_for(
     alloc: Global,
     config: &Config,
     workers: u8,
-) -> Result<InnerReceiver, Fail> {
+) -> Result<InnerDecoder, Fail>
+    ensures drained { IfOk result (λ d. IsDrained d.queue) }
+{
     assert!(rt; 0 < workers && workers <= 64);
-    Ok(InnerReceiver::open_for(alloc, config, workers)?)
+    Ok(InnerDecoder::open(alloc, config, workers)?)
 }
 
 fn feed(
@@ -257,21 +261,62 @@ fn finish(receiver: &mut InnerReceiver, taker: &mut Collector) -> Result<InnerEn
     receiver.finish(taker)
 }
 
-fn feed_with<R: Threads + Sync>(
-    rt: &R,
-    receiver: &mut InnerReceiver,
-    octets: &[u8],
-    taker: &mut Collector,
-) -> Result<(), FeedError> {
-    receiver.feed_with(rt, octets, taker)
+// Hands over the phase of a decoder, where it was chosen since.
+fn hand_phase<B: BlockTaker>(decoder: &mut InnerDecoder, blocks: &mut B) -> Result<(), Failed>
+    ensures { decoder.new.queue ≡ decoder.old.queue }
+{
+    match decoder.new_phase() {
+        Some(chosen) => blocks.phase(chosen.skip, chosen.cost),
+        None => Ok(()),
+    }
 }
 
-fn finish_with<R: Threads + Sync>(
-    rt: &R,
-    receiver: &mut InnerReceiver,
+// Hands over what is due of a decoder: the phase, once, and blocks.
+fn hand_due<C: Crew>(
+    crew: &C,
+    decoder: &mut InnerDecoder,
     taker: &mut Collector,
-) -> Result<InnerEnd, FeedError> {
-    receiver.finish_with(rt, taker)
+) -> Result<(), Failed>
+    requires ready { C.is_ready crew.now }
+    ensures drained { OnOk result (IsDrained decoder.new.queue) }
+    ensures settled { IsSettledQueue decoder.old.queue → IsSettledQueue decoder.new.queue }
+{
+    while decoder.decode(crew) > 0 {
+        hand_phase(decoder, taker)?;
+        decoder.hand(taker)?;
+    }
+    hand_phase(decoder, taker)
+}
+
+fn put<C: Crew>(
+    crew: &C,
+    decoder: &mut InnerDecoder,
+    octets: &[u8],
+    taker: &mut Collector,
+) -> Result<(), Failed>
+    requires ready { C.is_ready crew.now }
+    requires drained { IsDrained decoder.old.queue }
+{
+    let mut done = 0;
+    while done < octets.len() {
+        done += decoder.fill(&octets[done..]);
+        hand_due(crew, decoder, taker)?;
+    }
+    Ok(())
+}
+
+fn put_last<C: Crew>(
+    crew: &C,
+    decoder: &mut InnerDecoder,
+    taker: &mut Collector,
+) -> Result<InnerEnd, Failed>
+    requires ready { C.is_ready crew.now }
+{
+    decoder.settle();
+    hand_due(crew, decoder, taker)?;
+    let end = decoder.last();
+    decoder.hand(taker)?;
+    Ok(end)
 }
 
 fn check_rows<R: Abort + Threads + Sync>(
@@ -335,12 +380,24 @@ fn check_threads<R: Abort + Threads + Sync>(
     config: &Config,
     row: &Row<'_>,
 ) -> Result<(), Fail> {
+    let crew = Threaded { rt, words: () };
+    check_crew(rt, &crew, alloc, config, row)
+}
+
+fn check_crew<C: Crew>(
+    rt: &impl Abort,
+    crew: &C,
+    alloc: Global,
+    config: &Config,
+    row: &Row<'_>,
+) -> Result<(), Fail>
+    requires ready { C.is_ready crew.now }
+{
     let mut taker = Collector::new(alloc, 9);
-    let mut receiver = opened_for(rt, alloc, config, 3)?;
-    feed_with(rt, &mut receiver, row.octets, &mut taker)?;
-    let end = finish_with(rt, &mut receiver, &mut taker)?;
+    let mut decoder = opened_for(rt, alloc, config, 3)?;
+    put(crew, &mut decoder, row.octets, &mut taker)?;
+    let end = put_last(crew, &mut decoder, &mut taker)?;
     check_end(rt, end, &taker, row);
-    check_stopped_threads(rt, &mut receiver, row.octets, &mut taker);
     Ok(())
 }
 
@@ -351,12 +408,7 @@ fn check_workers(
     config: &Config,
     row: &Row<'_>,
 ) -> Result<(), Fail> {
-    let mut taker = Collector::new(alloc, 9);
-    let mut receiver = opened_for(rt, alloc, config, 3)?;
-    feed(&mut receiver, row.octets, &mut taker)?;
-    let end = finish(&mut receiver, &mut taker)?;
-    check_end(rt, end, &taker, row);
-    Ok(())
+    check_crew(rt, &Alone, alloc, config, row)
 }
 
 fn check_end(rt: &impl Abort, end: InnerEnd, taker: &Collector, row: &Row<'_>) {
@@ -367,17 +419,6 @@ fn check_end(rt: &impl Abort, end: InnerEnd, taker: &Collector, row: &Row<'_>) {
     };
     assert!(rt; (end, taker.phase()) == (wanted, row.chosen));
     assert!(rt; taker.kept() == row.blocks);
-}
-
-fn check_stopped_threads<R: Abort + Threads + Sync>(
-    rt: &R,
-    receiver: &mut InnerReceiver,
-    octets: &[u8],
-    taker: &mut Collector,
-) {
-    let fed = feed_with(rt, receiver, octets, taker);
-    let finished = finish_with(rt, receiver, taker);
-    check_both_stopped(rt, fed, finished);
 }
 
 fn check_stopped(
@@ -665,48 +706,26 @@ fn check_failing(rt: &impl Abort, alloc: Global, config: &Config) -> Result<(), 
     Ok(())
 }
 
-// Octets wait at a receiver of two workers, close three windows, and go on with a step.
-fn check_gathered(rt: &impl Abort, receiver: &mut InnerReceiver, octets: &[u8]) {
-    assert!(rt; receiver.gather(octets) == octets.len());
-    assert!(rt; receiver.count_due() == 3);
-}
-
-// They are decoded with the next ones, though there are none, and then none waits.
-fn check_fed<R: Abort + Threads + Sync>(
-    rt: &R,
-    receiver: &mut InnerReceiver,
-    taker: &mut Collector,
-) -> Result<(), Fail> {
-    feed_with(rt, receiver, &[], taker)?;
-    assert!(rt; (taker.kept().len(), receiver.count_due()) == (3, 0));
-    Ok(())
-}
-
-fn check_finished<R: Abort + Threads + Sync>(
-    rt: &R,
-    receiver: &mut InnerReceiver,
-    taker: &mut Collector,
-) -> Result<(), Fail> {
-    let end = finish_with(rt, receiver, taker)?;
-    assert!(rt; (end.bits, taker.kept().len()) == (3 * 1024 + 64 + 1, 4));
-    Ok(())
-}
-
-fn check_waiting<R: Abort + Threads + Sync>(
-    rt: &R,
+// Octets wait at a decoder of two workers, close three windows, and go on with a step. They are decoded with the next
+// ones, though there are none, and then none waits.
+fn check_waiting<C: Crew>(
+    rt: &impl Abort,
+    crew: &C,
     alloc: Global,
     soft: u64,
     octets: &[u8],
-) -> Result<(), Fail> {
+) -> Result<(), Fail>
+    requires ready { C.is_ready crew.now }
+{
     let config = config_of_windows(soft)?;
     let mut taker = Collector::new(alloc, 9);
-    let mut receiver = opened_for(rt, alloc, &config, 2)?;
-    check_gathered(rt, &mut receiver, octets);
-    check_fed(rt, &mut receiver, &mut taker)?;
-    check_finished(rt, &mut receiver, &mut taker)?;
-    check_takes_none(rt, &mut receiver, octets);
-    let mut one = opened(alloc, &config)?;
-    check_takes_none(rt, &mut one, octets);
+    let mut decoder = opened_for(rt, alloc, &config, 2)?;
+    assert!(rt; decoder.fill(octets) == octets.len());
+    assert!(rt; decoder.may_wait(3 * 1024) && !decoder.may_wait(3 * 1024 - 1));
+    hand_due(crew, &mut decoder, &mut taker)?;
+    assert!(rt; (taker.kept().len(), decoder.may_wait(0)) == (3, true));
+    let end = put_last(crew, &mut decoder, &mut taker)?;
+    assert!(rt; (end.bits, taker.kept().len()) == (3 * 1024 + 64 + 1, 4));
     Ok(())
 }
 
@@ -719,14 +738,12 @@ fn config_of_windows(soft: u64) -> Result<Config, Fail> {
     })?)
 }
 
-fn check_takes_none(rt: &impl Abort, receiver: &mut InnerReceiver, octets: &[u8]) {
-    assert!(rt; receiver.gather(octets) == 0);
-}
-
 // Octets that close three windows wait, signed or not, where there are two workers.
 #[test]
 fn octets_that_wait(rt: HostRuntime) -> Result<(), Fail> {
     let octets = repeated(rt.alloc(), (127, 127), 3 * 1024 + 64 + 1)?;
-    check_waiting(&rt, rt.alloc(), 0, &octets)?;
-    check_waiting(&rt, rt.alloc(), 1, &octets)
+    let crew = Threaded { rt: &rt, words: () };
+    check_waiting(&rt, &crew, rt.alloc(), 0, &octets)?;
+    check_waiting(&rt, &crew, rt.alloc(), 1, &octets)?;
+    check_waiting(&rt, &Alone, rt.alloc(), 0, &octets)
 }

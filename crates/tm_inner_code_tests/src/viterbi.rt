@@ -10,9 +10,8 @@ use std::process::Abort;
 use std::test::Fail;
 use takers::{Collector, Kept};
 use tm_conv::Rate;
-use tm_viterbi::{
-    AllError, Decoder, FeedError, Start, Sums, decode_all, lane_column, least_cost, plain_column,
-};
+use tm_viterbi::{Start, Sums, lane_column, least_cost, plain_column};
+use tm_windows::{AllError, Decoder, FeedError, decode_all};
 
 const RATES: [Rate; 5] = [Rate::R12, Rate::R23, Rate::R34, Rate::R56, Rate::R78];
 
