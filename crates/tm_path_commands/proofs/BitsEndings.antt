@@ -10,7 +10,7 @@ use Rattle.tm_config.specs.Configuration.{Configuration}
 use Rattle.tm_windows.specs.declared.choosing.Chosen.{Chosen}
 use Rattle.tm_viterbi.specs.WindowBlock.{WindowBlock}
 use Rattle.tm_inner.specs.Inner.{AreInnerBlocks, AreInnerDue, inner_bits, reported_slips}
-use Rattle.tm_inner.specs.declared.inner_receiver.InnerEnd.{InnerEnd}
+use Rattle.tm_inner.specs.declared.decoder.InnerEnd.{InnerEnd}
 use Rattle.tm_inner.specs.Phase.{with_phase, skip_of}
 use Rattle.tm_inner.specs.Receiving.{InnerReceiving, InnerReceiverStandsFor}
 use Rattle.tm_inner.specs.Handing.{AreHanded, AreHandedDue}

@@ -14,6 +14,7 @@ use Rattle.tm_viterbi.specs.Starts.{first_start}
 use Rattle.tm_viterbi.specs.WindowBlock.{WindowBlock}
 use Rattle.tm_viterbi.specs.Due.{Place, Closed, AreDue, AreFirst, first_place}
 use Rattle.tm_windows.specs.declared.choosing.Chosen.{Chosen}
+use Rattle.tm_windows.specs.Phase.{IsPhase}
 use Rattle.tm_inner.specs.Symbols.{is_inverted}
 use Rattle.tm_windows.specs.Windows.{AreFirstIn}
 use Rattle.tm_inner.specs.Inner.{settings_of, windows_of, soft_value, soft_octets, DueAt, AreInnerDue}
@@ -24,7 +25,7 @@ use Rattle.tm_inner.proofs.DueBits.{StayClosed, soft-more}
 use Rattle.tm_inner.proofs.Unfollowed.{due-unfollowed, first-unfollowed, first-windows}
 use Rattle.tm_inner.proofs.HandedBits.{needed-few}
 use Rattle.tm_inner.proofs.WithPhase.{choice-stays, settled-stays}
-use Rattle.tm_inner.proofs.PhasePieces.{PhaseStays, PhaseWithin, items_of-with_phase}
+use Rattle.tm_inner.proofs.PhasePieces.{PhaseStays, items_of-with_phase}
 use Rattle.tm_cert_file.specs.Certificate.{IsCertificate}
 use Rattle.tm_cert_file.specs.Certifying.{Certifying, soft_room, with_octets}
 use Rattle.tm_cert_file.proofs.ManyWindows.{Append}
@@ -208,6 +209,11 @@ stood-now c rate now octets handed text w =
     record { is_rate = w.0; is_invert = w.1; is_room = w.2; stood = stood-goes c rate now octets handed text w.3 }
 
 -- a phase skips no more octets than there are
+abbrev pub PhaseWithin : Type 0
+PhaseWithin =
+    (rate : Rate) (invert : Bool) (window : ℕ) (octets : List ℕ) (chosen : Chosen)
+    → IsPhase rate invert window octets chosen → chosen.skip ≤ length octets
+
 skip-within : PhaseWithin → (c : Configuration) (rate : Rate) (soft : List ℕ) (chosen : Option Chosen)
     → c.inner ≡ Some rate → IsChosenBy c soft chosen → skip_of chosen ≤ length soft
 skip-within within c rate soft None is choice = omega arith

@@ -56,7 +56,7 @@ kept-inside rate invert keep ahead n at block whole is =
     omega (arith, whole, steps-mono rate at.t block.kept n (kept-few rate invert keep ahead n at block is))
 
 -- a step has an octet or more
-pub closed-few : (rate : Rate) (invert : Bool) (keep ahead : ℕ) (from to : Place) (blocks : List WindowBlock)
+closed-few : (rate : Rate) (invert : Bool) (keep ahead : ℕ) (from to : Place) (blocks : List WindowBlock)
     → Closed rate invert keep ahead from blocks to
     → to.t + length to.octets ≤ from.t + length from.octets
 closed-few rate invert keep ahead from to [] closed =

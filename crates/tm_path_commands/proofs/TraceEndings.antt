@@ -1,5 +1,5 @@
 -- What tracing has written, from what an inner receiver handed over.
-use Rattle.std.proofs.Common.{◌≡◌, inl, inr, ℕ, ◌+◌, ◌-◌, ◌<◌, ◌≤◌, ◌^◌, Bool, List, [], ◌∷◌, ◌++◌, length, drop, map, refl, sym, ap, ◌∙◌, subst, arith, Option, Some, None, length-append, length-drop}
+use Rattle.std.proofs.Common.{◌≡◌, inl, inr, ℕ, ◌+◌, ◌-◌, ◌<◌, ◌≤◌, ◌^◌, List, [], ◌++◌, length, drop, map, refl, sym, ap, ◌∙◌, subst, arith, Option, Some, None, length-append}
 use Rattle.std.proofs.lemmas.List.{append-nil}
 use Rattle.tm_base.specs.Handed.{Handed, Item, items_of}
 use Rattle.tm_base.specs.Written.{WrotePrefix}
@@ -8,22 +8,13 @@ use Rattle.tm_base.proofs.HandedItems.{items_of-append}
 use Rattle.tm_config.specs.Configuration.{Configuration}
 use Rattle.tm_config.specs.Accepted.{IsAccepted}
 use Rattle.tm_conv.specs.declared.rates.Rate.{Rate}
-use Rattle.tm_conv.specs.Path.{steps_size}
-use Rattle.tm_conv.proofs.Sizes.{steps_size_ge}
 use Rattle.tm_viterbi.specs.WindowBlock.{WindowBlock}
-use Rattle.tm_viterbi.specs.Blocks.{AreBlocks}
-use Rattle.tm_viterbi.specs.Due.{Place, Closed, after_block, first_place}
-use Rattle.tm_windows.specs.Followed.{Windows, first_spot, kept_of}
-use Rattle.tm_windows.proofs.FollowedRuns.{closed-kept, kept-append}
-use Rattle.tm_windows.specs.Windows.{AreBlocksBy, AreFirstBy, AreFirstIn}
-use Rattle.tm_viterbi.specs.Starts.{first_start}
-use Rattle.tm_viterbi.proofs.CleanBlocks.{steps-mono}
-use Rattle.tm_viterbi.proofs.HasBlocks.{some_kept}
+use Rattle.tm_windows.specs.Windows.{AreFirstIn, first_spot, kept_of}
+use Rattle.tm_windows.proofs.FollowedRuns.{kept-append}
 use Rattle.tm_inner.specs.Inner.{windows_of, soft_value, soft_octets, BlocksAt, AreInnerBlocks, AreInnerDue, inner_bits}
 use Rattle.tm_inner.specs.Phase.{skip_of, with_phase, WithPhaseSettled}
 use Rattle.tm_inner.specs.Receiving.{InnerReceiving, InnerReceiverStandsFor, FirstAt, AreInnerFirst, Hands, HandsPrefix}
 use Rattle.tm_inner.specs.Handing.{AreHanded, AreHandedDue, AreHandedFirst, AreHandedPrefix}
-use Rattle.tm_inner.proofs.Counted.{blocks-kept}
 use Rattle.tm_inner.proofs.FollowedBits.{followed-count, followed-count_all, followed-few, followed-keep, followed-whole}
 use Rattle.tm_inner.proofs.DueBits.{StayClosed, StandFirst, soft-more}
 use Rattle.tm_inner.proofs.InnerBits.{HasBlocks, has_blocks}
@@ -43,69 +34,9 @@ use Rattle.tm_path_commands.specs.Lines.{no_blocks, trace_end_text}
 use Rattle.tm_path_commands.specs.Taken.{TracedAll}
 use Rattle.tm_path_commands.specs.Trace.{IsTrace, IsTraceDue, blocks_text, trace_meaning, trace_text}
 use Rattle.tm_path_commands.specs.Tracing.{CutsTrace, EndsTrace, StandsAt, Traces, TraceFails, TracedWhole, WroteTrace, WroteTracePrefix}
-use Rattle.tm_path_commands.proofs.CertifyingPlace.{closed-few as closed-less}
 use Rattle.tm_path_commands.proofs.TraceLines.{TookOne, BrokeOne, TookList, took-each, few-tally, traced-none, traced-more, traced-part, trace-prefix, trace_text-split}
 
 -- ---- windows are at most as many as octets
-
-closed-few : (rate : Rate) (invert : Bool) (keep ahead : ℕ) (from to : Place) (blocks : List WindowBlock) → 0 < keep
-    → Closed rate invert keep ahead from blocks to
-    → length blocks ≤ length from.octets
-closed-few rate invert keep ahead from to [] some closed = omega arith
-closed-few rate invert keep ahead from to (b ∷ blocks) some closed =
-    let n : ℕ = keep + ahead + 1 in
-    let kept = some_kept keep ahead n some (omega arith) in
-    let rest = closed-few rate invert keep ahead (after_block rate from b) to blocks some closed.1 in
-    let inside = steps-mono rate from.t b.kept n (omega (arith, kept, closed.0.is_block.kept)) in
-    omega (
-      arith,
-      kept,
-      closed.0.is_block.kept,
-      closed.0.room,
-      rest,
-      inside,
-      length-drop (steps_size rate from.t b.kept) from.octets,
-      steps_size_ge rate from.t b.kept,
-    )
-
-whole-few : (rate : Rate) (invert : Bool) (keep ahead : ℕ) (starts : Option ℕ) (t n : ℕ) (octets : List ℕ)
-    (blocks : List WindowBlock) → 0 < keep
-    → AreBlocks rate invert keep ahead starts t n octets blocks → length blocks ≤ n
-whole-few rate invert keep ahead starts t n octets [] some are = omega arith
-whole-few rate invert keep ahead starts t n octets (b ∷ blocks) some are =
-    let kept = some_kept keep ahead n some are.0 in
-    let rest = whole-few rate invert keep ahead (Some b.end_state) (t + b.kept) (n - b.kept)
-    (drop (steps_size rate t b.kept) octets) blocks some are.2 in
-    omega (arith, kept, are.1.kept, rest)
-
-few-first-by : (seen : Option ℕ) (w : Windows) (octets : List ℕ) (blocks : List WindowBlock) → 0 < w.settings.keep
-    → AreFirstBy seen w octets blocks
-    → length blocks ≤ length octets
-few-first-by None w octets blocks some are =
-    let s = w.settings in
-    closed-few s.rate s.invert s.keep s.ahead (first_place s octets) are.0 blocks some are.1
-few-first-by (Some steps) w octets blocks some are =
-    let from = first_spot w octets in
-    omega (
-      arith,
-      followed-count w from are.0 blocks some are.1,
-      followed-keep w from are.0 blocks are.1,
-      followed-few w octets blocks are,
-    )
-
-few-by : (seen : Option ℕ) (w : Windows) (octets : List ℕ) (blocks : List WindowBlock) (left : ℕ)
-    → 0 < w.settings.keep → AreBlocksBy seen w octets blocks left
-    → length blocks ≤ length octets
-few-by None w octets blocks left some are =
-    let s = w.settings in
-    omega (
-      arith,
-      whole-few s.rate s.invert s.keep s.ahead (first_start s.start) 0 are.count octets blocks some are.are,
-      are.steps.whole,
-      steps_size_ge s.rate 0 are.count,
-    )
-few-by (Some steps) w octets blocks left some are =
-    omega (arith, followed-count_all w octets blocks left some are, (followed-whole w octets blocks left are).few)
 
 few-first-at : (rate : Option Rate) (c : Configuration) (phase : ℕ) (octets : List ℕ) (blocks : List WindowBlock)
     → 0 < c.keep → FirstAt rate c phase octets blocks
@@ -113,7 +44,14 @@ few-first-at : (rate : Option Rate) (c : Configuration) (phase : ℕ) (octets : 
 few-first-at None c phase octets blocks some are = let none = ap length are in omega arith
 few-first-at (Some rate) c phase octets blocks some are =
     let w = windows_of c rate in
-    omega (arith, few-first-by w.seen w (soft_octets c phase octets) blocks some are, length-soft c phase octets)
+    let soft = soft_octets c phase octets in
+    omega (
+      arith,
+      followed-count w (first_spot w soft) are.0 blocks some are.1,
+      followed-keep w (first_spot w soft) are.0 blocks are.1,
+      followed-few w soft blocks are,
+      length-soft c phase octets,
+    )
 
 few-at : (rate : Option Rate) (c : Configuration) (phase : ℕ) (octets : List ℕ) (blocks : List WindowBlock) (left : ℕ)
     → 0 < c.keep → BlocksAt rate c phase octets blocks left
@@ -121,7 +59,13 @@ few-at : (rate : Option Rate) (c : Configuration) (phase : ℕ) (octets : List �
 few-at None c phase octets blocks left some are = let none = ap length are.0 in omega arith
 few-at (Some rate) c phase octets blocks left some are =
     let w = windows_of c rate in
-    omega (arith, few-by w.seen w (soft_octets c phase octets) blocks left some are, length-soft c phase octets)
+    let soft = soft_octets c phase octets in
+    omega (
+      arith,
+      followed-count_all w soft blocks left some are,
+      (followed-whole w soft blocks left are).few,
+      length-soft c phase octets,
+    )
 
 keeps-some : (c : Configuration) → IsAccepted c → 0 < c.keep
 keeps-some c accepted = let keep = accepted.some_keep in omega arith
@@ -159,49 +103,30 @@ few-handed c octets handed left accepted h =
 
 -- ---- they keep no more bits than there are octets
 
-kept-first-by : (seen : Option ℕ) (w : Windows) (octets : List ℕ) (blocks : List WindowBlock)
-    → AreFirstBy seen w octets blocks
-    → kept_of blocks ≤ length octets
-kept-first-by None w octets blocks are =
-    let s = w.settings in
-    let from = first_place s octets in
-    omega (
-      arith,
-      closed-kept s from are.0 blocks are.1,
-      closed-less s.rate s.invert s.keep s.ahead from are.0 blocks
-          are.1,
-    )
-kept-first-by (Some steps) w octets blocks are =
-    omega (arith, followed-keep w (first_spot w octets) are.0 blocks are.1, followed-few w octets blocks are)
-
-kept-by : (seen : Option ℕ) (w : Windows) (octets : List ℕ) (blocks : List WindowBlock) (left : ℕ)
-    → AreBlocksBy seen w octets blocks left
-    → kept_of blocks ≤ length octets
-kept-by None w octets blocks left are =
-    let s = w.settings in
-    omega (
-      arith,
-      blocks-kept s.rate s.invert s.keep s.ahead (first_start s.start) 0 are.count octets blocks are.are,
-      are.steps.whole,
-      steps_size_ge s.rate 0 are.count,
-    )
-kept-by (Some steps) w octets blocks left are = let k = followed-whole w octets blocks left are in omega (arith, k.few)
-
 kept-first-at : (rate : Option Rate) (c : Configuration) (phase : ℕ) (octets : List ℕ) (blocks : List WindowBlock)
     → FirstAt rate c phase octets blocks
     → kept_of blocks ≤ length octets
 kept-first-at None c phase octets blocks are = omega (arith, ap kept_of are)
 kept-first-at (Some rate) c phase octets blocks are =
     let w = windows_of c rate in
-    omega (arith, kept-first-by w.seen w (soft_octets c phase octets) blocks are, length-soft c phase octets)
+    let soft = soft_octets c phase octets in
+    omega (
+      arith,
+      followed-keep w (first_spot w soft) are.0 blocks are.1,
+      followed-few w soft blocks are,
+      length-soft c phase octets,
+    )
 
 kept-at : (rate : Option Rate) (c : Configuration) (phase : ℕ) (octets : List ℕ) (blocks : List WindowBlock)
     (left : ℕ) → BlocksAt rate c phase octets blocks left
     → kept_of blocks ≤ length octets
 kept-at None c phase octets blocks left are = omega (arith, ap kept_of are.0)
 kept-at (Some rate) c phase octets blocks left are =
-    let w = windows_of c rate in
-    omega (arith, kept-by w.seen w (soft_octets c phase octets) blocks left are, length-soft c phase octets)
+    omega (
+      arith,
+      (followed-whole (windows_of c rate) (soft_octets c phase octets) blocks left are).few,
+      length-soft c phase octets,
+    )
 
 kept-first : (c : Configuration) (octets : List ℕ) (handed : List (Handed WindowBlock))
     → AreHandedFirst c octets handed → kept_of (items_of handed) ≤ length octets

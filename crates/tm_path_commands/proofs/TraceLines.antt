@@ -11,7 +11,7 @@ use Rattle.tm_driver.specs.Lines.{phase_text}
 use Rattle.tm_driver.specs.Texts.{TookText, BrokeText}
 use Rattle.tm_driver.proofs.HandedAlong.{handed-along, part-along, handed-keeps, part-keeps}
 use Rattle.tm_driver.proofs.SinkTexts.{took-none, took-more, broke-after, broke-prefix}
-use Rattle.tm_windows.specs.Followed.{kept_of}
+use Rattle.tm_windows.specs.Windows.{kept_of}
 use Rattle.tm_path_commands.specs.declared.tally.Tally.{Tally}
 use Rattle.tm_path_commands.specs.Lines.{block_text, no_blocks, tally_after, trace_end_text}
 use Rattle.tm_path_commands.specs.Trace.{blocks_text, tally_all, trace_text}

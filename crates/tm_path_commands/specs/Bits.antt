@@ -17,7 +17,7 @@ use Rattle.tm_viterbi.specs.WindowSizes.{stream_bound}
 use Rattle.tm_inner.specs.Inner.{inner_bits, reported_slips}
 use Rattle.tm_inner.specs.Handing.{AreHanded, AreHandedDue}
 use Rattle.tm_inner.specs.Receiving.{InnerReceiving, InnerReceiverStandsFor}
-use Rattle.tm_inner.specs.declared.inner_receiver.InnerEnd.{InnerEnd}
+use Rattle.tm_inner.specs.declared.decoder.InnerEnd.{InnerEnd}
 use Rattle.tm_path_commands.specs.Lines.{bits_end_text}
 use Rattle.tm_path_commands.specs.Tracing.{StandsAt}
 
