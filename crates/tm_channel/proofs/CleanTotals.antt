@@ -13,9 +13,8 @@ use Rattle.tm_viterbi.specs.declared.block.Start.TheVariants.{Any}
 use Rattle.tm_viterbi.specs.WindowBlock.{WindowBlock}
 use Rattle.tm_viterbi.specs.Clean.{sure_symbols, complemented_octets}
 use Rattle.tm_viterbi.proofs.HasBlocks.{HasBest}
-use Rattle.tm_windows.specs.Followed.{slips_of}
-use Rattle.tm_windows.specs.Windows.{AreBlocksIn}
-use Rattle.tm_windows.proofs.WindowLaws.{blocks-sent, blocks-complemented}
+use Rattle.tm_windows.specs.Windows.{slips_of, AreBlocksIn}
+use Rattle.tm_windows.proofs.Undisturbed.{complemented-blocks, sure-blocks}
 use Rattle.tm_inner.specs.Inner.{AreInnerBlocks, BlocksAt, Inner, IsStartKnown, windows_of}
 use Rattle.tm_inner.specs.Phase.{skip_of}
 use Rattle.tm_inner.specs.Symbols.{symbols_by, symbols_of_octets}
@@ -39,7 +38,7 @@ slips-sent (Some rate) c octets blocks left none are =
     let w = windows_of c rate in
     let bits = bit_numbers (bits_of octets) in
     whole-slips w.settings (sure_symbols w.settings 0 bits) blocks left
-    (blocks-sent w.seen w 0 bits blocks left (AreBits-bit_numbers (bits_of octets)) (omega arith)
+    (sure-blocks w 0 bits blocks left (AreBits-bit_numbers (bits_of octets)) (omega arith)
     (subst (λ (l : List ℕ). AreBlocksIn w l blocks left) (soft-sent c rate (bits_of octets) none) are))
 
 slips-complemented : (rate : Option Rate) (c : Configuration) (octets : List ℕ) (blocks : List WindowBlock) (left : ℕ)
@@ -50,7 +49,7 @@ slips-complemented (Some rate) c octets blocks left none are =
     let w = windows_of c rate in
     let bits = bit_numbers (bits_of octets) in
     whole-slips w.settings (complemented_octets (sure_symbols w.settings 0 bits)) blocks left
-    (blocks-complemented w.seen w 0 bits blocks left (AreBits-bit_numbers (bits_of octets)) (omega arith)
+    (complemented-blocks w 0 bits blocks left (AreBits-bit_numbers (bits_of octets)) (omega arith)
     (subst (λ (l : List ℕ). AreBlocksIn w l blocks left) (soft-complemented c rate (bits_of octets) none) are))
 
 -- ---- and all bits come

@@ -17,7 +17,7 @@ use Rattle.tm_conv.specs.Cost.{sure}
 use Rattle.tm_conv.specs.Encoding.{bit_numbers, sent_for, level, levels}
 use Rattle.tm_gf256.proofs.Below.{all_below, same_below}
 use Rattle.tm_windows.specs.Windows.{AreBlocksIn}
-use Rattle.tm_windows.proofs.WindowLaws.{blocks-complemented}
+use Rattle.tm_windows.proofs.Undisturbed.{complemented-blocks}
 use Rattle.tm_inner.specs.Inner.{settings_of, windows_of, soft_value, soft_octets, BlocksAt, nearest_bit, plain_bits_by, plain_bits, bits_at}
 use Rattle.tm_inner.specs.Symbols.{is_inverted, low_level, symbols_by}
 use Rattle.tm_inner.proofs.InnerBits.{drop-none, AreBits-bit_numbers, half-rate, some-steps}
@@ -177,7 +177,7 @@ half-complemented complemented c (Some rate) octets blocks left is ok half any n
     let it = complemented (settings_of c rate) 0 bits blocks left ok.some_keep
     (AreBits-bit_numbers (bits_of octets)) any
     (half-rate c rate is half) (omega arith) (some-steps octets)
-    (blocks-complemented w.seen w 0 bits blocks left (AreBits-bit_numbers (bits_of octets)) (omega arith)
+    (complemented-blocks w 0 bits blocks left (AreBits-bit_numbers (bits_of octets)) (omega arith)
     (subst (λ (l : List ℕ). AreBlocksIn w l blocks left) (soft-complemented c rate (bits_of octets) none) are)) in
     ap (map (λ bit. bit == 1)) it.kept ∙ numbers-complemented (bits_of octets)
 

@@ -3,7 +3,7 @@ use Rattle.std.proofs.Common.{◌≡◌, ◌∙◌, ◌||◌, ℕ, Bool, true, f
 use Rattle.tm_conv.specs.declared.rates.Rate.{Rate}
 use Rattle.tm_config.specs.Configuration.{Configuration}
 use Rattle.tm_viterbi.specs.WindowBlock.{WindowBlock}
-use Rattle.tm_inner.specs.Inner.{Inner, BlocksAt, bits_at, plain_bits_by}
+use Rattle.tm_inner.specs.Inner.{BlocksAt, bits_at, plain_bits_by}
 use Rattle.tm_rs_solve.specs.declared.answers.Answer.{Answer}
 use Rattle.tm_sync.specs.declared.found.Found.{Found}
 use Rattle.tm_codeblock.specs.ReceivedCodeblock.{places_in, codeblock_in, codeblock_at, received_columns, frame_of}

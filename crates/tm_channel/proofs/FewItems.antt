@@ -3,7 +3,7 @@ use Rattle.std.proofs.Common.{◌≡◌, ◌∙◌, ℕ, suc, ◌+◌, ◌-◌, 
 use Rattle.std.proofs.Math.Nat.{lt-div-mul-add, suc-mul}
 use Rattle.std.proofs.lemmas.List.{length-map}
 use Rattle.tm_base.specs.Handed.{Handed, Item, items_of}
-use Rattle.tm_base.proofs.HandedItems.{items_of-append, items_of-items}
+use Rattle.tm_base.proofs.HandedItems.{items_of-append}
 use Rattle.tm_config.specs.Configuration.{Configuration, codeblock_length, correctable, data_length, is_uncoded}
 use Rattle.tm_config.specs.Accepted.{IsAccepted}
 use Rattle.tm_config.proofs.Choices.{uncoded_cases}
@@ -13,26 +13,24 @@ use Rattle.tm_interleave.specs.Interleaved.{interleaved}
 use Rattle.tm_interleave.proofs.Columns.{length-interleaved}
 use Rattle.tm_viterbi.specs.WindowBlock.{WindowBlock}
 use Rattle.tm_viterbi.specs.Clean.{kept_bits}
-use Rattle.tm_windows.specs.declared.choosing.Chosen.{Chosen}
 use Rattle.tm_inner.specs.Inner.{plain_bits, plain_count, bits_at, inner_bits}
-use Rattle.tm_inner.specs.Phase.{held_bits, with_phase}
-use Rattle.tm_inner.specs.Handing.{AreHandedDue}
+use Rattle.tm_inner.specs.Phase.{held_bits}
+use Rattle.tm_inner.specs.Handing.{AreHanded, AreHandedDue}
 use Rattle.tm_inner.proofs.DueBits.{kept-append}
 use Rattle.tm_inner.proofs.HandedBits.{needed-few, waiting-last-few, waiting-more-few}
-use Rattle.tm_inner.proofs.PhasePieces.{items_of-with_phase}
 use Rattle.tm_inner.proofs.PlainBits.{length-plain}
 use Rattle.tm_sync.specs.declared.found.Found.{Found}
 use Rattle.tm_codeblock.specs.ReceivedCodeblock.{codeblock_at, data_octets, frame_of, places_in}
-use Rattle.tm_channel.specs.declared.totals.Totals.{Totals}
-use Rattle.tm_channel.specs.Items.{ItemValue, IsItem, AreItemsOf, is_given, frames_of}
+use Rattle.tm_channel.specs.Items.{ItemValue, IsItem, AreItems, AreItemsOf, is_given, frames_of}
 use Rattle.tm_channel.specs.Due.{due}
 use Rattle.tm_channel.specs.Handing.{phase_of}
 use Rattle.tm_channel.specs.Most.{AreFew, most_bits, most_bits_at, most_items}
 use Rattle.tm_channel.specs.Receiving.{waiting_bits}
-use Rattle.tm_channel.specs.OctetReceiving.{BitReceiving, Received, ReceivedLast, Stages, StagesFor, StagesOn, bits_found}
+use Rattle.tm_channel.specs.OctetReceiving.{Stages, StagesFor, StagesOn}
 use Rattle.tm_channel.proofs.Apart.{few-found}
 use Rattle.tm_channel.proofs.Batches.{batches-le, length-due}
-use Rattle.tm_channel.proofs.GivenOctets.{EndsIn, ended, further-at, items-ended, phased-items}
+use Rattle.tm_channel.proofs.FurtherBits.{bits_found, bits-last, further-at, phased-items}
+use Rattle.tm_channel.proofs.ReceivedPieces.{all_bits}
 use Rattle.tm_channel.proofs.SentCodeblocks.{octets-received}
 
 -- ---- the octets of frames
@@ -133,11 +131,11 @@ items-few c bits piece before items fs octets ok were are within few =
 
 -- ---- the bits that come
 
-found-few : (rate : Option Rate) (c : Configuration) (skip : ℕ) (kept octets : List ℕ)
-    → length kept ≤ waiting_bits c c.batch + held_bits c + length octets
-    → length (bits_found c rate skip kept octets) ≤ most_bits_at rate c (length octets)
-found-few None c skip kept octets few = omega (arith, length-drop skip (plain_bits c octets), length-plain c octets)
-found-few (Some rate) c skip kept octets few = omega (arith, few, length-map kept (λ bit. bit == 1))
+found-few : (rate : Option Rate) (c : Configuration) (skip : ℕ) (more : List WindowBlock) (octets : List ℕ)
+    → length (kept_bits more) ≤ waiting_bits c c.batch + held_bits c + length octets
+    → length (bits_found c rate skip more octets) ≤ most_bits_at rate c (length octets)
+found-few None c skip more octets few = omega (arith, length-drop skip (plain_bits c octets), length-plain c octets)
+found-few (Some rate) c skip more octets few = omega (arith, few, length-map (kept_bits more) (λ bit. bit == 1))
 
 -- at the end with no inner code none
 last-few : (rate : Option Rate) (c : Configuration) (given : List ℕ) (blocks last : List WindowBlock)
@@ -159,12 +157,6 @@ last-few (Some rate) c given blocks last piece is few =
 
 -- ---- what a receiver hands over
 
-items-after : (chosen : Option Chosen) (items : List ItemValue)
-    → items_of (with_phase chosen [] ++ map Item items) ≡ items
-items-after chosen items =
-    items_of-append (with_phase chosen []) (map Item items)
-    ∙ ap (λ l. l ++ items_of (map Item items)) (items_of-with_phase chosen []) ∙ items_of-items items
-
 -- with further octets
 pub stages-few : (s now : Stages) (given octets : List ℕ) (done more : List (Handed ItemValue))
     → IsAccepted s.inner.config → now.inner.config ≡ s.inner.config
@@ -177,11 +169,11 @@ stages-few s now given octets done more ok same stood on =
     let further = items_of on.1 in
     let bits = inner_bits c given blocks in
     let skip = c.skip - plain_count c (length given) in
-    let piece = bits_found c c.inner skip (kept_bits further) octets in
+    let piece = bits_found c c.inner skip further octets in
     let is : inner_bits c (given ++ octets) (items_of there.handed) ≡ bits ++ piece =
     ap (λ (l : List (Handed WindowBlock)). inner_bits c (given ++ octets) (items_of l)) on.2
     ∙ ap (inner_bits c (given ++ octets)) (items_of-append stood.handed on.1)
-    ∙ further-at c.inner c given octets blocks further (kept_bits further) skip refl refl in
+    ∙ further-at c.inner c given octets blocks further skip refl in
     let all : there.items ≡ stood.items ++ items_of more =
     sym (phased-items (phase_of there.handed) there.items (done ++ more) there.are) ∙ items_of-append done more
     ∙ ap (λ l. l ++ items_of more) (phased-items (phase_of stood.handed) stood.items done stood.are) in
@@ -203,7 +195,7 @@ stages-few s now given octets done more ok same stood on =
       ap length (kept-append further (items_of (map Item there.waiting))),
       length-append (kept_bits further) (kept_bits (items_of (map Item there.waiting))),
     ) in
-    let few = found-few c.inner c skip (kept_bits further) octets
+    let few = found-few c.inner c skip further octets
     (omega (
       arith,
       kept,
@@ -216,28 +208,24 @@ stages-few s now given octets done more ok same stood on =
     items-few c bits piece stood.items (items_of more) (due c (bits ++ piece))
     (length octets) ok stood.are_items whole within few
 
--- at the end
-pub ends-few : {T : Type 0} (took : T → ItemValue → T → Type 0) (s : Stages) (bits_now : BitReceiving)
-    (taker middle now : T) (room : ℕ) (phase : Option Chosen) (piece : List Bool) (totals : Totals)
-    → IsAccepted s.inner.config → EndsIn s room phase piece totals
-    → (p : Received took s.bits bits_now taker middle piece) (q : ReceivedLast took bits_now middle now)
-    → (given : List ℕ) (done : List (Handed ItemValue)) → StagesFor s given done
-    → AreFew s.inner.config 0 (items_of (with_phase phase [] ++ map Item (p.items ++ q.items)))
-ends-few took s bits_now taker middle now room phase piece totals ok at_end p q given done stood =
+-- at the end, where these are the blocks after those that were handed over
+pub ends-few : (s : Stages) (given : List ℕ) (done : List (Handed ItemValue)) (last : List (Handed WindowBlock))
+    (left : ℕ) (items : List ItemValue) → IsAccepted s.inner.config → (stood : StagesFor s given done)
+    → AreHanded s.inner.config given (stood.handed ++ last) left
+    → AreItems s.inner.config (inner_bits s.inner.config given (items_of (stood.handed ++ last))) (stood.items ++ items)
+    → AreFew s.inner.config 0 items
+ends-few s given done last left items ok stood are all =
     let c = s.inner.config in
     let bits = inner_bits c given (items_of stood.handed) in
-    let roomy = at_end.roomy in
-    let e = at_end.ends given stood.handed stood.waiting (omega (arith, stood.few, roomy)) stood.inner stood.are_due in
-    let items = items-ended took s bits_now taker middle now piece at_end.of p q given done stood
-    (ended s given done stood room phase piece totals at_end).few in
-    let few = last-few c.inner c given (items_of stood.handed) (items_of e.last) piece
-    (ap (inner_bits c given) (sym (items_of-append stood.handed e.last)) ∙ e.bits)
+    let piece = all_bits (items_of last) in
+    let is = bits-last c given stood.handed last left are in
+    let few = last-few c.inner c given (items_of stood.handed) (items_of last) piece
+    (ap (inner_bits c given) (sym (items_of-append stood.handed last)) ∙ is)
     (omega (
       arith,
-      waiting-last-few c given stood.handed stood.waiting e.last e.left stood.are_due e.are_handed,
+      waiting-last-few c given stood.handed stood.waiting last left stood.are_due are,
       stood.few,
       needed-few c.inner c,
     )) in
-    subst (AreFew c 0) (sym (items-after phase (p.items ++ q.items)))
-    (items-few c bits piece stood.items (p.items ++ q.items)
-    (places_in c (bits ++ piece)) 0 ok stood.are_items items (omega arith) few)
+    items-few c bits piece stood.items items (places_in c (bits ++ piece)) 0 ok stood.are_items
+    (subst (λ (l : List Bool). AreItems c l (stood.items ++ items)) is all) (omega arith) few

@@ -1,249 +1,52 @@
 -- A receiver that is given octets: the phase and the blocks of its first stage, the bits of these,
 -- and the items that are due of them.
-use Rattle.std.proofs.Common.{◌≡◌, ◌==◌, ◌<◌, ◌≤◌, ◌+◌, ◌-◌, ◌*◌, ◌^◌, ℕ, inl, inr, Bool, true, false, List, [], ◌∷◌, ◌++◌, length, take, drop, map, refl, sym, ap, ◌∙◌, subst, arith, append_assoc, length-append, length-drop, length-take, take-append-drop, Option, Some, None}
+use Rattle.std.proofs.Common.{◌≡◌, ◌==◌, ◌<◌, ◌≤◌, ◌+◌, ◌-◌, ◌*◌, ◌^◌, ℕ, inl, inr, if◌then◌else◌, Bool, true, false, List, [], ◌∷◌, ◌++◌, length, drop, map, refl, sym, ap, ◌∙◌, subst, arith, append_assoc, length-append, length-drop, Option, Some, None}
 use Rattle.std.specs.Option.{is_some}
-use Rattle.std.proofs.lemmas.List.{append-nil, drop_all, length-map, take_all}
+use Rattle.std.proofs.lemmas.List.{append-nil, drop_all, length-map, map-append}
 use Rattle.std.proofs.Math.Seq.{drop-length}
-use Rattle.tm_base.specs.Handed.{Handed, Phase, Item, on_handed, items_of}
+use Rattle.tm_base.specs.Handed.{Handed, Item, on_handed, items_of}
 use Rattle.tm_base.specs.Pieces.{beyond}
 use Rattle.tm_base.specs.Takers.{HandedOver, HandedPart}
-use Rattle.tm_base.proofs.Handing.{HandedOver-append, HandedPart-after}
-use Rattle.tm_base.proofs.HandedItems.{HandedOver-items, HandedPart-items, items_of-append, items_of-items}
+use Rattle.tm_base.proofs.Handing.{HandedOver-append}
+use Rattle.tm_base.proofs.HandedItems.{HandedOver-items, items_of-append, items_of-items}
 use Rattle.tm_config.specs.Configuration.{Configuration}
+use Rattle.tm_config.specs.Accepted.{IsAccepted}
 use Rattle.tm_config.proofs.Choices.{never_both}
 use Rattle.tm_conv.specs.declared.rates.Rate.{Rate}
 use Rattle.tm_viterbi.specs.WindowBlock.{WindowBlock}
 use Rattle.tm_windows.specs.Windows.{AreFirstIn}
 use Rattle.tm_viterbi.specs.Clean.{kept_bits}
 use Rattle.tm_windows.specs.declared.choosing.Chosen.{Chosen}
-use Rattle.tm_inner.specs.Inner.{BlocksAt, plain_bits, plain_count, bits_at, windows_of, soft_value, soft_octets, AreInnerBlocks, AreInnerDue, Inner, inner_bits}
-use Rattle.tm_inner.specs.Phase.{IsChosenBy, IsChosen, IsSettled, held_bits, needed_at, skipped_at, phase_octets, skip_of, with_phase, IsChosenSoFar}
+use Rattle.tm_inner.specs.Inner.{BlocksAt, plain_bits, plain_count, bits_at, windows_of, soft_value, soft_octets, AreInnerBlocks, AreInnerDue, Inner, inner_bits, reported_slips}
+use Rattle.tm_inner.specs.InnerDecoding.{InnerDecoding, InnerDecoderStandsFor, IsDrained, unread}
+use Rattle.tm_inner.specs.Phase.{IsChosenBy, IsChosen, IsSettled, needed_at, skipped_at, phase_octets, skip_of, with_phase, IsChosenSoFar, WithPhase, WithPhaseSoFar}
 use Rattle.tm_inner.specs.Handing.{AreHanded, AreHandedDue}
-use Rattle.tm_inner.specs.Receiving.{IsCount, InnerReceiving, FirstAt, AreInnerFirst, InnerReceiverStandsFor, Hands, HandsPrefix}
-use Rattle.tm_inner.proofs.DueBits.{drop-split, soft-more}
-use Rattle.tm_inner.proofs.GivenPieces.{Stay}
-use Rattle.tm_inner.proofs.PlainBits.{bits-nil, length-plain, plain-append, plain-few}
-use Rattle.tm_inner.proofs.PhasePieces.{PhaseStays, StayClosed, items_of-with_phase}
-use Rattle.tm_inner.proofs.HandedPieces.{stands-so-far}
+use Rattle.tm_inner.specs.Receiving.{FirstAt, AreInnerFirst, Hands, HandsPrefix, HasRead}
+use Rattle.tm_inner.proofs.DueBits.{StandFirst, StayClosed, drop-split, soft-more}
+use Rattle.tm_inner.proofs.GivenPieces.{Stay, hands-prefix, hands-longer}
+use Rattle.tm_inner.proofs.PlainBits.{bits-nil, plain-append, plain-few}
+use Rattle.tm_inner.proofs.PhasePieces.{PhaseStays, items_of-with_phase, further}
 use Rattle.tm_inner.proofs.WithPhase.{choice-stays, settled-stays, so_far-stays}
-use Rattle.tm_inner.proofs.FewBits.{first-few, first-of-due, whole-few}
-use Rattle.tm_inner.proofs.HandedBits.{handed-due-none, needed-few, waiting-last-few, waiting-more-few}
+use Rattle.tm_inner.proofs.FewBits.{first-few, whole-few}
+use Rattle.tm_inner.proofs.Decoders.{stands-first}
+use Rattle.tm_inner.proofs.DecoderReads.{handed-due, read-all}
 use Rattle.tm_sync.specs.declared.found.Found.{Found}
 use Rattle.tm_codeblock.specs.ReceivedCodeblock.{places_in}
 use Rattle.tm_channel.specs.Items.{ItemValue, AreItemsOf, AreFirstItemsOf, AreItems}
 use Rattle.tm_channel.specs.Due.{due}
 use Rattle.tm_channel.specs.declared.totals.Totals.{Totals}
-use Rattle.tm_channel.specs.Handing.{totals_of, phase_from, phase_of, AreReceived, AreReceivedDue, AreReceivedFirst, AreReceivedPrefix}
+use Rattle.tm_channel.specs.Handing.{totals_of, phase_of, AreReceived, AreReceivedDue, AreReceivedFirst, AreReceivedPrefix}
+use Rattle.tm_channel.specs.Most.{AreFew}
 use Rattle.tm_channel.specs.Receiving.{waiting_bits, AreFurther, AreFirstFurther, AreFirstDue}
-use Rattle.tm_channel.specs.OctetReceiving.{BitReceiving, OctetReceiving, ReceiverStandsFor, FirstWith, BitReceiverStandsFor, Stages, StagesFor, StagesHand, StagesOn, Keeping, Keeps, KeepsPhase, AreSpare, AreWaiting, Gathers, Grows, Ends, Received, ReceivedPart, ReceivedLast, ReceivedLastPart, bits_found, received_bits}
+use Rattle.tm_channel.specs.OctetReceiving.{BitReceiving, FirstWith, BitReceiverStandsFor, Stages, StagesFor, StagesHand, StagesOn, AreSpare, Decodes, Decoded, DecodedPart, Received, ReceivedPart, ReceivedLast, ReceivedLastPart, bits_of_blocks}
 use Rattle.tm_channel.proofs.Streaming.{first-longer, first-more, first-then, items-then}
 use Rattle.tm_channel.proofs.AllBits.{beyond-nil, all-items, some-items, few-items, due-nil}
 use Rattle.tm_channel.proofs.ReceivedPieces.{all_bits, all_bits-append}
 use Rattle.tm_channel.proofs.PhasedItems.{prefix-nil, with_phase-split, none-after, part-some, phase_from-append, phase_from-items, phase_of-with_phase, phased-further}
+use Rattle.tm_channel.proofs.FurtherBits.{found-none, found-some, further-at, phased-items, bits-last}
+use Rattle.tm_channel.proofs.FewItems.{ends-few}
+use Rattle.tm_channel.proofs.FirstStage.{Ending, Fills, Settles, chosen-ended, plain-none, read-moved, read-so_far}
 use Rattle.tm_codeblock.proofs.PlacesIn.{places_in-append, places_in-end}
-
--- ---- the phase and the bits that are kept
-
-kept-all : (a b : Keeping) (more : List (Handed WindowBlock)) → HandedOver (on_handed KeepsPhase Keeps) a more b
-    → length a.bits + length (kept_bits (items_of more)) ≤ a.size
-    → b.bits ≡ a.bits ++ kept_bits (items_of more)
-kept-all a b [] same few = sym (ap (λ (k : Keeping). k.bits) same) ∙ sym (append-nil a.bits)
-kept-all a b (Phase skip cost ∷ more) handed few =
-    let m = handed.0 in
-    let bits : m.bits ≡ a.bits = ap (λ (k : Keeping). k.bits) handed.1 in
-    let size : m.size ≡ a.size = ap (λ (k : Keeping). k.size) handed.1 in
-    kept-all m b more handed.2 (omega (arith, few, ap length bits, size))
-    ∙ ap (λ l. l ++ kept_bits (items_of more)) bits
-kept-all a b (Item x ∷ xs) handed few =
-    let m = handed.0 in
-    let one = handed.1.bits (omega (arith, few, length-append (take x.kept x.bits) (kept_bits (items_of xs)))) in
-    let rest = kept-all m b xs handed.2
-    (omega (
-      arith,
-      few,
-      handed.1.size,
-      ap length one,
-      length-append a.bits (take x.kept x.bits),
-      length-append (take x.kept x.bits) (kept_bits (items_of xs)),
-    )) in
-    rest ∙ ap (λ l. l ++ kept_bits (items_of xs)) one ∙ append_assoc a.bits (take x.kept x.bits)
-    (kept_bits (items_of xs))
-
-kept-alone : (room kept : Keeping) (more : List (Handed WindowBlock))
-    → HandedOver (on_handed KeepsPhase Keeps) room more kept → room.bits ≡ []
-    → length (kept_bits (items_of more)) ≤ room.size
-    → kept.bits ≡ kept_bits (items_of more)
-kept-alone room kept more handed none fits =
-    kept-all room kept more handed (omega (arith, fits, ap length none))
-    ∙ ap (λ l. l ++ kept_bits (items_of more)) none
-
-pub kept-size : (a b : Keeping) (more : List (Handed WindowBlock)) → HandedOver (on_handed KeepsPhase Keeps) a more b
-    → b.size ≡ a.size
-kept-size a b [] same = sym (ap (λ (k : Keeping). k.size) same)
-kept-size a b (Phase skip cost ∷ more) handed =
-    kept-size handed.0 b more handed.2 ∙ ap (λ (k : Keeping). k.size) handed.1
-kept-size a b (Item x ∷ xs) handed = kept-size handed.0 b xs handed.2 ∙ handed.1.size
-
-kept-phase : (a b : Keeping) (more : List (Handed WindowBlock)) → HandedOver (on_handed KeepsPhase Keeps) a more b
-    → b.phase ≡ phase_from a.phase more
-kept-phase a b [] same = sym (ap (λ (k : Keeping). k.phase) same)
-kept-phase a b (Phase skip cost ∷ more) handed =
-    kept-phase handed.0 b more handed.2 ∙ ap (λ (k : Keeping). phase_from k.phase more) handed.1
-kept-phase a b (Item x ∷ xs) handed =
-    kept-phase handed.0 b xs handed.2 ∙ ap (λ (o : Option Chosen). phase_from o xs) handed.1.phase
-
--- which bits come of octets
-pub found-some : (c : Configuration) (rate : Option Rate) (skip : ℕ) (kept octets : List ℕ) → is_some rate ≡ true
-    → bits_found c rate skip kept octets ≡ map (λ bit. bit == 1) kept
-found-some c None skip kept octets is = absurd cc
-found-some c (Some rate) skip kept octets is = refl
-
-pub found-none : (c : Configuration) (rate : Option Rate) (skip : ℕ) (kept octets : List ℕ) → is_some rate ≡ false
-    → bits_found c rate skip kept octets ≡ drop skip (plain_bits c octets)
-found-none c None skip kept octets is = refl
-found-none c (Some rate) skip kept octets is = absurd cc
-
--- ---- the bits of further octets
-
-pub further-at : (rate : Option Rate) (c : Configuration) (given octets : List ℕ) (blocks more : List WindowBlock)
-    (kept : List ℕ) (skip : ℕ) → skip ≡ c.skip - plain_count c (length given)
-    → kept ≡ kept_bits more → bits_at rate c (given ++ octets) (blocks ++ more) ≡ bits_at rate c given blocks
-    ++ bits_found c rate skip kept octets
-further-at None c given octets blocks more kept skip is same =
-    let left : c.skip - length (plain_bits c given) ≡ skip = omega (arith, is, length-plain c given) in
-    ap (drop c.skip) (plain-append c given octets) ∙ drop-split c.skip (plain_bits c given) (plain_bits c octets)
-    ∙ ap (λ n. drop c.skip (plain_bits c given) ++ drop n (plain_bits c octets)) left
-further-at (Some rate) c given octets blocks more kept skip is same =
-    all_bits-append blocks more ∙ ap (λ l. all_bits blocks ++ map (λ bit. bit == 1) l) (sym same)
-
--- the first stage was given octets, and its phase and its bits were kept
-pub grows-kept : (inner now : InnerReceiving) (room kept : Keeping) (octets : List ℕ)
-    (more : List (Handed WindowBlock)) → HandedOver (on_handed KeepsPhase Keeps) room more kept
-    → room.bits ≡ [] → room.phase ≡ None
-    → ((given : List ℕ) (done : List (Handed WindowBlock)) → length given + length octets < 2 ^ 60
-    → InnerReceiverStandsFor inner given done
-    → InnerReceiverStandsFor now (given ++ octets) (done ++ more)
-    × AreHandedDue inner.config (given ++ octets) (done ++ more))
-    → Grows inner now room.size octets kept.phase (received_bits inner kept.bits octets)
-grows-kept inner now room kept octets more handed none fresh stands given done waiting few fits stood due =
-    let c = inner.config in
-    let there = stands given done few stood in
-    let most = waiting-more-few c given octets done waiting more due there.1 in
-    let same : kept.bits ≡ kept_bits (items_of more) = kept-alone room kept more handed none
-    (omega (arith, most, needed-few c.inner c, fits)) in
-    record {
-      more = more;
-      stands = there.0;
-      due = there.1;
-      is_phase = kept-phase room kept more handed ∙ ap (λ (o : Option Chosen). phase_from o more) fresh;
-      bits = ap (inner_bits c (given ++ octets)) (items_of-append done more)
-          ∙ further-at c.inner c given octets (items_of done) (items_of more) kept.bits
-          (c.skip - plain_count c inner.count)
-          (ap (λ n. c.skip - plain_count c n) (sym stood.count)) same;
-    }
-
--- the first octets were gathered, and then it was given the others
-pub gathered-fed : (inner middle now : InnerReceiving) (octets : List ℕ) (taken : ℕ)
-    (more : List (Handed WindowBlock)) → middle.config ≡ inner.config → taken ≤ length octets
-    → ((given : List ℕ) (done : List (Handed WindowBlock)) → length given + taken < 2 ^ 60
-    → InnerReceiverStandsFor inner given done → InnerReceiverStandsFor middle (given ++ take taken octets) done)
-    → ((given : List ℕ) (done : List (Handed WindowBlock)) → length given + length (drop taken octets) < 2 ^ 60
-    → InnerReceiverStandsFor middle given done
-    → InnerReceiverStandsFor now (given ++ drop taken octets) (done ++ more)
-    × AreHandedDue middle.config (given ++ drop taken octets) (done ++ more))
-    → (given : List ℕ) (done : List (Handed WindowBlock)) → length given + length octets < 2 ^ 60
-    → InnerReceiverStandsFor inner given done
-    → InnerReceiverStandsFor now (given ++ octets) (done ++ more)
-    × AreHandedDue inner.config (given ++ octets) (done ++ more)
-gathered-fed inner middle now octets taken more same within gathered fed given done few stood =
-    let prefix = take taken octets in
-    let there = fed (given ++ prefix) done (omega (
-      arith,
-      few,
-      within,
-      length-append given prefix,
-      length-take taken octets,
-      length-drop taken octets,
-    ))
-    (gathered given done (omega (arith, few, within)) stood) in
-    let whole : (given ++ prefix) ++ drop taken octets ≡ given ++ octets =
-    append_assoc given prefix (drop taken octets) ∙ ap (λ l. given ++ l) (take-append-drop taken octets) in (
-      subst (λ (l : List ℕ). InnerReceiverStandsFor now l (done ++ more)) whole there.0,
-      subst (λ (k : Configuration). AreHandedDue k (given ++ octets) (done ++ more)) same
-          (subst (λ (l : List ℕ). AreHandedDue middle.config l (done ++ more)) whole there.1),
-    )
-
--- all octets were gathered
-pub gathered-all : (inner now : InnerReceiving) (octets : List ℕ) (taken due most : ℕ) → now.config ≡ inner.config
-    → taken ≡ length octets → due ≤ most
-    → ((given : List ℕ) (done : List (Handed WindowBlock)) → length given + taken < 2 ^ 60
-    → InnerReceiverStandsFor inner given done → InnerReceiverStandsFor now (given ++ take taken octets) done)
-    → ((given : List ℕ) (done : List (Handed WindowBlock)) → InnerReceiverStandsFor now given done
-    → (more : List WindowBlock) × IsCount now.config (length (kept_bits more)) due
-    × AreHandedDue now.config given (done ++ map Item more))
-    → Gathers inner now octets most
-gathered-all inner now octets taken due most same all few_due gathered counted given done few stood =
-    let there = subst (λ (l : List ℕ). InnerReceiverStandsFor now (given ++ l) done)
-    (take_all taken octets (omega (arith, all))) (gathered given done (omega (arith, few, all)) stood) in
-    let h = counted (given ++ octets) done there in (
-      there,
-      (
-        h.0,
-        omega (arith, h.1.0, few_due),
-        subst (λ (k : Configuration). AreHandedDue k (given ++ octets)
-            (done ++ map Item h.0)) same h.2,
-      ),
-    )
-
-last-at : (rate : Option Rate) (c : Configuration) (phase : ℕ) (given : List ℕ) (blocks last : List WindowBlock)
-    (left : ℕ) → BlocksAt rate c phase given (blocks ++ last) left
-    → bits_at rate c given (blocks ++ last) ≡ bits_at rate c given blocks ++ all_bits last
-last-at None c phase given blocks last left are =
-    let none = prefix-nil blocks last are.0 in
-    sym (append-nil (drop c.skip (plain_bits c given))) ∙ ap
-    (λ (l : List WindowBlock). drop c.skip (plain_bits c given) ++ all_bits l) (sym none.1)
-last-at (Some rate) c phase given blocks last left are = all_bits-append blocks last
-
--- the blocks of what was handed over
-pub phased-items : {I : Type 0} (chosen : Option Chosen) (items : List I) (handed : List (Handed I))
-    → handed ≡ with_phase chosen items → items_of handed ≡ items
-phased-items chosen items handed are = ap items_of are ∙ items_of-with_phase chosen items
-
--- the last blocks add these bits
-bits-last : (c : Configuration) (given : List ℕ) (done last : List (Handed WindowBlock)) (left : ℕ)
-    → AreHanded c given (done ++ last) left
-    → inner_bits c given (items_of (done ++ last)) ≡ inner_bits c given (items_of done) ++ all_bits (items_of last)
-bits-last c given done last left h =
-    let blocks : h.items ≡ items_of done ++ items_of last = sym (phased-items h.chosen h.items (done ++ last) h.are)
-    ∙ items_of-append done last in
-    ap (inner_bits c given) (items_of-append done last)
-    ∙ last-at c.inner c (skip_of h.chosen) given (items_of done) (items_of last) left
-    (subst (λ (l : List WindowBlock). AreInnerBlocks c (skip_of h.chosen) given l left) blocks h.are_items)
-
--- the first stage ended, and its phase and its bits were kept
-pub ends-kept : (inner : InnerReceiving) (room kept : Keeping) (totals : Totals) (last : List (Handed WindowBlock))
-    (left : ℕ) → HandedOver (on_handed KeepsPhase Keeps) room last kept
-    → room.bits ≡ [] → room.phase ≡ None
-    → ((given : List ℕ) (done : List (Handed WindowBlock)) → InnerReceiverStandsFor inner given done
-    → AreHanded inner.config given (done ++ last) left × (totals
-    ≡ totals_of inner.config (inner_bits inner.config given (items_of (done ++ last))) (items_of (done ++ last))))
-    → Ends inner room.size kept.phase (map (λ bit. bit == 1) kept.bits) totals
-ends-kept inner room kept totals last left handed none fresh stands given done waiting fits stood due =
-    let c = inner.config in
-    let there = stands given done stood in
-    let most = waiting-last-few c given done waiting last left due there.0 in
-    let same : kept.bits ≡ kept_bits (items_of last) = kept-alone room kept last handed none
-    (omega (arith, most, needed-few c.inner c, fits)) in
-    record {
-      last = last;
-      left = left;
-      are_handed = there.0;
-      is_phase = kept-phase room kept last handed ∙ ap (λ (o : Option Chosen). phase_from o last) fresh;
-      bits =
-          bits-last c given done last left there.0
-          ∙ ap (λ l. inner_bits c given (items_of done) ++ map (λ bit. bit == 1) l) (sym same);
-      counted = there.1;
-    }
 
 -- ---- pieces of octets
 
@@ -290,9 +93,17 @@ once c soft soft_now (Some a) (Some b) blocks (w ∷ waiting) all [] more is now
 once c soft soft_now (Some a) (Some b) blocks waiting all (h ∷ handed) more is now are same =
     none-after None handed more (ap (λ l. phase_of (drop 1 l)) same ∙ phase_of-with_phase None all)
 
+-- blocks that are due and were not handed over yet
+abbrev AreWaiting : Configuration → List ℕ → List (Handed WindowBlock) → List WindowBlock → Type 0
+AreWaiting c given done waiting = AreHandedDue c given (done ++ map Item waiting)
+
+-- the phase, once it is settled, and first blocks
+abbrev FirstSoFar : Configuration → List ℕ → List (Handed WindowBlock) → Type 0
+FirstSoFar c given = WithPhaseSoFar (λ phase. AreInnerFirst c phase given) c given
+
 once-due : (c : Configuration) (given octets : List ℕ) (done : List (Handed WindowBlock)) (waiting : List WindowBlock)
     (more : List (Handed WindowBlock)) → AreWaiting c given done waiting
-    → AreHandedDue c (given ++ octets) (done ++ more) → IsSettled c given → phase_of more ≡ None
+    → FirstSoFar c (given ++ octets) (done ++ more) → IsSettled c given → phase_of more ≡ None
 once-due c given octets done waiting more (inl before) now settled = absurd (before.0 settled)
 once-due c given octets done waiting more (inr before) (inl now) settled = ap phase_of (prefix-nil done more now.1).1
 once-due c given octets done waiting more (inr before) (inr now) settled =
@@ -301,11 +112,11 @@ once-due c given octets done waiting more (inr before) (inr now) settled =
     once c (phase_octets c given) (phase_octets c (given ++ octets)) g.chosen h.chosen g.items waiting h.items done
     more g.choice h.choice g.are h.are
 
-once-last : (c : Configuration) (given : List ℕ) (done : List (Handed WindowBlock)) (waiting : List WindowBlock)
-    (last : List (Handed WindowBlock)) (left : ℕ) → AreWaiting c given done waiting
-    → AreHanded c given (done ++ last) left → IsSettled c given → phase_of last ≡ None
-once-last c given done waiting last left (inl before) h settled = absurd (before.0 settled)
-once-last c given done waiting last left (inr before) h settled =
+once-last : (P : ℕ → List WindowBlock → Type 0) (c : Configuration) (given : List ℕ)
+    (done : List (Handed WindowBlock)) (waiting : List WindowBlock) (last : List (Handed WindowBlock))
+    → AreWaiting c given done waiting → WithPhase P c given (done ++ last) → IsSettled c given → phase_of last ≡ None
+once-last P c given done waiting last (inl before) h settled = absurd (before.0 settled)
+once-last P c given done waiting last (inr before) h settled =
     let g = before.1 in
     once c (phase_octets c given) (phase_octets c given) g.chosen h.chosen g.items waiting h.items done last g.choice
     h.choice g.are h.are
@@ -386,7 +197,7 @@ few-nil : (rate : Option Rate) (c : Configuration) (given : List ℕ)
 few-nil None c given = omega (arith, length-drop c.skip (plain_bits c given), plain-few c given)
 few-nil (Some rate) c given = omega arith
 
-due-few : (c : Configuration) (given : List ℕ) (handed : List (Handed WindowBlock)) → AreHandedDue c given handed
+due-few : (c : Configuration) (given : List ℕ) (handed : List (Handed WindowBlock)) → FirstSoFar c given handed
     → length (inner_bits c given (items_of handed)) ≤ 8 * length given
 due-few c given handed (inl w) =
     omega (
@@ -399,7 +210,7 @@ due-few c given handed (inr g) =
     let h = g.1 in
     omega (
       arith,
-      first-few c (skip_of h.chosen) given h.items (first-of-due c (skip_of h.chosen) given h.items h.are_items),
+      first-few c (skip_of h.chosen) given h.items h.are_items,
       ap (λ (l : List WindowBlock). length (inner_bits c given l)) (phased-items h.chosen h.items handed h.are),
     )
 
@@ -409,64 +220,170 @@ few_bits : (bits all piece : List Bool) (given octets : List ℕ) → all ≡ bi
     → length (bits ++ piece) < 2 ^ 63
 few_bits bits all piece given octets is most few = omega (arith, ap length is, most, few, length-append given octets)
 
--- what the first stage goes on to
-record Onward (s : Stages) (now : InnerReceiving) (given octets : List ℕ) (handed : List (Handed WindowBlock))
+-- what the first stage goes on to with these octets: this phase, and these bits
+pub record Further (inner now : InnerDecoding) (given octets : List ℕ) (done : List (Handed WindowBlock))
+    (phase : Option Chosen) (piece : List Bool) : Type 0 where
+  pub more : List (Handed WindowBlock)
+  pub read : HasRead now (given ++ octets) (done ++ more)
+  pub all : unread now ≡ None
+  pub so_far : IsChosenSoFar now.config (given ++ octets) now.chosen
+  pub is_phase : phase ≡ phase_of more
+  pub bits : inner_bits inner.config (given ++ octets) (items_of (done ++ more))
+      ≡ inner_bits inner.config given (items_of done) ++ piece
+
+-- whatever octets it was given, fewer than 2^60 with these
+pub record Grows (inner now : InnerDecoding) (octets : List ℕ) (phase : Option Chosen) (piece : List Bool)
+    : Type 0 where
+  pub config : now.config ≡ inner.config
+  pub ended : now.has_ended ≡ inner.has_ended
+  pub further : (given : List ℕ) (done : List (Handed WindowBlock)) → inner.has_ended ≡ false
+      → length given + length octets < 2 ^ 60 → HasRead inner given done
+      → Further inner now given octets done phase piece
+
+blocks-after : (phase : Option Chosen) (blocks : List WindowBlock)
+    → items_of (with_phase phase [] ++ map Item blocks) ≡ blocks
+blocks-after phase blocks =
+    ap items_of (sym (with_phase-split phase blocks)) ∙ items_of-with_phase phase blocks
+
+phase-after : (phase : Option Chosen) (blocks : List WindowBlock)
+    → phase ≡ phase_of (with_phase phase [] ++ map Item blocks)
+phase-after phase blocks =
+    sym (ap phase_of (sym (with_phase-split phase blocks)) ∙ phase_of-with_phase phase blocks)
+
+grows-by : (inner filled now : InnerDecoding) (octets : List ℕ) (phase : Option Chosen) (blocks : List WindowBlock)
+    (piece : List Bool) → Fills inner filled octets → Decodes filled now (with_phase phase [] ++ map Item blocks)
+    → ((given : List ℕ) (done : List (Handed WindowBlock)) → HasRead inner given done
+    → HasRead now (given ++ octets) (done ++ (with_phase phase [] ++ map Item blocks))
+    → inner_bits inner.config (given ++ octets) (items_of done ++ blocks)
+    ≡ inner_bits inner.config given (items_of done) ++ piece)
+    → Grows inner now octets phase piece
+grows-by inner filled now octets phase blocks piece fills decodes bits = record {
+  config = decodes.config ∙ fills.on.config;
+  ended = decodes.ended ∙ fills.ended;
+  further = λ given done going few read.
+      let all = given ++ octets in
+      let more = with_phase phase [] ++ map Item blocks in
+      let there = decodes.on all done
+      (read-moved inner filled given all done fills.on read (fills.stands given read.blocks going few read.stands)) in
+      record {
+        more = more;
+        read = there.0;
+        all = there.1;
+        so_far = there.2 (fills.ended ∙ going);
+        is_phase = phase-after phase blocks;
+        bits =
+            ap (inner_bits inner.config all) (items_of-append done more
+            ∙ ap (λ (l : List WindowBlock). items_of done ++ l) (blocks-after phase blocks))
+            ∙ bits given done read there.0;
+      };
+}
+
+-- with an inner code
+pub grows-coded : (inner filled now : InnerDecoding) (octets : List ℕ) (phase : Option Chosen)
+    (blocks : List WindowBlock) → is_some inner.config.inner ≡ true → Fills inner filled octets
+    → Decodes filled now (with_phase phase [] ++ map Item blocks)
+    → Grows inner now octets phase (bits_of_blocks blocks)
+grows-coded inner filled now octets phase blocks coded fills decodes =
+    let c = inner.config in
+    grows-by inner filled now octets phase blocks (bits_of_blocks blocks) fills decodes
+    (λ given done read there.
+    let skip = c.skip - plain_count c (length given) in
+    further-at c.inner c given octets (items_of done) blocks skip refl
+    ∙ ap (λ l. inner_bits c given (items_of done) ++ l) (found-some c c.inner skip blocks octets coded))
+
+-- with none
+pub grows-plain : (inner filled now : InnerDecoding) (octets : List ℕ) (phase : Option Chosen)
+    (blocks : List WindowBlock) (skip : ℕ) → is_some inner.config.inner ≡ false
+    → skip ≡ inner.config.skip - plain_count inner.config inner.count → Fills inner filled octets
+    → Decodes filled now (with_phase phase [] ++ map Item blocks)
+    → Grows inner now octets phase (bits_of_blocks blocks ++ drop skip (plain_bits inner.config octets))
+grows-plain inner filled now octets phase blocks skip plain is fills decodes =
+    let c = inner.config in
+    let more = with_phase phase [] ++ map Item blocks in
+    let found = drop skip (plain_bits c octets) in
+    grows-by inner filled now octets phase blocks (bits_of_blocks blocks ++ found) fills decodes
+    (λ given done read there.
+    let none_now : there.blocks ≡ [] = plain-none now (given ++ octets) there.blocks
+    (ap (λ (k : Configuration). is_some k.inner) (decodes.config ∙ fills.on.config) ∙ plain) there.stands in
+    let all : items_of (done ++ more) ≡ there.blocks = phased-items _ there.blocks (done ++ more) there.are in
+    let none : blocks ≡ [] = sym (blocks-after phase blocks)
+    ∙ (prefix-nil (items_of done) (items_of more) (sym (items_of-append done more) ∙ all ∙ none_now)).1 in
+    further-at c.inner c given octets (items_of done) blocks skip
+    (is ∙ ap (λ n. c.skip - plain_count c n) (sym read.stands.count))
+    ∙ ap (λ l. inner_bits c given (items_of done) ++ l)
+    (found-none c c.inner skip blocks octets plain
+    ∙ ap (λ (l : List WindowBlock). bits_of_blocks l ++ found) (sym none)))
+
+-- the phase and first blocks
+first-read : (d : InnerDecoding) (given : List ℕ) (handed : List (Handed WindowBlock)) → HasRead d given handed
+    → unread d ≡ None → IsChosenSoFar d.config given d.chosen → FirstSoFar d.config given handed
+first-read d given handed read all so_far =
+    read-so_far (λ phase. AreInnerFirst d.config phase given) d given handed read all so_far
+    (λ is. stands-first d given read.blocks read.stands)
+
+record Onward (s : Stages) (now : InnerDecoding) (given octets : List ℕ) (handed : List (Handed WindowBlock))
     (phase : Option Chosen) (piece : List Bool) : Type 0 where
   more : List (Handed WindowBlock)
-  stands : InnerReceiverStandsFor now (given ++ octets) (handed ++ more)
-  due : AreHandedDue s.inner.config (given ++ octets) (handed ++ more)
+  read : HasRead now (given ++ octets) (handed ++ more)
+  all : unread now ≡ None
+  so_far : IsChosenSoFar now.config (given ++ octets) now.chosen
+  first : FirstSoFar s.inner.config (given ++ octets) (handed ++ more)
   is_phase : phase ≡ phase_of more
   is : inner_bits s.inner.config (given ++ octets) (items_of (handed ++ more))
       ≡ inner_bits s.inner.config given (items_of handed) ++ piece
   few : length (inner_bits s.inner.config given (items_of handed) ++ piece) < 2 ^ 63
 
--- there is room for the bits of the blocks that wait, and of so many octets
-abbrev pub IsRoomy : Stages → ℕ → ℕ → Type 0
-IsRoomy s count room = waiting_bits s.inner.config s.inner.config.batch + held_bits s.inner.config + count ≤ room
-
-onward : (s : Stages) (now : InnerReceiving) (room : ℕ) (octets : List ℕ) (phase : Option Chosen) (piece : List Bool)
-    → IsRoomy s (length octets) room → Grows s.inner now room octets phase piece
+onward : (s : Stages) (now : InnerDecoding) (octets : List ℕ) (phase : Option Chosen) (piece : List Bool)
+    → Grows s.inner now octets phase piece
     → (given : List ℕ) (done : List (Handed ItemValue)) → length given + length octets < 2 ^ 60
     → (stood : StagesFor s given done) → Onward s now given octets stood.handed phase piece
-onward s now room octets phase piece roomy grows given done few stood =
+onward s now octets phase piece grows given done few stood =
     let c = s.inner.config in
-    let f = grows given stood.handed stood.waiting few (omega (arith, stood.few, roomy)) stood.inner stood.are_due in
+    let f = grows.further given stood.handed stood.going few stood.inner in
+    let handed = stood.handed ++ f.more in
+    let first = subst (λ (k : Configuration). FirstSoFar k (given ++ octets) handed) grows.config
+    (first-read now (given ++ octets) handed f.read f.all f.so_far) in
     record {
       more = f.more;
-      stands = f.stands;
-      due = f.due;
+      read = f.read;
+      all = f.all;
+      so_far = f.so_far;
+      first = first;
       is_phase = f.is_phase;
       is = f.bits;
       few =
-          few_bits (inner_bits c given (items_of stood.handed))
-          (inner_bits c (given ++ octets) (items_of (stood.handed ++ f.more))) piece given octets f.bits
-          (due-few c (given ++ octets) (stood.handed ++ f.more) f.due) few;
+          few_bits (inner_bits c given (items_of stood.handed)) (inner_bits c (given ++ octets) (items_of handed)) piece
+          given octets f.bits (due-few c (given ++ octets) handed first) few;
     }
 
 -- all that is due with the octets was handed over
-stages-due : {T : Type 0} (took : T → ItemValue → T → Type 0) (s now : Stages) (middle taker_now : T) (room : ℕ)
+stages-due : {T : Type 0} (took : T → ItemValue → T → Type 0) (s now : Stages) (middle taker_now : T)
     (octets : List ℕ) (phase : Option Chosen) (piece : List Bool)
-    → IsOf s → IsRoomy s (length octets) room → now.inner.config ≡ s.inner.config
-    → Grows s.inner now.inner room octets phase piece → (p : Received took s.bits now.bits middle taker_now piece)
+    → IsOf s → Grows s.inner now.inner octets phase piece → IsDrained now.inner.queue
+    → (p : Received took s.bits now.bits middle taker_now piece)
     → (given : List ℕ) (done : List (Handed ItemValue)) → length given + length octets < 2 ^ 60
     → (stood : StagesFor s given done)
     → StagesOn now (given ++ octets) (done ++ (with_phase phase [] ++ map Item p.items)) stood.handed
-stages-due took s now middle taker_now room octets phase piece of roomy same grows p given done few stood =
+stages-due took s now middle taker_now octets phase piece of grows drained p given done few stood =
     let c = s.inner.config in
-    let f = onward s now.inner room octets phase piece roomy grows given done few stood in
+    let same = grows.config in
+    let f = onward s now.inner octets phase piece grows given done few stood in
     let handed = stood.handed ++ f.more in
     let bits = inner_bits c given (items_of stood.handed) in
     let more = subst (λ (k : Configuration). AreFurther k bits piece p.items) of (p.due bits f.few stood.bits) in
     let items = subst (λ (l : List Bool). AreItemsOf c l (due c l) (stood.items ++ p.items)) (sym f.is)
     (due-further c bits piece stood.items p.items stood.are_items more) in
-    let stands = subst (BitReceiverStandsFor now.bits) (sym f.is) (p.stands bits f.few stood.bits) in (
+    let stands = subst (BitReceiverStandsFor now.bits) (sym f.is) (p.stands bits f.few stood.bits) in
+    let due_now = handed-due now.inner (given ++ octets) handed
+    (record { read = f.read; all = f.all; drained = drained; so_far = f.so_far }) in (
       record {
+        going = grows.ended ∙ stood.going;
+        all = f.all;
         handed = handed;
-        inner = f.stands;
+        inner = f.read;
+        so_far = f.so_far;
         waiting = [];
-        are_due =
-            subst (λ (k : Configuration). AreWaiting k (given ++ octets) handed []) (sym same)
-            (subst (AreHandedDue c (given ++ octets)) (sym (append-nil handed)) f.due);
+        are_due = subst (AreHandedDue now.inner.config (given ++ octets)) (sym (append-nil handed)) due_now;
         few = omega arith;
         none_due =
             ap (λ (l : List WindowBlock). due now.inner.config (inner_bits now.inner.config (given ++ octets) l))
@@ -482,7 +399,7 @@ stages-due took s now middle taker_now room octets phase piece of roomy same gro
         are =
             phased-more c given stood.handed stood.waiting f.more done stood.items p.items phase stood.are_due
             stood.are_items stood.are
-            (once-due c given octets stood.handed stood.waiting f.more stood.are_due f.due) f.is_phase;
+            (once-due c given octets stood.handed stood.waiting f.more stood.are_due f.first) f.is_phase;
       },
       f.more,
       refl,
@@ -505,173 +422,183 @@ with-waiting (Some rate) c given blocks waiting = (
   omega (arith, length-map (kept_bits waiting) (λ bit. bit == 1)),
 )
 
-stages-wait : (s : Stages) (now : InnerReceiving) (octets : List ℕ) (spare : ℕ) → IsOf s → now.config ≡ s.inner.config
-    → is_some s.inner.config.inner ≡ true
-    → AreSpare s.bits spare → spare ≤ waiting_bits s.bits.batch.config s.bits.batch.config.batch
-    → Gathers s.inner now octets spare
+-- the phase is settled, and the blocks that are due and wait keep at most so many bits
+abbrev pub IsWaiting : InnerDecoding → ℕ → Type 0
+IsWaiting d spare = d.has_ended ≡ false → (given : List ℕ) (blocks : List WindowBlock)
+    → InnerDecoderStandsFor d given blocks
+    → IsSettled d.config given × IsChosen d.config given d.chosen
+    × ((more : List WindowBlock) × (length (kept_bits more) ≤ spare)
+    × AreInnerDue d.config (skip_of d.chosen) given (blocks ++ more))
+
+-- octets were put in, and wait
+pub record Waits (inner now : InnerDecoding) (octets : List ℕ) (spare : ℕ) : Type 0 where
+  pub fills : Fills inner now octets
+  pub coded : is_some inner.config.inner ≡ true
+  pub waits : IsWaiting now spare
+
+so-far-of : (c : Configuration) (given : List ℕ) (chosen : Option Chosen) → IsSettled c given
+    → IsChosen c given chosen → IsChosenSoFar c given chosen
+so-far-of c given None settled is = λ _. is
+so-far-of c given (Some chosen) settled is = (settled, is)
+
+stages-wait : (s : Stages) (now : InnerDecoding) (octets : List ℕ) (spare : ℕ) → IsOf s → AreSpare s.bits spare
+    → spare ≤ waiting_bits s.bits.batch.config s.bits.batch.config.batch → Waits s.inner now octets spare
     → (given : List ℕ) (done : List (Handed ItemValue)) → length given + length octets < 2 ^ 60
     → (stood : StagesFor s given done)
     → StagesOn (record { inner = now; bits = s.bits }) (given ++ octets) (done ++ []) stood.handed
-stages-wait s now octets spare of same coded none most gathers given done few stood =
+stages-wait s now octets spare of none most w given done few stood =
     let c = s.inner.config in
-    let f = gathers given stood.handed few stood.inner in
-    let waiting = f.1.0 in
+    let all = given ++ octets in
+    let same = w.fills.on.config in
+    let read = read-moved s.inner now given all stood.handed w.fills.on stood.inner
+    (w.fills.stands given stood.inner.blocks stood.going few stood.inner.stands) in
+    let f = w.waits (w.fills.ended ∙ stood.going) all read.blocks read.stands in
+    let waiting = f.2.0 in
     let blocks = items_of stood.handed in
-    let is = kept-coded c.inner c given octets blocks coded in
-    let more = with-waiting c.inner c (given ++ octets) blocks waiting in
+    let unread_now : unread now ≡ None =
+    ap (λ (o : Option Chosen). if now.has_phase then None else o) (w.fills.coded w.coded)
+    ∙ ap (λ (b : Bool). if b then None else s.inner.chosen) w.fills.on.phase ∙ stood.all in
+    let are : stood.handed ++ map Item waiting ≡ with_phase now.chosen (read.blocks ++ waiting) =
+    further now.chosen stood.handed read.blocks waiting (read-all now all stood.handed read unread_now) in
+    let is = kept-coded c.inner c given octets blocks w.coded in
+    let more = with-waiting c.inner c all blocks waiting in
     let stands = subst (BitReceiverStandsFor s.bits) (sym is) stood.bits in
-    let none_due = subst (λ (k : Configuration). due k (inner_bits c (given ++ octets) blocks ++ more.0)
-    ≡ due k (inner_bits c (given ++ octets) blocks)) of
-    (none (inner_bits c (given ++ octets) blocks) more.0 stands (omega (arith, more.2, f.1.1))) in
+    let none_due = subst (λ (k : Configuration). due k (inner_bits c all blocks ++ more.0)
+    ≡ due k (inner_bits c all blocks)) of
+    (none (inner_bits c all blocks) more.0 stands (omega (arith, more.2, f.2.1))) in
     let items = subst (λ (l : List Bool). AreItemsOf c l (due c l) stood.items) (sym is) stood.are_items in (
       record {
+        going = w.fills.ended ∙ stood.going;
+        all = unread_now;
         handed = stood.handed;
-        inner = f.0;
+        inner = read;
+        so_far = so-far-of now.config all now.chosen f.0 f.1;
         waiting = waiting;
-        are_due = subst (λ (k : Configuration). AreWaiting k (given ++ octets) stood.handed waiting) (sym same) f.1.2;
+        are_due = inr (
+          f.0,
+          record {
+            chosen = now.chosen;
+            choice = f.1;
+            items = read.blocks ++ waiting;
+            are_items = f.2.2;
+            are = are;
+          },
+        );
         few =
             omega (
               arith,
-              f.1.1,
+              f.2.1,
               most,
               ap (λ (k : Configuration). waiting_bits k k.batch) of,
               ap (λ (k : Configuration). waiting_bits k k.batch) same,
             );
         none_due =
-            subst (λ (k : Configuration). due k (inner_bits k (given ++ octets) (blocks ++ waiting))
-            ≡ due k (inner_bits k (given ++ octets) blocks)) (sym same) (ap (due c) more.1 ∙ none_due);
+            subst (λ (k : Configuration). due k (inner_bits k all (blocks ++ waiting))
+            ≡ due k (inner_bits k all blocks)) (sym same) (ap (due c) more.1 ∙ none_due);
         bits =
-            subst (λ (k : Configuration). BitReceiverStandsFor s.bits (inner_bits k (given ++ octets) blocks))
+            subst (λ (k : Configuration). BitReceiverStandsFor s.bits (inner_bits k all blocks))
             (sym same) stands;
         items = stood.items;
         are_items =
-            subst (λ (k : Configuration). AreItemsOf k (inner_bits k (given ++ octets) blocks)
-            (due k (inner_bits k (given ++ octets) blocks)) stood.items) (sym same) items;
+            subst (λ (k : Configuration). AreItemsOf k (inner_bits k all blocks)
+            (due k (inner_bits k all blocks)) stood.items) (sym same) items;
         are = append-nil done ∙ stood.are;
       },
       [],
       sym (append-nil stood.handed),
     )
 
-pub hands-wait : {T : Type 0} (took : T → Handed ItemValue → T → Type 0) (s : Stages) (now : InnerReceiving)
-    (taker : T) (octets : List ℕ) (spare : ℕ)
-    → IsOf s → now.config ≡ s.inner.config → is_some s.inner.config.inner ≡ true → AreSpare s.bits spare
-    → spare ≤ waiting_bits s.bits.batch.config s.bits.batch.config.batch
-    → Gathers s.inner now octets spare → StagesHand took s (record { inner = now; bits = s.bits }) taker taker octets
-hands-wait took s now taker octets spare of same coded none most gathers = record {
+pub hands-wait : {T : Type 0} (took : T → Handed ItemValue → T → Type 0) (s : Stages) (now : InnerDecoding)
+    (taker : T) (octets : List ℕ) (spare : ℕ) → IsOf s → AreSpare s.bits spare
+    → spare ≤ waiting_bits s.bits.batch.config s.bits.batch.config.batch → Waits s.inner now octets spare
+    → StagesHand took s (record { inner = now; bits = s.bits }) taker taker octets
+hands-wait took s now taker octets spare of none most w = record {
   more = [];
   handed = refl;
-  stands = stages-wait s now octets spare of same coded none most gathers;
+  stands = stages-wait s now octets spare of none most w;
 }
 
 -- a part of it was
-stages-prefix : (s : Stages) (now : InnerReceiving) (room : ℕ) (octets : List ℕ) (phase : Option Chosen)
+stages-prefix : (s : Stages) (now : InnerDecoding) (octets : List ℕ) (phase : Option Chosen)
     (piece : List Bool) (tried : List ItemValue)
-    → IsOf s → IsRoomy s (length octets) room → Grows s.inner now room octets phase piece
+    → IsOf s → Grows s.inner now octets phase piece
     → AreFirstDue s.bits.batch.config (BitReceiverStandsFor s.bits) piece tried
     → (with_phase phase [] ++ map Item tried ≡ [] → ⊥)
     → (given : List ℕ) (done : List (Handed ItemValue)) → length given + length octets < 2 ^ 60 → StagesFor s given done
-    → AreReceivedFirst s.inner.config (given ++ octets) (done ++ (with_phase phase [] ++ map Item tried))
-stages-prefix s now room octets phase piece tried of roomy grows first some given done few stood =
+    → FirstWith s.inner.config now.chosen (given ++ octets) (done ++ (with_phase phase [] ++ map Item tried))
+stages-prefix s now octets phase piece tried of grows first some given done few stood =
     let c = s.inner.config in
-    let f = onward s now room octets phase piece roomy grows given done few stood in
+    let f = onward s now octets phase piece grows given done few stood in
     let handed = stood.handed ++ f.more in
     let bits = inner_bits c given (items_of stood.handed) in
-    let more = subst (λ (k : Configuration). AreFirstFurther k bits piece tried) of (first bits f.few stood.bits) in
-    elim f.due as (λ _. AreReceivedFirst c (given ++ octets) (done ++ (with_phase phase [] ++ map Item tried))) [
-      | inl w ↦ (
-          let none : phase ≡ None = f.is_phase ∙ ap phase_of (prefix-nil stood.handed f.more w.1).1 in
-          let no_items = first-none-items c bits piece tried
-          (sym f.is ∙ unsettled-bits c (given ++ octets) handed w.0 w.1) more in
-          absurd (some (ap (λ (o : Option Chosen). with_phase o [] ++ map Item tried) none ∙ ap (map Item) no_items))
-          )
-      | inr g ↦ (
-          let h = g.1 in
-          let blocks = phased-items h.chosen h.items handed h.are in
-          let chosen : phase_of handed ≡ h.chosen = ap phase_of h.are ∙ phase_of-with_phase h.chosen h.items in (
-            g.0,
-            record {
-              chosen = h.chosen;
-              choice = h.choice;
-              items = stood.items ++ tried;
-              are_items = record {
-                blocks = items_of handed;
-                are_first =
-                    subst (AreInnerFirst c (skip_of h.chosen) (given ++ octets)) (sym blocks)
-                    (first-of-due c (skip_of h.chosen) (given ++ octets) h.items h.are_items);
-                are_items =
-                    subst (λ (l : List Bool). AreFirstItemsOf c l (places_in c l) (stood.items ++ tried))
-                    (sym f.is) (first-of-more c bits piece stood.items tried stood.are_items more);
-              };
-              are =
-                  phased-more c given stood.handed stood.waiting f.more done stood.items tried phase stood.are_due
-                  stood.are_items stood.are
-                  (once-due c given octets stood.handed stood.waiting f.more stood.are_due f.due) f.is_phase
-                  ∙ ap (λ (o : Option Chosen). with_phase o (stood.items ++ tried)) chosen;
-            },
-          )
-          )
-    ]
+    let more = subst (λ (k : Configuration). AreFirstFurther k bits piece tried) of (first bits f.few stood.bits) in (
+      elim f.first as (λ _. AreReceivedFirst c (given ++ octets) (done ++ (with_phase phase [] ++ map Item tried))) [
+        | inl w ↦ (
+            let none : phase ≡ None = f.is_phase ∙ ap phase_of (prefix-nil stood.handed f.more w.1).1 in
+            let no_items = first-none-items c bits piece tried
+            (sym f.is ∙ unsettled-bits c (given ++ octets) handed w.0 w.1) more in
+            absurd (some (ap (λ (o : Option Chosen). with_phase o [] ++ map Item tried) none ∙ ap (map Item) no_items))
+            )
+        | inr g ↦ (
+            let h = g.1 in
+            let blocks = phased-items h.chosen h.items handed h.are in
+            let chosen : phase_of handed ≡ h.chosen = ap phase_of h.are ∙ phase_of-with_phase h.chosen h.items in (
+              g.0,
+              record {
+                chosen = h.chosen;
+                choice = h.choice;
+                items = stood.items ++ tried;
+                are_items = record {
+                  blocks = items_of handed;
+                  are_first = subst (AreInnerFirst c (skip_of h.chosen) (given ++ octets)) (sym blocks) h.are_items;
+                  are_items =
+                      subst (λ (l : List Bool). AreFirstItemsOf c l (places_in c l) (stood.items ++ tried))
+                      (sym f.is) (first-of-more c bits piece stood.items tried stood.are_items more);
+                };
+                are =
+                    phased-more c given stood.handed stood.waiting f.more done stood.items tried phase stood.are_due
+                    stood.are_items stood.are
+                    (once-due c given octets stood.handed stood.waiting f.more stood.are_due f.first) f.is_phase
+                    ∙ ap (λ (o : Option Chosen). with_phase o (stood.items ++ tried)) chosen;
+              },
+            )
+            )
+      ],
+      subst (λ (k : Configuration). IsChosenSoFar k (given ++ octets) now.chosen) grows.config f.so_far,
+    )
 
 pub hands-due : {T : Type 0} (took_phase : T → ℕ → ℕ → T → Type 0) (took : T → ItemValue → T → Type 0)
-    (s now : Stages) (taker middle taker_now : T) (room : ℕ) (octets : List ℕ) (phase : Option Chosen)
-    (piece : List Bool)
-    → IsOf s → IsRoomy s (length octets) room → now.inner.config ≡ s.inner.config
-    → Grows s.inner now.inner room octets phase piece
+    (s now : Stages) (taker middle taker_now : T) (octets : List ℕ) (phase : Option Chosen) (piece : List Bool)
+    → IsOf s → Grows s.inner now.inner octets phase piece → IsDrained now.inner.queue
     → HandedOver (on_handed took_phase took) taker (with_phase phase []) middle
-    → Received took s.bits now.bits middle taker_now piece → StagesHand
-    (on_handed took_phase took) s now taker taker_now octets
-hands-due took_phase took s now taker middle taker_now room octets phase piece of roomy same grows first p = record {
+    → Received took s.bits now.bits middle taker_now piece
+    → StagesHand (on_handed took_phase took) s now taker taker_now octets
+hands-due took_phase took s now taker middle taker_now octets phase piece of grows drained first p = record {
   more = with_phase phase [] ++ map Item p.items;
   handed =
       HandedOver-append (on_handed took_phase took) taker middle taker_now (with_phase phase [])
       (map Item p.items) first
       (HandedOver-items took_phase took middle taker_now p.items p.handed);
-  stands = stages-due took s now middle taker_now room octets phase piece of roomy same grows p;
+  stands = stages-due took s now middle taker_now octets phase piece of grows drained p;
 }
 
--- the taker failed at the phase
-pub prefix-phase : {T : Type 0} (took_phase broke_phase : T → ℕ → ℕ → T → Type 0)
-    (took broke : T → ItemValue → T → Type 0) (s : Stages) (now : InnerReceiving) (taker taker_now : T) (room : ℕ)
-    (octets : List ℕ)
-    (phase : Option Chosen) (piece : List Bool) → IsOf s → IsRoomy s (length octets) room
-    → Grows s.inner now room octets phase piece
-    → HandedPart (on_handed took_phase took) (on_handed broke_phase broke) taker (with_phase phase []) taker_now
-    → HandsPrefix (on_handed took_phase took) (on_handed broke_phase broke) StagesFor
-    (AreReceivedFirst s.inner.config) s taker taker_now octets
-prefix-phase took_phase broke_phase took broke s now taker taker_now room octets phase piece of roomy grows part =
-    let all = append-nil (with_phase {I = ItemValue} phase []) in
-    record {
-      tried = with_phase phase [];
-      handed = part;
-      first =
-          λ given done few stood. subst
-          (λ (l : List (Handed ItemValue)). AreReceivedFirst s.inner.config (given ++ octets) (done ++ l)) all
-          (stages-prefix s now room octets phase piece [] of roomy grows (λ bits _ _. tt)
-          (λ none. part-some (on_handed took_phase took) (on_handed broke_phase broke) taker taker_now
-          (with_phase phase []) part (sym all ∙ none)) given done few stood);
-    }
-
--- it failed at an item after it
+-- the taker failed
 pub prefix-due : {T : Type 0} (took_phase broke_phase : T → ℕ → ℕ → T → Type 0)
-    (took broke : T → ItemValue → T → Type 0) (s : Stages) (now : InnerReceiving) (bits_now : BitReceiving)
-    (taker middle taker_now : T) (room : ℕ) (octets : List ℕ) (phase : Option Chosen) (piece : List Bool) → IsOf s
-    → IsRoomy s (length octets) room → Grows s.inner now room octets phase piece
-    → HandedOver (on_handed took_phase took) taker (with_phase phase []) middle
-    → ReceivedPart took broke s.bits bits_now middle taker_now piece
+    (took broke : T → ItemValue → T → Type 0) (s : Stages) (now : InnerDecoding) (taker taker_now : T)
+    (octets : List ℕ) (phase : Option Chosen) (piece : List Bool) (tried : List ItemValue) → IsOf s
+    → Grows s.inner now octets phase piece
+    → HandedPart (on_handed took_phase took) (on_handed broke_phase broke) taker
+    (with_phase phase [] ++ map Item tried) taker_now
+    → AreFirstDue s.bits.batch.config (BitReceiverStandsFor s.bits) piece tried
     → HandsPrefix (on_handed took_phase took) (on_handed broke_phase broke) StagesFor
-    (AreReceivedFirst s.inner.config) s taker taker_now octets
-prefix-due took_phase broke_phase took broke s now bits_now taker middle taker_now room octets phase piece of roomy
-    grows first p =
-    let part = HandedPart-after (on_handed took_phase took) (on_handed broke_phase broke) taker middle taker_now
-    (with_phase phase []) (map Item p.tried) first
-    (HandedPart-items took_phase broke_phase took broke middle taker_now p.tried p.handed) in
+    (FirstWith s.inner.config now.chosen) s taker taker_now octets
+prefix-due took_phase broke_phase took broke s now taker taker_now octets phase piece tried of grows part first =
     record {
-      tried = with_phase phase [] ++ map Item p.tried;
+      tried = with_phase phase [] ++ map Item tried;
       handed = part;
-      first = stages-prefix s now room octets phase piece p.tried of roomy grows p.first
+      first = stages-prefix s now octets phase piece tried of grows first
           (part-some (on_handed took_phase took) (on_handed broke_phase broke) taker taker_now
-          (with_phase phase [] ++ map Item p.tried) part);
+          (with_phase phase [] ++ map Item tried) part);
     }
 
 -- ---- one piece after another
@@ -810,93 +737,212 @@ first-stays stays closed c octets more handed h =
       },
     )
 
--- the phase that is chosen with these octets too
-pub first-chosen : {T : Type 0} (took broke : T → Handed ItemValue → T → Type 0) (s : Stages) (now : InnerReceiving)
-    (taker taker_now : T) (room : ℕ) (octets : List ℕ)
-    (phase : Option Chosen) (piece : List Bool) → IsRoomy s (length octets) room → now.config ≡ s.inner.config
-    → Grows s.inner now room octets phase piece
-    → HandsPrefix took broke StagesFor (AreReceivedFirst s.inner.config) s taker taker_now octets
-    → HandsPrefix took broke StagesFor (FirstWith s.inner.config now.phased.chosen) s taker taker_now octets
-first-chosen took broke s now taker taker_now room octets phase piece roomy same grows p = record {
-  tried = p.tried;
-  handed = p.handed;
-  first = λ given done few stood.
-      let f = onward s now room octets phase piece roomy grows given done few stood in (
-        p.first given done few stood,
-        subst (λ (k : Configuration). IsChosenSoFar k (given ++ octets) now.phased.chosen) same
-            (stands-so-far now (given ++ octets) (stood.handed ++ f.more) f.stands),
-      );
-}
-
 pub first_with-stays : PhaseStays → StayClosed → (c : Configuration) (chosen : Option Chosen)
     → Stay (FirstWith c chosen)
 first_with-stays stays closed c chosen octets more handed h =
     (first-stays stays closed c octets more handed h.0, so_far-stays stays c octets more chosen h.0.0 h.1)
 
+-- ---- one run after another
+
+-- With the first octets what is due was handed over; then the first stage was given a piece more, of
+-- which it decoded nothing yet.
+pub record Holds {T : Type 0} (took : T → Handed ItemValue → T → Type 0) (start : Stages) (now : InnerDecoding)
+    (bits : BitReceiving) (taker taker_now : T) (octets : List ℕ) : Type 0 where
+  pub inner : InnerDecoding
+  pub config : inner.config ≡ start.inner.config
+  pub of : bits.batch.config ≡ inner.config
+  pub first : List ℕ
+  pub hands : StagesHand took start (record { inner = inner; bits = bits }) taker taker_now first
+  pub piece : List ℕ
+  pub fills : Fills inner now piece
+  pub all : first ++ piece ≡ octets
+
+abbrev IsCoded : Stages → Type 0
+IsCoded s = is_some s.inner.config.inner ≡ true
+
+coded-still : (s : Stages) (inner : InnerDecoding) → IsCoded s → inner.config ≡ s.inner.config
+    → is_some inner.config.inner ≡ true
+coded-still s inner coded same = ap (λ (k : Configuration). is_some k.inner) same ∙ coded
+
+-- what is due with it too is handed over
+pub holds-due : {T : Type 0} (took_phase : T → ℕ → ℕ → T → Type 0) (took : T → ItemValue → T → Type 0)
+    (start : Stages) (now : InnerDecoding) (bits : BitReceiving) (next : Stages) (taker middle taker_now : T)
+    (octets : List ℕ) → IsCoded start → Holds (on_handed took_phase took) start now bits taker middle octets
+    → Decoded took_phase took (record { inner = now; bits = bits }) next middle taker_now
+    → IsDrained next.inner.queue → StagesHand (on_handed took_phase took) start next taker taker_now octets
+holds-due took_phase took start now bits next taker middle taker_now octets coded h d drained =
+    let s : Stages = record { inner = h.inner; bits = bits } in
+    let grows = grows-coded h.inner now next.inner h.piece d.phase d.blocks (coded-still start h.inner coded h.config)
+    h.fills d.decodes in
+    subst (StagesHand (on_handed took_phase took) start next taker taker_now) h.all
+    (stages-more (on_handed took_phase took) start s next taker middle taker_now h.first h.piece h.hands
+    (hands-due took_phase took s next middle d.middle taker_now h.piece d.phase (bits_of_blocks d.blocks) h.of grows
+    drained d.phased d.received))
+
+-- the taker fails at a part of it
+pub holds-part : {T : Type 0} (took_phase broke_phase : T → ℕ → ℕ → T → Type 0)
+    (took broke : T → ItemValue → T → Type 0) (start : Stages) (now : InnerDecoding) (bits : BitReceiving)
+    (next : Stages) (taker middle taker_now : T) (octets rest : List ℕ) → PhaseStays → StayClosed → IsCoded start
+    → Holds (on_handed took_phase took) start now bits taker middle octets
+    → DecodedPart took_phase broke_phase took broke (record { inner = now; bits = bits }) next middle taker_now
+    → HandsPrefix (on_handed took_phase took) (on_handed broke_phase broke) StagesFor
+    (FirstWith start.inner.config next.inner.chosen) start taker taker_now (octets ++ rest)
+holds-part took_phase broke_phase took broke start now bits next taker middle taker_now octets rest stays closed coded
+    h d =
+    let takes = on_handed took_phase took in
+    let breaks = on_handed broke_phase broke in
+    let c = start.inner.config in
+    let First = FirstWith c next.inner.chosen in
+    let s : Stages = record { inner = h.inner; bits = bits } in
+    let grows = grows-coded h.inner now next.inner h.piece d.phase d.blocks (coded-still start h.inner coded h.config)
+    h.fills d.decodes in
+    let part = subst (λ (k : Configuration). HandsPrefix takes breaks StagesFor (FirstWith k next.inner.chosen) s middle
+    taker_now h.piece) h.config
+    (prefix-due took_phase broke_phase took broke s next.inner middle taker_now h.piece d.phase
+    (bits_of_blocks d.blocks) d.tried h.of grows d.handed d.first) in
+    subst (λ (l : List ℕ). HandsPrefix takes breaks StagesFor First start taker taker_now (l ++ rest)) h.all
+    (hands-longer takes breaks StagesFor First start taker taker_now (h.first ++ h.piece) rest
+    (first_with-stays stays closed c next.inner.chosen)
+    (hands-prefix takes breaks StagesFor First start s taker middle taker_now h.first h.piece
+    (stages-hand takes start s taker middle h.first h.hands) part))
+
+-- all of it waits
+pub holds-wait : {T : Type 0} (took : T → Handed ItemValue → T → Type 0) (start : Stages) (now : InnerDecoding)
+    (bits : BitReceiving) (taker taker_now : T) (octets : List ℕ) (spare : ℕ) → IsCoded start
+    → Holds took start now bits taker taker_now octets → AreSpare bits spare
+    → spare ≤ waiting_bits bits.batch.config bits.batch.config.batch → IsWaiting now spare
+    → StagesHand took start (record { inner = now; bits = bits }) taker taker_now octets
+holds-wait took start now bits taker taker_now octets spare coded h none most waits =
+    let s : Stages = record { inner = h.inner; bits = bits } in
+    subst (StagesHand took start (record { inner = now; bits = bits }) taker taker_now) h.all
+    (stages-more took start s (record { inner = now; bits = bits }) taker taker_now taker_now h.first h.piece h.hands
+    (hands-wait took s now taker_now h.piece spare h.of none most
+    (record { fills = h.fills; coded = coded-still start h.inner coded h.config; waits = waits })))
+
 -- ---- both stages end
 
--- the phase that is chosen at the end
-pub chosen-at_end : (r now : OctetReceiving) (chosen : Option Chosen) → r ≡ now → r.stages.inner.config ≡ r.config
-    → ((given : List ℕ) (done : List (Handed WindowBlock)) → InnerReceiverStandsFor r.stages.inner given done
-    → IsChosen r.stages.inner.config given chosen)
-    → (given : List ℕ) (done : List (Handed ItemValue)) → ReceiverStandsFor now given done → now.has_stopped ≡ false
-    → IsChosen now.config given chosen
-chosen-at_end r now chosen view same is =
-    subst (λ (n : OctetReceiving). (given : List ℕ) (done : List (Handed ItemValue)) → ReceiverStandsFor n given done
-    → n.has_stopped ≡ false → IsChosen n.config given chosen) view
-    (λ given done stood _. subst (λ (k : Configuration). IsChosen k given chosen) same
-    (is given stood.handed stood.inner))
+-- all blocks after those that were searched: the phase comes before them, where it was chosen since
+pub record EndsWith (c : Configuration) (given : List ℕ) (handed : List (Handed WindowBlock))
+    (phase : Option Chosen) (blocks : List WindowBlock) (totals : Totals) : Type 0 where
+  pub left : ℕ
+  pub are_handed : AreHanded c given (handed ++ (with_phase phase [] ++ map Item blocks)) left
+  pub counted : totals ≡ totals_of c
+      (inner_bits c given (items_of (handed ++ (with_phase phase [] ++ map Item blocks))))
+      (items_of (handed ++ (with_phase phase [] ++ map Item blocks)))
 
--- stages of one configuration end, and what the first one gives then finds room
-pub record EndsIn (s : Stages) (room : ℕ) (phase : Option Chosen) (piece : List Bool) (totals : Totals) : Type 0 where
-  pub of : IsOf s
-  pub roomy : IsRoomy s 0 room
-  pub ends : Ends s.inner room phase piece totals
+abbrev pub EndsIn : Stages → Option Chosen → List WindowBlock → Totals → Type 0
+EndsIn s phase blocks totals =
+    (given : List ℕ) (done : List (Handed ItemValue)) (stood : StagesFor s given done)
+    → EndsWith s.inner.config given stood.handed phase blocks totals
+
+-- what was read, once the octets have ended
+record AtEnd (s : Stages) (now : InnerDecoding) (given : List ℕ) (handed : List (Handed WindowBlock)) : Type 0 where
+  read : HasRead now given handed
+  choice : IsChosen s.inner.config given now.chosen
+  are : handed ≡ with_phase now.chosen read.blocks
+  first : AreInnerFirst s.inner.config (skip_of now.chosen) given read.blocks
+
+at-end : (s : Stages) (settled now : InnerDecoding) (more : List (Handed WindowBlock)) → Settles s.inner settled
+    → Decodes settled now more → (given : List ℕ) (done : List (Handed ItemValue)) → (stood : StagesFor s given done)
+    → AtEnd s now given (stood.handed ++ more)
+at-end s settled now more settles decodes given done stood =
+    let there = decodes.on given stood.handed (read-moved s.inner settled given given stood.handed settles.on
+    stood.inner (settles.stands given stood.inner.blocks stood.inner.stands)) in
+    let same = decodes.config ∙ settles.on.config in
+    record {
+      read = there.0;
+      choice =
+          subst (λ (k : Configuration). IsChosen k given now.chosen) same
+          (chosen-ended now given there.0.blocks there.0.stands (decodes.ended ∙ settles.ended));
+      are = read-all now given (stood.handed ++ more) there.0 there.1;
+      first =
+          subst (λ (k : Configuration). AreInnerFirst k (skip_of now.chosen) given there.0.blocks) same
+          (stands-first now given there.0.blocks there.0.stands);
+    }
+
+pub chosen-at_end : (s : Stages) (settled now : InnerDecoding) (more : List (Handed WindowBlock))
+    → Settles s.inner settled → Decodes settled now more
+    → (given : List ℕ) (done : List (Handed ItemValue)) → StagesFor s given done
+    → IsChosen s.inner.config given now.chosen
+chosen-at_end s settled now more settles decodes given done stood =
+    (at-end s settled now more settles decodes given done stood).choice
+
+pub ends-in : (s : Stages) (settled now : InnerDecoding) (phase : Option Chosen) (blocks ready : List WindowBlock)
+    (left : ℕ) (totals : Totals) → Settles s.inner settled
+    → Decodes settled now (with_phase phase [] ++ map Item blocks) → Ending now ready left totals.bits totals.slips
+    → EndsIn s phase (blocks ++ ready) totals
+ends-in s settled now phase blocks ready left totals settles decodes ending given done stood =
+    let c = s.inner.config in
+    let same = decodes.config ∙ settles.on.config in
+    let more = with_phase phase [] ++ map Item blocks in
+    let last = with_phase phase [] ++ map Item (blocks ++ ready) in
+    let e = at-end s settled now more settles decodes given done stood in
+    let all = e.read.blocks ++ ready in
+    let whole = subst (λ (k : Configuration). IsChosen k given now.chosen
+    → AreInnerBlocks k (skip_of now.chosen) given all left × (totals.bits ≡ length (inner_bits k given all))
+    × (totals.slips ≡ reported_slips k all)) same (ending given e.read.blocks e.read.stands) e.choice in
+    let are : stood.handed ++ last ≡ with_phase now.chosen all =
+    ap (λ l. stood.handed ++ l) (ap (λ l. with_phase phase [] ++ l) (map-append Item blocks ready)
+    ∙ sym (append_assoc (with_phase phase []) (map Item blocks) (map Item ready)))
+    ∙ sym (append_assoc stood.handed more (map Item ready))
+    ∙ further now.chosen (stood.handed ++ more) e.read.blocks ready e.are in
+    let items : all ≡ items_of (stood.handed ++ last) = sym (phased-items now.chosen all (stood.handed ++ last) are) in
+    record {
+      left = left;
+      are_handed = record { chosen = now.chosen; choice = e.choice; items = all; are_items = whole.0; are = are };
+      counted =
+          subst (λ (l : List WindowBlock). totals ≡ totals_of c (inner_bits c given l) l) items
+          (λ i. record { bits = whole.1 i; slips = whole.2 i });
+    }
 
 -- the phase and the bits of the end of the octets
 pub record Ended (s : Stages) (given : List ℕ) (done : List (Handed ItemValue)) (stood : StagesFor s given done)
-    (phase : Option Chosen) (piece : List Bool) (totals : Totals) : Type 0 where
+    (phase : Option Chosen) (blocks : List WindowBlock) (totals : Totals) : Type 0 where
   pub chosen : Option Chosen
   pub choice : IsChosen s.inner.config given chosen
   pub bits : List Bool
   pub inner : Inner s.inner.config (skip_of chosen) given bits
-  pub is : bits ≡ inner_bits s.inner.config given (items_of stood.handed) ++ piece
-  pub few : length (inner_bits s.inner.config given (items_of stood.handed) ++ piece) < 2 ^ 63
+  pub is : bits ≡ inner_bits s.inner.config given (items_of stood.handed) ++ bits_of_blocks blocks
+  pub few : length (inner_bits s.inner.config given (items_of stood.handed) ++ bits_of_blocks blocks) < 2 ^ 63
   pub counted : totals ≡ totals_of s.inner.config bits inner.blocks
   pub are : (others : List ItemValue) → done ++ (with_phase phase [] ++ map Item others)
       ≡ with_phase chosen (stood.items ++ others)
 
-pub ended : (s : Stages) (given : List ℕ) (done : List (Handed ItemValue)) (stood : StagesFor s given done) (room : ℕ)
-    (phase : Option Chosen) (piece : List Bool) (totals : Totals) → EndsIn s room phase piece totals
-    → Ended s given done stood phase piece totals
-ended s given done stood room phase piece totals at_end =
+pub ended : (s : Stages) (given : List ℕ) (done : List (Handed ItemValue)) (stood : StagesFor s given done)
+    (phase : Option Chosen) (blocks : List WindowBlock) (totals : Totals) → EndsIn s phase blocks totals
+    → Ended s given done stood phase blocks totals
+ended s given done stood phase blocks totals ends_in =
     let c = s.inner.config in
-    let roomy = at_end.roomy in
-    let e = at_end.ends given stood.handed stood.waiting (omega (arith, stood.few, roomy)) stood.inner stood.are_due in
+    let e = ends_in given done stood in
     let h = e.are_handed in
-    let handed = stood.handed ++ e.last in
-    let blocks = phased-items h.chosen h.items handed h.are in
+    let last = with_phase phase [] ++ map Item blocks in
+    let handed = stood.handed ++ last in
+    let items = phased-items h.chosen h.items handed h.are in
     let chosen : phase_of handed ≡ h.chosen = ap phase_of h.are ∙ phase_of-with_phase h.chosen h.items in
     let here = subst (λ (l : List WindowBlock). AreInnerBlocks c (skip_of h.chosen) given l e.left)
-    (sym blocks) h.are_items in
+    (sym items) h.are_items in
+    let is = bits-last c given stood.handed last e.left h
+    ∙ ap (λ (l : List WindowBlock). inner_bits c given (items_of stood.handed) ++ bits_of_blocks l)
+    (blocks-after phase blocks) in
     record {
       chosen = h.chosen;
       choice = h.choice;
       bits = inner_bits c given (items_of handed);
       inner = record { blocks = items_of handed; left = e.left; are_blocks = here; are_bits = refl };
-      is = e.bits;
+      is = is;
       few =
           omega (
             arith,
-            ap length e.bits,
+            ap length is,
             whole-few c (skip_of h.chosen) given (items_of handed) e.left here,
-            stood.inner.few,
+            stood.inner.stands.few,
           );
       counted = e.counted;
       are =
-          λ others. phased-more c given stood.handed stood.waiting e.last done stood.items others phase stood.are_due
+          λ others. phased-more c given stood.handed stood.waiting last done stood.items others phase stood.are_due
           stood.are_items stood.are
-          (once-last c given stood.handed stood.waiting e.last e.left stood.are_due h) e.is_phase
+          (once-last (λ phase blocks. AreInnerBlocks c phase given blocks e.left) c given stood.handed stood.waiting
+          last stood.are_due h) (phase-after phase blocks)
           ∙ ap (λ (o : Option Chosen). with_phase o (stood.items ++ others)) chosen;
     }
 
@@ -922,37 +968,51 @@ items-ended took s bits_now taker middle now piece of p q given done stood few =
     subst (AreItems c (bits ++ piece)) (append_assoc stood.items p.items q.items) items
 
 pub ends : {T : Type 0} (took : T → ItemValue → T → Type 0) (s : Stages) (bits_now : BitReceiving)
-    (taker middle now : T) (room : ℕ) (phase : Option Chosen) (piece : List Bool) (totals : Totals)
-    → EndsIn s room phase piece totals
-    → (p : Received took s.bits bits_now taker middle piece) (q : ReceivedLast took bits_now middle now)
+    (taker middle now : T) (phase : Option Chosen) (blocks : List WindowBlock) (totals : Totals) → IsOf s
+    → EndsIn s phase blocks totals
+    → (p : Received took s.bits bits_now taker middle (bits_of_blocks blocks))
+    (q : ReceivedLast took bits_now middle now)
     → (given : List ℕ) (done : List (Handed ItemValue)) → StagesFor s given done
     → AreReceived s.inner.config given (done ++ (with_phase phase [] ++ map Item (p.items ++ q.items))) totals
-ends took s bits_now taker middle now room phase piece totals at_end p q given done stood =
+    × (IsAccepted s.inner.config
+    → AreFew s.inner.config 0 (items_of (with_phase phase [] ++ map Item (p.items ++ q.items))))
+ends took s bits_now taker middle now phase blocks totals of ends_in p q given done stood =
     let c = s.inner.config in
-    let e = ended s given done stood room phase piece totals at_end in
-    record {
-      chosen = e.chosen;
-      choice = e.choice;
-      items = stood.items ++ (p.items ++ q.items);
-      are_items = (
-        e.bits,
-        e.inner,
-        e.counted,
-        subst (λ (l : List Bool). AreItems c l (stood.items ++ (p.items ++ q.items))) (sym e.is)
-            (items-ended took s bits_now taker middle now piece at_end.of p q given done stood e.few),
-      );
-      are = e.are (p.items ++ q.items);
-    }
+    let e = ended s given done stood phase blocks totals ends_in in
+    let others = p.items ++ q.items in
+    let all = items-ended took s bits_now taker middle now (bits_of_blocks blocks) of p q given done stood e.few in
+    let last = with_phase phase [] ++ map Item blocks in
+    let at = ends_in given done stood in
+    let is = bits-last c given stood.handed last at.left at.are_handed
+    ∙ ap (λ (l : List WindowBlock). inner_bits c given (items_of stood.handed) ++ bits_of_blocks l)
+    (blocks-after phase blocks) in (
+      record {
+        chosen = e.chosen;
+        choice = e.choice;
+        items = stood.items ++ others;
+        are_items = (
+          e.bits,
+          e.inner,
+          e.counted,
+          subst (λ (l : List Bool). AreItems c l (stood.items ++ others)) (sym e.is) all,
+        );
+        are = e.are others;
+      },
+      λ ok. subst (AreFew c 0) (sym (phased-items phase others (with_phase phase [] ++ map Item others)
+          (sym (with_phase-split phase others))))
+          (ends-few s given done last at.left others ok stood at.are_handed
+          (subst (λ (l : List Bool). AreItems c l (stood.items ++ others)) (sym is) all)),
+    )
 
 -- a prefix of all, where these are first items of the bits
-ends-first : (s : Stages) (phase : Option Chosen) (piece : List Bool) (totals : Totals) (given : List ℕ)
+ends-first : (s : Stages) (phase : Option Chosen) (blocks : List WindowBlock) (totals : Totals) (given : List ℕ)
     (done : List (Handed ItemValue)) (stood : StagesFor s given done)
-    → Ended s given done stood phase piece totals → (tried : List ItemValue)
-    → AreFirstItemsOf s.inner.config (inner_bits s.inner.config given (items_of stood.handed) ++ piece)
-    (places_in s.inner.config (inner_bits s.inner.config given (items_of stood.handed) ++ piece))
+    → Ended s given done stood phase blocks totals → (tried : List ItemValue)
+    → AreFirstItemsOf s.inner.config (inner_bits s.inner.config given (items_of stood.handed) ++ bits_of_blocks blocks)
+    (places_in s.inner.config (inner_bits s.inner.config given (items_of stood.handed) ++ bits_of_blocks blocks))
     (stood.items ++ tried)
     → AreReceivedPrefix s.inner.config given (done ++ (with_phase phase [] ++ map Item tried))
-ends-first s phase piece totals given done stood e tried first =
+ends-first s phase blocks totals given done stood e tried first =
     let c = s.inner.config in
     record {
       chosen = e.chosen;
@@ -968,75 +1028,130 @@ ends-first s phase piece totals given done stood e tried first =
       are = e.are tried;
     }
 
--- the taker failed at the phase
-pub ends-phase : (s : Stages) (room : ℕ) (phase : Option Chosen) (piece : List Bool) (totals : Totals)
-    → EndsIn s room phase piece totals
-    → (given : List ℕ) (done : List (Handed ItemValue)) → StagesFor s given done
-    → AreReceivedPrefix s.inner.config given (done ++ with_phase phase [])
-ends-phase s room phase piece totals at_end given done stood =
-    let c = s.inner.config in
-    let e = ended s given done stood room phase piece totals at_end in
-    let bits = inner_bits c given (items_of stood.handed) in
-    subst (λ (l : List (Handed ItemValue)). AreReceivedPrefix c given (done ++ l)) (append-nil (with_phase phase []))
-    (ends-first s phase piece totals given done stood e [] (first-of-more c bits piece stood.items [] stood.are_items
-    tt))
-
--- it failed at one of the items that are due with the last bits
+-- the taker failed at one of the items that are due with the bits of all blocks
 pub ends-part : {T : Type 0} (took broke : T → ItemValue → T → Type 0) (s : Stages) (bits_now : BitReceiving)
-    (taker now : T) (room : ℕ) (phase : Option Chosen) (piece : List Bool) (totals : Totals)
-    → EndsIn s room phase piece totals
-    → (p : ReceivedPart took broke s.bits bits_now taker now piece)
+    (taker now : T) (phase : Option Chosen) (blocks : List WindowBlock) (totals : Totals) → IsOf s
+    → EndsIn s phase blocks totals
+    → (p : ReceivedPart took broke s.bits bits_now taker now (bits_of_blocks blocks))
     → (given : List ℕ) (done : List (Handed ItemValue)) → StagesFor s given done
     → AreReceivedPrefix s.inner.config given (done ++ (with_phase phase [] ++ map Item p.tried))
-ends-part took broke s bits_now taker now room phase piece totals at_end p given done stood =
+ends-part took broke s bits_now taker now phase blocks totals of ends_in p given done stood =
     let c = s.inner.config in
-    let e = ended s given done stood room phase piece totals at_end in
+    let e = ended s given done stood phase blocks totals ends_in in
     let bits = inner_bits c given (items_of stood.handed) in
-    let more = subst (λ (k : Configuration). AreFirstFurther k bits piece p.tried) at_end.of
+    let piece = bits_of_blocks blocks in
+    let more = subst (λ (k : Configuration). AreFirstFurther k bits piece p.tried) of
     (p.first bits e.few stood.bits) in
-    ends-first s phase piece totals given done stood e p.tried
+    ends-first s phase blocks totals given done stood e p.tried
     (first-of-more c bits piece stood.items p.tried stood.are_items more)
 
 -- it failed at one of the last items
 pub ends-prefix : {T : Type 0} (took broke : T → ItemValue → T → Type 0) (s : Stages) (bits_now : BitReceiving)
-    (taker middle now : T) (room : ℕ) (phase : Option Chosen) (piece : List Bool) (totals : Totals)
-    → EndsIn s room phase piece totals
-    → (p : Received took s.bits bits_now taker middle piece) (q : ReceivedLastPart took broke bits_now middle now)
+    (taker middle now : T) (phase : Option Chosen) (blocks : List WindowBlock) (totals : Totals) → IsOf s
+    → EndsIn s phase blocks totals
+    → (p : Received took s.bits bits_now taker middle (bits_of_blocks blocks))
+    (q : ReceivedLastPart took broke bits_now middle now)
     → (given : List ℕ) (done : List (Handed ItemValue)) → StagesFor s given done
     → AreReceivedPrefix s.inner.config given (done ++ (with_phase phase [] ++ map Item (p.items ++ q.tried)))
-ends-prefix took broke s bits_now taker middle now room phase piece totals at_end p q given done stood =
+ends-prefix took broke s bits_now taker middle now phase blocks totals of ends_in p q given done stood =
     let c = s.inner.config in
-    let e = ended s given done stood room phase piece totals at_end in
+    let e = ended s given done stood phase blocks totals ends_in in
     let bits = inner_bits c given (items_of stood.handed) in
-    let more = subst (λ (k : Configuration). AreFurther k bits piece p.items) at_end.of (p.due bits e.few stood.bits) in
+    let piece = bits_of_blocks blocks in
+    let more = subst (λ (k : Configuration). AreFurther k bits piece p.items) of (p.due bits e.few stood.bits) in
     let due_items = due-further c bits piece stood.items p.items stood.are_items more in
     let last = subst (λ (k : Configuration). AreFirstItemsOf k (bits ++ piece)
     (beyond (due k (bits ++ piece)) (places_in k (bits ++ piece))) q.tried)
-    (p.config ∙ at_end.of) (q.first (bits ++ piece) (p.stands bits e.few stood.bits)) in
+    (p.config ∙ of) (q.first (bits ++ piece) (p.stands bits e.few stood.bits)) in
     let items = some-items c (bits ++ piece) (stood.items ++ p.items) q.tried
     (subst (λ (fs : List Found). AreItemsOf c (bits ++ piece) fs (stood.items ++ p.items))
     (sym (beyond-nil c (due c (bits ++ piece)))) due_items) last in
-    ends-first s phase piece totals given done stood e (p.items ++ q.tried)
+    ends-first s phase blocks totals given done stood e (p.items ++ q.tried)
     (subst (AreFirstItemsOf c (bits ++ piece) (places_in c (bits ++ piece)))
     (append_assoc stood.items p.items q.tried) items)
 
--- ---- new stages
+-- ---- the taker fails before the last block
 
-pub stands-fresh : (s : Stages) → 1 ≤ s.inner.config.keep → InnerReceiverStandsFor s.inner [] []
-    → BitReceiverStandsFor s.bits [] → StagesFor s [] []
-stands-fresh s some inner bits =
+-- octets come to bits
+abbrev pub HasBits : Type 0
+HasBits = (c : Configuration) (phase : ℕ) (octets : List ℕ) → IsAccepted c → (bits : List Bool)
+    × Inner c phase octets bits
+
+-- the bits of first blocks stand first
+whole-first : StandFirst → (rate : Option Rate) (c : Configuration) (phase : ℕ) (octets : List ℕ)
+    (first blocks : List WindowBlock) (left : ℕ) → FirstAt rate c phase octets first
+    → BlocksAt rate c phase octets blocks left
+    → (rest : List Bool) × (bits_at rate c octets blocks ≡ bits_at rate c octets first ++ rest)
+whole-first stand None c phase octets first blocks left is all =
+    ([], sym (append-nil (drop c.skip (plain_bits c octets))))
+whole-first stand (Some rate) c phase octets first blocks left is all =
+    let split = stand (windows_of c rate) (soft_octets c phase octets) first blocks left is all in
+    (all_bits split.0, ap (λ (l : List WindowBlock). all_bits l) split.1 ∙ all_bits-append first split.0)
+
+more-at : (rate : Option Rate) (c : Configuration) (given : List ℕ) (blocks more : List WindowBlock)
+    → (is_some rate ≡ false → more ≡ [])
+    → bits_at rate c given (blocks ++ more) ≡ bits_at rate c given blocks ++ bits_of_blocks more
+more-at None c given blocks more none =
+    sym (append-nil (drop c.skip (plain_bits c given)))
+    ∙ ap (λ (l : List WindowBlock). drop c.skip (plain_bits c given) ++ bits_of_blocks l) (sym (none refl))
+more-at (Some rate) c given blocks more none = all_bits-append blocks more
+
+pub ends-early : (s : Stages) (settled now : InnerDecoding) (phase : Option Chosen) (blocks : List WindowBlock)
+    (tried : List ItemValue) → HasBits → StandFirst → IsAccepted s.inner.config → IsOf s → Settles s.inner settled
+    → Decodes settled now (with_phase phase [] ++ map Item blocks)
+    → AreFirstDue s.bits.batch.config (BitReceiverStandsFor s.bits) (bits_of_blocks blocks) tried
+    → (given : List ℕ) (done : List (Handed ItemValue)) → StagesFor s given done
+    → AreReceivedPrefix s.inner.config given (done ++ (with_phase phase [] ++ map Item tried))
+ends-early s settled now phase blocks tried has stand ok of settles decodes first given done stood =
     let c = s.inner.config in
-    let none : inner_bits c [] [] ≡ [] = bits-nil c.inner c in
+    let more = with_phase phase [] ++ map Item blocks in
+    let handed = stood.handed ++ more in
+    let e = at-end s settled now more settles decodes given done stood in
+    let skip = skip_of now.chosen in
+    let items : items_of handed ≡ e.read.blocks = phased-items now.chosen e.read.blocks handed e.are in
+    let split : items_of handed ≡ items_of stood.handed ++ blocks = items_of-append stood.handed more
+    ∙ ap (λ (l : List WindowBlock). items_of stood.handed ++ l) (blocks-after phase blocks) in
+    let none : is_some c.inner ≡ false → blocks ≡ [] = λ plain.
+    let none_now = plain-none now given e.read.blocks
+    (ap (λ (k : Configuration). is_some k.inner) (decodes.config ∙ settles.on.config) ∙ plain) e.read.stands in
+    (prefix-nil (items_of stood.handed) blocks (sym split ∙ items ∙ none_now)).1 in
+    let bits = inner_bits c given (items_of stood.handed) in
+    let piece = bits_of_blocks blocks in
+    let is : inner_bits c given e.read.blocks ≡ bits ++ piece = ap (inner_bits c given) (sym items ∙ split)
+    ∙ more-at c.inner c given (items_of stood.handed) blocks none in
+    let few : length (bits ++ piece) < 2 ^ 63 =
+    omega (arith, ap length is, first-few c skip given e.read.blocks e.first, stood.inner.stands.few) in
+    let further_first = subst (λ (k : Configuration). AreFirstFurther k bits piece tried) of
+    (first bits few stood.bits) in
+    let whole = has c skip given ok in
+    let after = whole-first stand c.inner c skip given e.read.blocks whole.1.blocks whole.1.left e.first
+    whole.1.are_blocks in
+    let all : (bits ++ piece) ++ after.0 ≡ whole.0 =
+    sym (whole.1.are_bits ∙ after.1 ∙ ap (λ l. l ++ after.0) is) in
+    let phased : WithPhase (λ phase blocks. AreInnerFirst c phase given blocks) c given handed = record {
+      chosen = now.chosen;
+      choice = e.choice;
+      items = e.read.blocks;
+      are_items = e.first;
+      are = e.are;
+    } in
+    let chosen : phase_of handed ≡ now.chosen = ap phase_of e.are ∙ phase_of-with_phase now.chosen e.read.blocks in
     record {
-      handed = [];
-      inner = inner;
-      waiting = [];
-      are_due = handed-due-none c some;
-      few = omega arith;
-      none_due = refl;
-      bits = subst (BitReceiverStandsFor s.bits) (sym none) bits;
-      items = [];
-      are_items = subst (λ (l : List Bool). AreItemsOf c l (due c l) []) (sym none)
-          (subst (λ (fs : List Found). AreItemsOf c [] fs []) (sym (due-nil c)) tt);
-      are = refl;
+      chosen = now.chosen;
+      choice = e.choice;
+      items = stood.items ++ tried;
+      are_items = record {
+        bits = whole.0;
+        inner = whole.1;
+        are_items =
+            subst (λ (l : List Bool). AreFirstItemsOf c l (places_in c l) (stood.items ++ tried)) all
+            (first-beyond c (bits ++ piece) after.0 (stood.items ++ tried)
+            (first-of-more c bits piece stood.items tried stood.are_items further_first));
+      };
+      are =
+          phased-more c given stood.handed stood.waiting more done stood.items tried phase stood.are_due
+          stood.are_items stood.are
+          (once-last (λ phase blocks. AreInnerFirst c phase given blocks) c given stood.handed stood.waiting more
+          stood.are_due phased) (phase-after phase blocks)
+          ∙ ap (λ (o : Option Chosen). with_phase o (stood.items ++ tried)) chosen;
     }

@@ -6,7 +6,7 @@ use Rattle.tm_config.specs.Configuration.{Configuration, codeblock_length, corre
 use Rattle.tm_sync.specs.declared.found.Columns.{Columns}
 use Rattle.tm_sync.specs.declared.found.Found.{Found}
 use Rattle.tm_sync.specs.Rescan.{Last, Soundness}
-use Rattle.tm_sync.specs.Places.{Rules, settled_by}
+use Rattle.tm_sync.specs.Places.{settled_by}
 use Rattle.tm_sync.specs.Finding.{Ends, Finding, IsWhole, Passes, Recent, Tells, places_left}
 use Rattle.tm_sync.proofs.Steps.{settled-room}
 use Rattle.tm_codeblock.specs.ReceivedCodeblock.{rules_of, codeblock_in, columns_of, is_sound, places_in, sound_in}
@@ -67,19 +67,6 @@ agree-more s room room' b piece size more a = record {
         → IfSome last (λ l. l.end ≤ s.passed + length room'.bits)
     longer None whole = tt
     longer (Some last) whole = omega (arith, whole, ap length more, length-append room.bits piece)
-
--- the search has passed some bits
-pub agree-passed : (s s' : Finding) (room room' : Recent) (b b' : Batching) → Agree s room b → s'.rules ≡ s.rules
-    → s'.columns ≡ s.columns → room'.size ≡ room.size → IsWhole s' room'.bits → b'.config ≡ b.config → AreWritten b'
-    → Agree s' room' b'
-agree-passed s s' room room' b b' a rules columns size whole config written = record {
-  rules = rules ∙ a.rules ∙ ap rules_of (sym config);
-  columns = columns ∙ a.columns ∙ ap columns_of (sym config);
-  whole = whole;
-  sized = subst (λ (r : Rules). settled_by r.verify r.block_bits + 14 ≤ 8 * room'.size) (sym rules)
-      (omega (arith, a.sized, size));
-  written = written;
-}
 
 -- the same with another configuration
 pub holds-config : (c k : Configuration) (s : Finding) (recent : List Bool) (stored : List StoredCodeblock)
@@ -247,8 +234,3 @@ drop-last stored now k is =
     let count : length (stored ++ k ∷ []) - 1 ≡ length stored = omega (arith, length-append stored (k ∷ [])) in
     ap (λ l. take (length l - 1) l) is ∙ ap (λ n. take n (stored ++ k ∷ [])) count
     ∙ take-append-le (length stored) stored (k ∷ []) (omega arith) ∙ take-length stored
-
--- one more is stored
-pub one-more : (stored now : List StoredCodeblock) (k : StoredCodeblock) → now ≡ stored ++ k ∷ []
-    → length now ≡ length stored + 1
-one-more stored now k is = omega (arith, ap length is, length-append stored (k ∷ []))

@@ -30,8 +30,11 @@ pub mod AllBits
 pub mod ReceivedPieces
 pub mod Spare
 pub mod PhasedItems
+pub mod FurtherBits
+pub mod FirstStage
 pub mod GivenOctets
 mod FewItems
 pub mod ColumnsRead
 pub mod Repaired
 pub mod SoundItems
+mod PlainOctets

@@ -1,5 +1,5 @@
 -- What the calls of a receiver, and of its second stage, promise.
-use Rattle.std.specs.Prelude.{◌≡◌, ◌↔◌, ℕ, Bool, true, false, List, Result, IfOk, OnErr, OnOk, IsErrOf, IsTrue}
+use Rattle.std.specs.Prelude.{◌≡◌, ◌↔◌, ℕ, Bool, true, List, Result, IfOk, OnErr, OnOk, IsErrOf, IsTrue}
 use Rattle.tm_base.specs.Calls.{CallAnswers}
 use Rattle.tm_base.specs.Handed.{Handed}
 use Rattle.tm_base.specs.Outside.{HasCause}
@@ -24,18 +24,15 @@ pub record TakesBits {T R E : Type 0} (took broke : T → ItemValue → T → Ty
 
 -- ---- of both stages
 
--- with these octets what is due was handed over, or the first of it until the taker failed; the
--- first stage has not stopped, and the room for bits is as it was
+-- with these octets what is due was handed over, or the first of it until the taker failed
 pub record TakesOctets {T R E : Type 0} (took broke : T → Handed ItemValue → T → Type 0)
-    (faults : T → ℕ) (is_last : T → Type 0) (before now : Stages) (size size_now : ℕ)
-    (taker taker_now : T) (octets : List ℕ) (result : Result R E) : Type 0 where
+    (faults : T → ℕ) (is_last : T → Type 0) (before now : Stages) (taker taker_now : T)
+    (octets : List ℕ) (result : Result R E) : Type 0 where
   pub inner : now.inner.config ≡ before.inner.config
-  pub fresh : now.inner.has_stopped ≡ false
-  pub room : size_now ≡ size
   pub stream : now.bits.batch.config ≡ before.bits.batch.config
   pub handed : OnOk result (StagesHand took before now taker taker_now octets)
   pub prefix : OnErr result (HandsPrefix took broke StagesFor
-      (FirstWith before.inner.config now.inner.phased.chosen) before taker taker_now octets)
+      (FirstWith before.inner.config now.inner.chosen) before taker taker_now octets)
   pub cause : HasCause (faults taker) (faults taker_now) (is_last taker_now) result
 
 -- ---- of the receiver

@@ -13,5 +13,5 @@ pub mod ColumnWords
 pub mod Storing
 pub mod Sending
 pub mod Steps
-pub mod Workers
 pub mod Calls
+pub mod Crew

@@ -1,7 +1,7 @@
 -- What a receiver keeps, and for which octets, given so far, and which items, handed over so far,
 -- it stands.
-use Rattle.std.specs.Prelude.{◌≡◌, false, ◌==◌, ◌+◌, ◌-◌, ◌<◌, ◌≤◌, ℕ, Bool, List, ◌++◌, length, take, drop, map, Option, Some, None}
-use Rattle.tm_base.specs.Handed.{Handed, Item, items_of}
+use Rattle.std.specs.Prelude.{◌≡◌, false, ◌==◌, ◌+◌, ◌-◌, ◌<◌, ◌≤◌, ◌⊎◌, ℕ, Bool, List, [], ◌++◌, length, take, map, Option, Some, None}
+use Rattle.tm_base.specs.Handed.{Handed, Item, items_of, on_handed}
 use Rattle.tm_base.specs.Takers.{HandedOver, HandedPart}
 use Rattle.tm_config.specs.Configuration.{Configuration}
 use Rattle.tm_sync.specs.Finding.{Finding, Recent}
@@ -9,17 +9,17 @@ use Rattle.tm_sync.specs.Bits.{bits_bound}
 use Rattle.tm_viterbi.specs.WindowBlock.{WindowBlock}
 use Rattle.tm_viterbi.specs.Clean.{kept_bits}
 use Rattle.tm_viterbi.specs.WindowSizes.{stream_bound}
-use Rattle.tm_windows.specs.Followed.{slips_of}
-use Rattle.tm_conv.specs.declared.rates.Rate.{Rate}
+use Rattle.tm_windows.specs.Windows.{slips_of}
 use Rattle.tm_windows.specs.declared.choosing.Chosen.{Chosen}
-use Rattle.tm_inner.specs.Inner.{inner_bits, plain_bits, plain_count}
-use Rattle.tm_inner.specs.Phase.{IsChosen, IsChosenSoFar, held_bits, with_phase}
-use Rattle.tm_inner.specs.Handing.{AreHanded, AreHandedDue}
-use Rattle.tm_inner.specs.Receiving.{InnerReceiving, InnerReceiverStandsFor}
+use Rattle.tm_inner.specs.Inner.{inner_bits}
+use Rattle.tm_inner.specs.Phase.{IsChosen, IsChosenSoFar, with_phase}
+use Rattle.tm_inner.specs.Handing.{AreHandedDue}
+use Rattle.tm_inner.specs.InnerDecoding.{HasFilled, HoldsMore as ClosesMore, InnerDecoderStandsFor, InnerDecoding, unread}
+use Rattle.tm_inner.specs.Receiving.{HasRead}
 use Rattle.tm_channel.specs.Items.{ItemValue, AreItemsOf}
 use Rattle.tm_channel.specs.Due.{due, due_count}
 use Rattle.tm_channel.specs.declared.totals.Totals.{Totals}
-use Rattle.tm_channel.specs.Handing.{phase_of, totals_of, AreReceived, AreReceivedDue, AreReceivedFirst, AreReceivedPrefix}
+use Rattle.tm_channel.specs.Handing.{phase_of, AreReceived, AreReceivedDue, AreReceivedFirst, AreReceivedPrefix}
 use Rattle.tm_channel.specs.Most.{AreFew}
 use Rattle.tm_channel.specs.Receiving.{Batching, Stands, HoldsMore, waiting_bits, GoesOn, AreDue, AreFirstDue, AreFurther, AreFirstFurther, AreLast, AreFirstLast}
 
@@ -37,16 +37,19 @@ BitReceiverStandsFor r = Stands r.finder r.recent r.batch
 -- what contracts see of both stages of a receiver: the inner code, and the search for codeblocks in
 -- its bits
 pub record Stages : Type 0 where
-  pub inner : InnerReceiving
+  pub inner : InnerDecoding
   pub bits : BitReceiving
 
--- Stages that were given these octets and no others, fewer than 2^60, and have handed over this: of
--- the blocks that are due some may wait in the first stage, whose bits make no item due; the bits
--- of the others were searched, and the phase, where it is chosen, and the items that are due went
--- to the taker.
+-- Stages that were given these octets and no others, fewer than 2^60, before the end of the octets,
+-- and have handed over this: of the blocks that are due some may wait in the first stage, whose
+-- bits make no item due; the bits of the others were searched, and the phase, where it is chosen,
+-- and the items that are due went to the taker.
 pub record StagesFor (s : Stages) (given : List ℕ) (done : List (Handed ItemValue)) : Type 0 where
+  pub going : s.inner.has_ended ≡ false
+  pub all : unread s.inner ≡ None
   pub handed : List (Handed WindowBlock)
-  pub inner : InnerReceiverStandsFor s.inner given handed
+  pub inner : HasRead s.inner given handed
+  pub so_far : IsChosenSoFar s.inner.config given s.inner.chosen
   pub waiting : List WindowBlock
   pub are_due : AreHandedDue s.inner.config given (handed ++ map Item waiting)
   pub few : length (kept_bits waiting) ≤ waiting_bits s.inner.config s.inner.config.batch
@@ -86,6 +89,8 @@ pub record OctetReceiving : Type 0 where
   -- an earlier call answered Taker, or the receiver was finished
   pub has_stopped : Bool
   pub stages : Stages
+  -- for how many workers it was opened, and then by how many the last call decoded at most
+  pub by : ℕ
 
 -- a receiver that was given these octets and no others, fewer than 2^60, and has handed over this
 abbrev pub ReceiverStandsFor : OctetReceiving → List ℕ → List (Handed ItemValue) → Type 0
@@ -131,7 +136,7 @@ abbrev pub FeedChooses : OctetReceiving → OctetReceiving → List ℕ → Type
 FeedChooses before now octets = (given : List ℕ) (done : List (Handed ItemValue))
     → length given + length octets < stream_bound
     → ReceiverStandsFor before given done → before.has_stopped ≡ false
-    → IsChosenSoFar before.config (given ++ octets) now.stages.inner.phased.chosen
+    → IsChosenSoFar before.config (given ++ octets) now.stages.inner.chosen
 
 -- at the end what is left was handed over, and the octets come to this; these are few items too
 abbrev pub FinishHands : {T : Type 0} → (T → Handed ItemValue → T → Type 0) → OctetReceiving → T → T
@@ -155,7 +160,7 @@ FinishBreaks took broke before taker taker_now = (tried : List (Handed ItemValue
 abbrev pub FinishChooses : OctetReceiving → OctetReceiving → Type 0
 FinishChooses before now = (given : List ℕ) (done : List (Handed ItemValue))
     → ReceiverStandsFor before given done → before.has_stopped ≡ false
-    → IsChosen before.config given now.stages.inner.phased.chosen
+    → IsChosen before.config given now.stages.inner.chosen
 
 -- ---- codeblocks that are whole
 
@@ -210,106 +215,63 @@ pub record ReceivedLastPart {T : Type 0} (took broke : T → ItemValue → T →
 
 -- ---- octets that are taken
 
--- what contracts see of the room for the bits that blocks keep, and of the phase that was handed
--- over before them
-pub record Keeping : Type 0 where
-  pub bits : List ℕ
-  -- how many there is room for
-  pub size : ℕ
-  pub phase : Option Chosen
-
--- the bits that a block keeps follow the others, where there is room for them
-pub record Keeps (before : Keeping) (block : WindowBlock) (now : Keeping) : Type 0 where
-  pub size : now.size ≡ before.size
-  pub phase : now.phase ≡ before.phase
-  pub bits : length before.bits + length (take block.kept block.bits) ≤ before.size
-      → now.bits ≡ before.bits ++ take block.kept block.bits
-
--- the phase is kept
-abbrev pub KeepsPhase : Keeping → ℕ → ℕ → Keeping → Type 0
-KeepsPhase before skip cost now = now ≡ record before {
-  phase = Some
-      (record { skip = skip; cost = cost });
-}
-
--- the bits that come of octets: those that the first stage keeps, or with no inner code all after
--- those that are still to be skipped
-abbrev pub bits_found : Configuration → Option Rate → ℕ → List ℕ → List ℕ → List Bool
-bits_found c None skip kept octets = drop skip (plain_bits c octets)
-bits_found c (Some rate) skip kept octets = map (λ bit. bit == 1) kept
-
-abbrev pub received_bits : InnerReceiving → List ℕ → List ℕ → List Bool
-received_bits inner kept octets =
-    bits_found inner.config inner.config.inner
-    (inner.config.skip - plain_count inner.config inner.count) kept octets
-
--- the first stage goes on from these octets, and from what it has handed over, to further octets,
--- this phase and these bits
-pub record Further (inner inner_now : InnerReceiving) (given octets : List ℕ)
-    (done : List (Handed WindowBlock)) (phase : Option Chosen) (piece : List Bool) : Type 0 where
-  pub more : List (Handed WindowBlock)
-  pub stands : InnerReceiverStandsFor inner_now (given ++ octets) (done ++ more)
-  pub due : AreHandedDue inner.config (given ++ octets) (done ++ more)
-  pub is_phase : phase ≡ phase_of more
-  pub bits : inner_bits inner.config (given ++ octets) (items_of (done ++ more))
-      ≡ inner_bits inner.config given (items_of done) ++ piece
-
--- blocks that are due and were not handed over yet
-abbrev pub AreWaiting : Configuration → List ℕ → List (Handed WindowBlock) → List WindowBlock
-    → Type 0
-AreWaiting c given done waiting = AreHandedDue c given (done ++ map Item waiting)
-
--- there is room for the bits that these blocks keep, and those of the octets that wait for the
--- phase, of a window and of so many octets
-abbrev pub HasRoom : Configuration → List WindowBlock → ℕ → ℕ → Type 0
-HasRoom c waiting count room =
-    length (kept_bits waiting) + held_bits c + count ≤ room
-
--- whatever octets the first stage was given, fewer than 2^60 with these, it took these too, and
--- the blocks that wait now keep at most so many bits
-abbrev pub Gathers : InnerReceiving → InnerReceiving → List ℕ → ℕ → Type 0
-Gathers inner inner_now octets most =
-    (given : List ℕ) (done : List (Handed WindowBlock))
-    → length given + length octets < stream_bound
-    → InnerReceiverStandsFor inner given done
-    → InnerReceiverStandsFor inner_now (given ++ octets) done
-    × ((waiting : List WindowBlock) × (length (kept_bits waiting) ≤ most)
-    × AreWaiting inner.config (given ++ octets) done waiting)
+-- the bits that blocks keep
+abbrev pub bits_of_blocks : List WindowBlock → List Bool
+bits_of_blocks blocks = map (λ bit. bit == 1) (kept_bits blocks)
 
 -- so many further bits make no item due, whatever they are
 abbrev pub AreSpare : BitReceiving → ℕ → Type 0
 AreSpare r count = (bits more : List Bool) → BitReceiverStandsFor r bits → length more ≤ count
     → due r.batch.config (bits ++ more) ≡ due r.batch.config bits
 
--- whatever octets the first stage was given, fewer than 2^60 with these, and whichever blocks
--- waited, it goes on to these, to this phase and this piece of bits, for all of which there is
--- this room
-abbrev pub Grows : InnerReceiving → InnerReceiving → ℕ → List ℕ → Option Chosen → List Bool
-    → Type 0
-Grows inner inner_now room octets phase piece =
-    (given : List ℕ) (done : List (Handed WindowBlock)) (waiting : List WindowBlock)
-    → length given + length octets < stream_bound
-    → HasRoom inner.config waiting (length octets) room
-    → InnerReceiverStandsFor inner given done → AreWaiting inner.config given done waiting
-    → Further inner inner_now given octets done phase piece
+-- as many as these are spare: one fewer than the codeblocks that the batch lacks have at least with
+-- their markers, less those that are not passed; none with one worker
+abbrev pub spare_bits : BitReceiving → ℕ
+spare_bits r = waiting_bits r.batch.config (r.batch.config.batch - length r.batch.stored)
+    - (length r.recent.bits + 1)
 
--- the end of the octets adds this phase and these bits, and the octets come to this
-pub record EndsWith (inner : InnerReceiving) (given : List ℕ) (done : List (Handed WindowBlock))
-    (phase : Option Chosen) (piece : List Bool) (totals : Totals) : Type 0 where
-  pub last : List (Handed WindowBlock)
-  pub left : ℕ
-  pub are_handed : AreHanded inner.config given (done ++ last) left
-  pub is_phase : phase ≡ phase_of last
-  pub bits : inner_bits inner.config given (items_of (done ++ last))
-      ≡ inner_bits inner.config given (items_of done) ++ piece
-  pub counted : totals ≡ totals_of inner.config
-      (inner_bits inner.config given (items_of (done ++ last))) (items_of (done ++ last))
+-- These octets may not all wait in the first stage: with the first of them put in and no window
+-- decoded since there is no room for the others, or with all of them the phase is not chosen, or
+-- they close windows that keep more than so many bits.
+abbrev pub MayNotWait : InnerDecoding → List ℕ → ℕ → Type 0
+MayNotWait before octets spare = (now : InnerDecoding) × (count : ℕ)
+    × ((given : List ℕ) (blocks : List WindowBlock) → before.has_ended ≡ false
+    → length given + count < stream_bound → InnerDecoderStandsFor before given blocks
+    → InnerDecoderStandsFor now (given ++ take count octets) blocks)
+    × HasFilled now.queue (length octets - count)
+    × ((count < length octets) ⊎ ClosesMore now.queue spare)
 
--- whatever octets the first stage was given, and whichever blocks waited, it ends with this phase
--- and these bits, for which there is this room, and the octets come to this
-abbrev pub Ends : InnerReceiving → ℕ → Option Chosen → List Bool → Totals → Type 0
-Ends inner room phase piece totals =
-    (given : List ℕ) (done : List (Handed WindowBlock)) (waiting : List WindowBlock)
-    → HasRoom inner.config waiting 0 room
-    → InnerReceiverStandsFor inner given done → AreWaiting inner.config given done waiting
-    → EndsWith inner given done phase piece totals
+-- From `before` on the first stage has read and decoded this, the phase before all blocks; before
+-- the end of the octets its phase is the one chosen so far.
+pub record Decodes (before now : InnerDecoding) (more : List (Handed WindowBlock)) : Type 0 where
+  pub config : now.config ≡ before.config
+  pub ended : now.has_ended ≡ before.has_ended
+  pub kept : (chosen : Chosen) → before.chosen ≡ Some chosen → now.chosen ≡ Some chosen
+  pub on : (given : List ℕ) (done : List (Handed WindowBlock)) → HasRead before given done
+      → HasRead now given (done ++ more) × (unread now ≡ None)
+      × (before.has_ended ≡ false → IsChosenSoFar now.config given now.chosen)
+
+-- the phase that it has read went to the taker, and the bits of the blocks to the search
+pub record Decoded {T : Type 0} (took_phase : T → ℕ → ℕ → T → Type 0)
+    (took : T → ItemValue → T → Type 0) (before now : Stages) (taker taker_now : T)
+    : Type 0 where
+  pub phase : Option Chosen
+  pub blocks : List WindowBlock
+  pub decodes : Decodes before.inner now.inner (with_phase phase [] ++ map Item blocks)
+  pub middle : T
+  pub phased : HandedOver (on_handed {I = ItemValue} took_phase took) taker (with_phase phase [])
+      middle
+  pub received : Received took before.bits now.bits middle taker_now (bits_of_blocks blocks)
+
+-- the taker failed at the phase, or at one of the first items that are due with these bits
+pub record DecodedPart {T : Type 0} (took_phase broke_phase : T → ℕ → ℕ → T → Type 0)
+    (took broke : T → ItemValue → T → Type 0) (before now : Stages) (taker taker_now : T)
+    : Type 0 where
+  pub phase : Option Chosen
+  pub blocks : List WindowBlock
+  pub decodes : Decodes before.inner now.inner (with_phase phase [] ++ map Item blocks)
+  pub tried : List ItemValue
+  pub handed : HandedPart (on_handed took_phase took) (on_handed broke_phase broke) taker
+      (with_phase phase [] ++ map Item tried) taker_now
+  pub first : AreFirstDue before.bits.batch.config (BitReceiverStandsFor before.bits)
+      (bits_of_blocks blocks) tried

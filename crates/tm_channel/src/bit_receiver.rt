@@ -10,9 +10,9 @@ ghost use Rattle.tm_channel.specs.Items.{ItemValue};
 ghost use Rattle.tm_channel.specs.Receiving.{Agree, AreItemsFor, AreWritten, HoldsFound, IsHanded, IsReady};
 ghost use Rattle.tm_channel.specs.OctetReceiving.{Received, ReceivedPart, Settles, SettlesPart};
 
+use crate::crew::ReceiverCrew;
 use crate::item::ItemTaker;
 use crate::store::Codeblocks;
-use crate::workers::Workers;
 use tm_base::Failed;
 use tm_sync::{Finder, RecentBits};
 
@@ -49,14 +49,14 @@ pub struct BitReceiver {
 impl BitReceiver {
     /// Takes the bits of octets after the first `from` ones, has each batch that is full with them repaired, and hands
     /// over its items.
-    pub fn receive<P: Workers, T: ItemTaker>(
+    pub fn receive<C: ReceiverCrew, T: ItemTaker>(
         &mut self,
-        by: &P,
+        crew: &C,
         octets: &[u8],
         from: usize,
         taker: &mut T,
     ) -> Result<(), Failed>
-        requires workers { P.is_ready by.now }
+        requires crew { C.can_decode crew.now }
         requires from { from ≤ 8 * length octets.now }
         requires ready { IsReady self.old.finder self.old.recent self.old.batch }
         ensures ready { IsReady self.new.finder self.new.recent self.new.batch }
@@ -76,7 +76,7 @@ impl BitReceiver {
         while first < octets.len() {
             let end = first + self.recent.free().min(octets.len() - first);
             self.recent.push(&octets[first..end], begun);
-            match self.keep_all(by, taker) {
+            match self.keep_all(crew, taker) {
                 Ok(()) => {}
                 Err(Failed) => return Err(Failed),
             }
@@ -87,8 +87,12 @@ impl BitReceiver {
     }
 
     // Keeps the codeblocks that are whole with the last bits, and hands over each batch that is full with them.
-    fn keep_all<P: Workers, T: ItemTaker>(&mut self, by: &P, taker: &mut T) -> Result<(), Failed>
-        requires workers { P.is_ready by.now }
+    fn keep_all<C: ReceiverCrew, T: ItemTaker>(
+        &mut self,
+        crew: &C,
+        taker: &mut T,
+    ) -> Result<(), Failed>
+        requires crew { C.can_decode crew.now }
         requires agree { Agree self.old.finder self.old.recent self.old.batch }
         requires few { length self.old.batch.stored < self.old.batch.config.batch }
         ensures ready { IsReady self.new.finder self.new.recent self.new.batch }
@@ -102,7 +106,7 @@ impl BitReceiver {
         ensures cause { HasCause (T.faults taker.old) (T.faults taker.new) (T.is_last taker.new) result }
     {
         while self.keep_next() {
-            match self.hand_full(by, taker) {
+            match self.hand_full(crew, taker) {
                 Ok(()) => {}
                 Err(Failed) => {
                     self.skip_whole();
@@ -156,8 +160,12 @@ impl BitReceiver {
     }
 
     // Hands over the items of a batch that is full, and keeps none of its codeblocks.
-    fn hand_full<P: Workers, T: ItemTaker>(&mut self, by: &P, taker: &mut T) -> Result<(), Failed>
-        requires workers { P.is_ready by.now }
+    fn hand_full<C: ReceiverCrew, T: ItemTaker>(
+        &mut self,
+        crew: &C,
+        taker: &mut T,
+    ) -> Result<(), Failed>
+        requires crew { C.can_decode crew.now }
         requires written { AreWritten self.old.batch }
         requires most { length self.old.batch.stored ≤ self.old.batch.config.batch }
         ensures finder { self.new.finder ≡ self.old.finder }
@@ -177,19 +185,19 @@ impl BitReceiver {
         if self.batch.count() < self.batch.room() {
             return Ok(());
         }
-        match self.hand_all(by, taker) {
+        match self.hand_all(crew, taker) {
             Ok(()) => Ok(()),
             Err(Failed) => Err(Failed),
         }
     }
 
     /// Hands over the items of all codeblocks that are stored, and keeps none.
-    pub fn hand_all<P: Workers, T: ItemTaker>(
+    pub fn hand_all<C: ReceiverCrew, T: ItemTaker>(
         &mut self,
-        by: &P,
+        crew: &C,
         taker: &mut T,
     ) -> Result<(), Failed>
-        requires workers { P.is_ready by.now }
+        requires crew { C.can_decode crew.now }
         requires written { AreWritten self.old.batch }
         ensures finder { self.new.finder ≡ self.old.finder }
         ensures recent { self.new.recent ≡ self.old.recent }
@@ -204,7 +212,7 @@ impl BitReceiver {
             × HandedPart T.took T.broke taker.old items taker.new) }
         ensures cause { HasCause (T.faults taker.old) (T.faults taker.new) (T.is_last taker.new) result }
     {
-        self.batch.repair(by);
+        self.batch.repair(crew);
         let result = hand_over(&self.batch, taker);
         self.batch.clear();
         result

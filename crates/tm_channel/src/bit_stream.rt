@@ -6,12 +6,12 @@ ghost use Rattle.tm_sync.specs.Bits.{bits_bound};
 ghost use Rattle.tm_sync.specs.Places.{settled_by};
 ghost use Rattle.tm_codeblock.specs.ReceivedCodeblock.{columns_of, rules_of};
 ghost use Rattle.tm_channel.specs.Receiving.{waiting_bits};
-ghost use Rattle.tm_channel.specs.OctetReceiving.{AreSpare, BitReceiverStandsFor, Received, ReceivedPart, ReceivedLast, ReceivedLastPart};
+ghost use Rattle.tm_channel.specs.OctetReceiving.{AreSpare, BitReceiverStandsFor, Received, ReceivedPart, ReceivedLast, ReceivedLastPart, spare_bits};
 
 use crate::bit_receiver::BitReceiver;
+use crate::crew::ReceiverCrew;
 use crate::item::ItemTaker;
 use crate::store::Codeblocks;
-use crate::workers::Workers;
 use std::marker::Model;
 use tm_base::Failed;
 use tm_sync::{Finder, RecentBits};
@@ -64,14 +64,14 @@ impl BitStream {
 
     /// Takes the next bits, those of octets after the first `from` ones, and hands over the items that are due with
     /// them. Each full batch is repaired by these workers.
-    pub fn receive<P: Workers, T: ItemTaker>(
+    pub fn receive<C: ReceiverCrew, T: ItemTaker>(
         &mut self,
-        by: &P,
+        crew: &C,
         octets: &[u8],
         from: usize,
         taker: &mut T,
     ) -> Result<(), Failed>
-        requires workers { P.is_ready by.now }
+        requires crew { C.can_decode crew.now }
         requires from { from ≤ 8 * length octets.now }
         requires most { 8 * length octets.now < bits_bound }
         ensures config { self.new.batch.config ≡ self.old.batch.config }
@@ -81,7 +81,7 @@ impl BitStream {
             (ReceivedPart T.took T.broke self.old self.new taker.old taker.new (drop from (bits_of octets.now))) }
         ensures cause { HasCause (T.faults taker.old) (T.faults taker.new) (T.is_last taker.new) result }
     {
-        match self.receiver.receive(by, octets, from, taker) {
+        match self.receiver.receive(crew, octets, from, taker) {
             Ok(()) => Ok(()),
             Err(Failed) => Err(Failed),
         }
@@ -92,24 +92,25 @@ impl BitStream {
     pub fn spare(&self) -> u64
         ensures value { AreSpare self.now result }
         ensures most { result ≤ waiting_bits self.now.batch.config self.now.batch.config.batch }
+        ensures exact { result ≡ spare_bits self.now }
     {
         let lacking = self.receiver.batch.bits_lacking();
         lacking.saturating_sub(self.receiver.recent.count() as u64 + 1)
     }
 
     /// Hands over the items that were not due before the end of the bits was known.
-    pub fn hand_last<P: Workers, T: ItemTaker>(
+    pub fn hand_last<C: ReceiverCrew, T: ItemTaker>(
         &mut self,
-        by: &P,
+        crew: &C,
         taker: &mut T,
     ) -> Result<(), Failed>
-        requires workers { P.is_ready by.now }
+        requires crew { C.can_decode crew.now }
         ensures config { self.new.batch.config ≡ self.old.batch.config }
         ensures handed { OnOk result (ReceivedLast T.took self.old taker.old taker.new) }
         ensures part { OnErr result (ReceivedLastPart T.took T.broke self.old taker.old taker.new) }
         ensures cause { HasCause (T.faults taker.old) (T.faults taker.new) (T.is_last taker.new) result }
     {
-        match self.receiver.hand_all(by, taker) {
+        match self.receiver.hand_all(crew, taker) {
             Ok(()) => Ok(()),
             Err(Failed) => Err(Failed),
         }

@@ -6,19 +6,19 @@
 mod bit_receiver;
 mod bit_stream;
 mod column_words;
+mod crew;
 mod item;
-mod kept_bits;
 mod laws;
 mod packed;
+mod pipeline;
 mod receiver;
 mod repair;
 mod sender;
 mod slot;
 mod store;
-mod taking;
 mod totals;
-mod workers;
 
+pub use crew::ReceiverCrew;
 pub use item::{Item, ItemTaker, are_fixed};
 pub use laws::{
     clean_law, disturbed_law, disturbed_octets_law, due_items_law, first_items_law, found_law,
@@ -31,7 +31,7 @@ pub use tm_codeblock::{basis_of, cadu};
 pub use tm_config::{Config, ConfigError, Raw};
 pub use tm_inner::{InnerEnd, InnerReceiver, InnerSender, SendError, inner_all};
 pub use tm_rs_solve::Answer;
-pub use tm_viterbi::{AllError, Block, BlockTaker, FeedError};
-pub use tm_windows::Chosen;
+pub use tm_viterbi::{Block, BlockTaker};
+pub use tm_windows::{AllError, Alone, Chosen, Crew, FeedError, Threaded};
 pub use tm_workers::{Gate, OpenGate};
 pub use totals::Totals;

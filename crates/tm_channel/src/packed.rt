@@ -6,8 +6,8 @@ ghost use Rattle.tm_channel.specs.OctetReceiving.{Received, ReceivedPart};
 ghost use Rattle.tm_channel.specs.Receiving.{run_size};
 
 use crate::bit_stream::BitStream;
+use crate::crew::ReceiverCrew;
 use crate::item::ItemTaker;
-use crate::workers::Workers;
 use tm_base::Failed;
 use tm_codeblock::{pack, run_length};
 
@@ -15,13 +15,13 @@ use tm_codeblock::{pack, run_length};
 const RUN: usize = 256;
 
 /// Gives bits, each 0 or 1, to the second stage, and hands over the items that are due with them.
-pub fn take_bits<P: Workers, T: ItemTaker>(
+pub fn take_bits<C: ReceiverCrew, T: ItemTaker>(
     stream: &mut BitStream,
-    by: &P,
+    crew: &C,
     bits: &[u8],
     taker: &mut T,
 ) -> Result<(), Failed>
-    requires workers { P.is_ready by.now }
+    requires crew { C.can_decode crew.now }
     ensures config { stream.new.batch.config ≡ stream.old.batch.config }
     ensures handed { OnOk result
         (Received T.took stream.old stream.new taker.old taker.new (map (λ bit. bit == 1) bits.now)) }
@@ -32,7 +32,7 @@ pub fn take_bits<P: Workers, T: ItemTaker>(
     let mut done = 0;
     while done < bits.len() {
         let count = run_length(bits.len() - done, RUN);
-        match take_run(stream, by, &bits[done..done + count], taker) {
+        match take_run(stream, crew, &bits[done..done + count], taker) {
             Ok(()) => {}
             Err(Failed) => return Err(Failed),
         }
@@ -42,13 +42,13 @@ pub fn take_bits<P: Workers, T: ItemTaker>(
 }
 
 // Gives fewer than eight bits to it, or those of up to `RUN` octets.
-fn take_run<P: Workers, T: ItemTaker>(
+fn take_run<C: ReceiverCrew, T: ItemTaker>(
     stream: &mut BitStream,
-    by: &P,
+    crew: &C,
     bits: &[u8],
     taker: &mut T,
 ) -> Result<(), Failed>
-    requires workers { P.is_ready by.now }
+    requires crew { C.can_decode crew.now }
     requires whole { (length bits.now < 8) ⊎ (length bits.now % 8 ≡ 0) }
     requires most { length bits.now ≤ 8 * run_size }
     ensures { TakesBits T.took T.broke T.faults T.is_last stream.old stream.new taker.old taker.new
@@ -61,10 +61,10 @@ fn take_run<P: Workers, T: ItemTaker>(
         eight[from..].copy_from_slice(bits);
         let mut octet = [0; 1];
         pack(&eight, &mut octet);
-        return stream.receive(by, &octet, from, taker);
+        return stream.receive(crew, &octet, from, taker);
     }
     let mut octets = [0; RUN];
     let octets = &mut octets[..bits.len() / 8];
     pack(bits, octets);
-    stream.receive(by, octets, 0, taker)
+    stream.receive(crew, octets, 0, taker)
 }

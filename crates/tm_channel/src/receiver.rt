@@ -1,10 +1,11 @@
 // The receiver: octets in, items out.
-ghost use Rattle.std.specs.Prelude.{◌≡◌, ◌≢◌, ◌↔◌, ◌⊎◌, ℕ, ◌+◌, ◌*◌, ◌<◌, ◌≤◌, true, false, List, [], length, None, IfOk, OnOk, IsErrOf, Err, IsTrue};
+ghost use Rattle.std.specs.Prelude.{◌≡◌, ◌≢◌, ◌⊎◌, ℕ, ◌+◌, ◌*◌, ◌<◌, ◌≤◌, true, false, List, [], length, None, IfOk, IsErrOf, Err};
 ghost use Rattle.std.specs.Thread.{IsSync};
 ghost use Rattle.tm_base.specs.Handed.{Handed, on_handed};
 ghost use Rattle.tm_base.specs.Outside.{Rose};
 ghost use Rattle.tm_base.specs.Takers.{HandedOver, HandedPart};
 ghost use Rattle.tm_base.specs.Limits.{most_workers};
+ghost use Rattle.tm_config.specs.Accepted.{IsAccepted};
 ghost use Rattle.tm_inner.specs.InnerDecoding.{HasWorkers};
 ghost use Rattle.tm_inner.specs.Phase.{IsChosenSoFar};
 ghost use Rattle.tm_sync.specs.Places.{settled_by};
@@ -14,17 +15,15 @@ ghost use Rattle.tm_workers.specs.Words.{Decodes};
 ghost use Rattle.tm_viterbi.specs.WindowSizes.{stream_bound};
 ghost use Rattle.tm_channel.specs.Items.{ItemValue};
 ghost use Rattle.tm_channel.specs.Handing.{AreReceived, AreReceivedFirst, AreReceivedPrefix};
-ghost use Rattle.tm_channel.specs.Calls.{Calls, Feeds, Finishes};
-ghost use Rattle.tm_channel.specs.OctetReceiving.{AreSlipsSoFar, FeedBreaks, FeedChooses, FeedHands, FinishBreaks, FinishChooses, FinishHands, ReceiverStandsFor};
+ghost use Rattle.tm_channel.specs.Calls.{Feeds, Finishes};
+ghost use Rattle.tm_channel.specs.OctetReceiving.{AreSlipsSoFar, ReceiverStandsFor};
 
 use crate::bit_stream::BitStream;
+use crate::crew::ReceiverCrew;
 use crate::item::ItemTaker;
-use crate::kept_bits::KeptBits;
-use crate::packed::take_bits;
+use crate::pipeline::{PIECE, end, take};
 use crate::store::Codeblocks;
-use crate::taking::{PIECE, end, take};
 use crate::totals::Totals;
-use crate::workers::{InOrder, SideBySide, Workers};
 use std::alloc::Global;
 use std::marker::Model;
 use std::thread::Threads;
@@ -32,11 +31,10 @@ use thiserror::Error;
 use tm_base::{Failed, NoMemory};
 use tm_codeblock::{codeblock_size, columns_of, finds_polarity};
 use tm_config::Config;
-use tm_inner::{InnerReceiver, held_bits};
+use tm_inner::InnerDecoder;
 use tm_rs_code::Params;
 use tm_sync::{Finder, RecentBits};
-use tm_viterbi::AllError;
-use tm_windows::Chosen;
+use tm_windows::{AllError, Chosen, Threaded};
 use tm_workers::{Gate, OpenGate, Word, decode_batch};
 
 /// Why a receiver refused a call.
@@ -57,19 +55,16 @@ pub enum RecvError {
 #[derive(Drop)]
 pub struct Receiver {
     config: Config,
-    inner: InnerReceiver,
-    // Room for the bits that may wait, and for those of a window of the inner code, of the octets that wait for
-    // the phase and of a piece of octets.
-    kept: KeptBits,
+    inner: InnerDecoder,
     stream: BitStream,
     has_stopped: bool,
+    // For how many workers it was opened, and by how many the last call decoded at most: what clauses alone read.
+    by: usize,
 }
 
 impl Model for Receiver {
-    ghost use Rattle.std.specs.Prelude.{◌≡◌, ◌≤◌, ◌+◌, ◌*◌, false};
+    ghost use Rattle.std.specs.Prelude.{◌≡◌};
     ghost use Rattle.tm_config.specs.Accepted.{IsAccepted};
-    ghost use Rattle.tm_inner.specs.Phase.{held_bits};
-    ghost use Rattle.tm_channel.specs.Receiving.{waiting_bits, piece_size};
     ghost use Rattle.tm_channel.specs.OctetReceiving.{OctetReceiving};
 
     ghost Value = { OctetReceiving };
@@ -78,12 +73,11 @@ impl Model for Receiver {
       config = r.config;
       has_stopped = r.has_stopped;
       stages = record { inner = r.inner; bits = r.stream };
+      by = r.by;
     } };
 
     ghost invariant = { λ r. (r.inner.config ≡ r.config) × (r.stream.batch.config ≡ r.config)
-        × (r.has_stopped ≡ false → r.inner.has_stopped ≡ false)
-        × (waiting_bits r.inner.config r.inner.config.batch + held_bits r.inner.config + piece_size
-        ≤ r.kept.size) × IsAccepted r.config };
+        × IsAccepted r.config };
 }
 
 impl Receiver {
@@ -92,7 +86,8 @@ impl Receiver {
         ensures config { IfOk result (λ r. r.config ≡ config) }
         ensures fresh { IfOk result (λ r. r.has_stopped ≡ false) }
         ensures stands { IfOk result (λ r. ReceiverStandsFor r [] []) }
-        ensures workers { IfOk result (λ r. HasWorkers config.workers config r.stages.inner.phased.decoder) }
+        ensures workers { IfOk result (λ r. HasWorkers config.workers r.stages.inner.queue) }
+        ensures by { IfOk result (λ r. r.by ≡ config.workers) }
     {
         Receiver::open_for(alloc, config, config.workers() as u8)
     }
@@ -103,16 +98,13 @@ impl Receiver {
         ensures config { IfOk result (λ r. r.config ≡ config) }
         ensures fresh { IfOk result (λ r. r.has_stopped ≡ false) }
         ensures stands { IfOk result (λ r. ReceiverStandsFor r [] []) }
-        ensures workers { IfOk result (λ r. HasWorkers workers config r.stages.inner.phased.decoder) }
+        ensures workers { IfOk result (λ r. HasWorkers workers r.stages.inner.queue) }
+        ensures by { IfOk result (λ r. r.by ≡ workers) }
     {
-        let Ok(inner) = InnerReceiver::open_for(alloc, &config, workers) else {
+        let Ok(inner) = InnerDecoder::open(alloc, &config, workers) else {
             return Err(NoMemory);
         };
         let Ok(batch) = Codeblocks::open(alloc, config) else {
-            return Err(NoMemory);
-        };
-        let room = (held_bits(&config) + batch.bits_lacking()) as usize + PIECE;
-        let Ok(kept) = KeptBits::open(alloc, room) else {
             return Err(NoMemory);
         };
         let Ok((search, recent)) = open_search(alloc, &config) else {
@@ -121,9 +113,9 @@ impl Receiver {
         Ok(Receiver {
             config,
             inner,
-            kept,
             stream: BitStream::new(search, recent, batch),
             has_stopped: false,
+            by: usize::from(workers),
         })
     }
 
@@ -143,58 +135,35 @@ impl Receiver {
         taker: &mut T,
         gate: &G,
     ) -> Result<(), RecvError>
-        ensures { Feeds (on_handed T.took_phase T.took) (on_handed T.broke_phase T.broke) T.faults T.is_last
+        ensures feeds { Feeds (on_handed T.took_phase T.took) (on_handed T.broke_phase T.broke) T.faults T.is_last
             self.old self.new taker.old taker.new octets.now result }
+        ensures by { self.old.has_stopped ≡ false → self.new.by ≡ self.old.config.workers }
     {
-        let decode = |alloc: Global, params: &Params, repair: u8, words: &mut [Word], workers: u8|
+        let words = |alloc: Global, params: &Params, repair: u8, words: &mut [Word], workers: u8|
             requires { IsSync R.row × IsSync G.row × IsBatch params.now.e repair (length words.old) workers }
             ensures { EachBecomes (Decodes params.now repair) words.old words.new }
         { decode_batch(rt, alloc, params, repair, words, workers, gate) };
-        self.feed_by(&SideBySide { rt, decode }, octets, taker)
+        self.receive(&Threaded { rt, words }, octets, taker)
     }
 
-    /// Does what `feed` does with no thread but the caller's: words are decoded one after another, and the workers of
-    /// the configuration have no effect. Calls of both kinds may follow one another.
-    pub fn feed_in_order<T: ItemTaker>(
+    /// Does what `feed` does, by this crew. Calls of both kinds, and of several crews, may follow one another: the items
+    /// are the same.
+    pub fn receive<C: ReceiverCrew, T: ItemTaker>(
         &mut self,
+        crew: &C,
         octets: &[u8],
         taker: &mut T,
     ) -> Result<(), RecvError>
-        ensures { Feeds (on_handed T.took_phase T.took) (on_handed T.broke_phase T.broke) T.faults T.is_last
+        requires crew { C.is_ready crew.now × C.can_decode crew.now }
+        ensures feeds { Feeds (on_handed T.took_phase T.took) (on_handed T.broke_phase T.broke) T.faults T.is_last
             self.old self.new taker.old taker.new octets.now result }
-    {
-        self.feed_by(&InOrder, octets, taker)
-    }
-
-    // Does what `feed` does, by these workers.
-    fn feed_by<P: Workers, T: ItemTaker>(
-        &mut self,
-        by: &P,
-        octets: &[u8],
-        taker: &mut T,
-    ) -> Result<(), RecvError>
-        requires workers { P.is_ready by.now }
-        ensures call { Calls T.faults T.is_last self.old self.new taker.old taker.new result }
-        ensures stops { IsTrue self.new.has_stopped ↔ OnOk result ⊥ }
-        ensures config { self.new.config ≡ self.old.config }
-        ensures handed { OnOk result
-            (FeedHands (on_handed T.took_phase T.took) self.old self.new taker.old taker.new octets.now) }
-        ensures prefix { IsErrOf result RecvError.Taker
-            → FeedBreaks (on_handed T.took_phase T.took) (on_handed T.broke_phase T.broke) self.old taker.old taker.new
-            octets.now }
-        ensures chosen { FeedChooses self.old self.new octets.now }
+        ensures by { self.old.has_stopped ≡ false → self.new.by ≡ C.share crew.now self.old.config.workers }
     {
         if self.has_stopped {
             return Err(RecvError::Stopped);
         }
-        match take(
-            &mut self.inner,
-            &mut self.kept,
-            &mut self.stream,
-            by,
-            octets,
-            taker,
-        ) {
+        self.by = workers_by(&self.config, crew);
+        match take(&mut self.inner, &mut self.stream, crew, octets, taker) {
             Ok(()) => Ok(()),
             Err(Failed) => {
                 self.has_stopped = true;
@@ -214,62 +183,42 @@ impl Receiver {
         taker: &mut T,
         gate: &G,
     ) -> Result<Totals, RecvError>
-        ensures { Finishes (on_handed T.took_phase T.took) (on_handed T.broke_phase T.broke) T.faults T.is_last
+        ensures finishes { Finishes (on_handed T.took_phase T.took) (on_handed T.broke_phase T.broke) T.faults T.is_last
             self.old self.new taker.old taker.new result }
+        ensures by { self.old.has_stopped ≡ false → self.new.by ≡ self.old.config.workers }
     {
-        let decode = |alloc: Global, params: &Params, repair: u8, words: &mut [Word], workers: u8|
+        let words = |alloc: Global, params: &Params, repair: u8, words: &mut [Word], workers: u8|
             requires { IsSync R.row × IsSync G.row × IsBatch params.now.e repair (length words.old) workers }
             ensures { EachBecomes (Decodes params.now repair) words.old words.new }
         { decode_batch(rt, alloc, params, repair, words, workers, gate) };
-        self.finish_by(&SideBySide { rt, decode }, taker)
+        self.end(&Threaded { rt, words }, taker)
     }
 
-    /// Does what `finish` does with no thread but the caller's, whichever calls were before.
-    pub fn finish_in_order<T: ItemTaker>(&mut self, taker: &mut T) -> Result<Totals, RecvError>
-        ensures { Finishes (on_handed T.took_phase T.took) (on_handed T.broke_phase T.broke) T.faults T.is_last
-            self.old self.new taker.old taker.new result }
-    {
-        self.finish_by(&InOrder, taker)
-    }
-
-    // Does what `finish` does, by these workers.
-    fn finish_by<P: Workers, T: ItemTaker>(
+    /// Does what `finish` does, by this crew, whichever calls were before.
+    pub fn end<C: ReceiverCrew, T: ItemTaker>(
         &mut self,
-        by: &P,
+        crew: &C,
         taker: &mut T,
     ) -> Result<Totals, RecvError>
-        requires workers { P.is_ready by.now }
-        ensures call { Calls T.faults T.is_last self.old self.new taker.old taker.new result }
-        ensures stops { self.new.has_stopped ≡ true }
-        ensures config { self.new.config ≡ self.old.config }
-        ensures handed { IfOk result (FinishHands (on_handed T.took_phase T.took) self.old taker.old taker.new) }
-        ensures prefix { IsErrOf result RecvError.Taker
-            → FinishBreaks (on_handed T.took_phase T.took) (on_handed T.broke_phase T.broke) self.old taker.old
-            taker.new }
-        ensures chosen { FinishChooses self.old self.new }
+        requires crew { C.is_ready crew.now × C.can_decode crew.now }
+        ensures finishes { Finishes (on_handed T.took_phase T.took) (on_handed T.broke_phase T.broke) T.faults T.is_last
+            self.old self.new taker.old taker.new result }
+        ensures by { self.old.has_stopped ≡ false → self.new.by ≡ C.share crew.now self.old.config.workers }
     {
         if self.has_stopped {
             return Err(RecvError::Stopped);
         }
         self.has_stopped = true;
-        let totals = end(by, &mut self.inner, &mut self.kept);
-        match self.kept.hand_phase(taker) {
-            Ok(()) => {}
-            Err(Failed) => return Err(RecvError::Taker),
-        }
-        match take_bits(&mut self.stream, by, self.kept.bits(), taker) {
-            Ok(()) => {}
-            Err(Failed) => return Err(RecvError::Taker),
-        }
-        match self.stream.hand_last(by, taker) {
-            Ok(()) => Ok(totals),
-            Err(Failed) => Err(RecvError::Taker),
-        }
+        self.by = workers_by(&self.config, crew);
+        let Ok(totals) = end(&mut self.inner, &mut self.stream, crew, taker) else {
+            return Err(RecvError::Taker);
+        };
+        Ok(totals)
     }
 
     /// The symbol phase that was chosen: None before the choice, and where the phase is given.
     pub fn chosen(&self) -> Option<Chosen>
-        ensures value { result ≡ self.now.stages.inner.phased.chosen }
+        ensures value { result ≡ self.now.stages.inner.chosen }
         ensures so_far { (given : List ℕ) (done : List (Handed ItemValue)) → ReceiverStandsFor self.now given done
             → IsChosenSoFar self.now.config given result }
     {
@@ -286,6 +235,13 @@ impl Receiver {
     }
 }
 
+// By how many workers of a configuration a crew decodes at most.
+fn workers_by<C: ReceiverCrew>(config: &Config, crew: &C) -> usize
+    ensures { result ≡ C.share crew.now config.now.workers }
+{
+    crew.share(config.workers() as usize)
+}
+
 // The search for the codeblocks of a configuration, and the room for the bits that it has not passed.
 fn open_search(alloc: Global, config: &Config) -> Result<(Finder, RecentBits), NoMemory>
     ensures finder { IfOk result (λ opened. opened.0
@@ -293,6 +249,7 @@ fn open_search(alloc: Global, config: &Config) -> Result<(Finder, RecentBits), N
     ensures recent { IfOk result (λ opened. opened.1.bits ≡ []) }
     ensures sized { IfOk result (λ opened.
         settled_by opened.0.rules.verify opened.0.rules.block_bits + 14 ≤ 8 * opened.1.size) }
+    ensures accepted { IsAccepted config.now }
 {
     let size = codeblock_size(config);
     let finder = Finder::new(

@@ -7,25 +7,26 @@ ghost use Rattle.tm_channel.specs.Receiving.{AreItemsFor};
 ghost use Rattle.tm_channel.specs.Storing.{AreDecoded, AreRead, item_in, stored_in};
 
 use crate::column_words::read_columns;
+use crate::crew::ReceiverCrew;
 use crate::slot::Slot;
-use crate::workers::{InOrder, Workers};
 use std::alloc::Global;
 use std::slice::from_ref;
 use tm_codeblock::{codeblock_size, column_count, has_code, params_of};
 use tm_config::{Config, OuterCode};
+use tm_windows::Alone;
 use tm_workers::Word;
 
 /// Repairs the codeblocks of the first slots by these workers, and writes their items. There are at most 32 slots, and
 /// words for the columns of all.
-pub fn repair<P: Workers>(
-    by: &P,
+pub fn repair<C: ReceiverCrew>(
+    crew: &C,
     alloc: Global,
     config: &Config,
     count: usize,
     slots: &mut [Slot],
     words: &mut [Word],
 )
-    requires workers { P.is_ready by.now }
+    requires crew { C.can_decode crew.now }
     requires count { count ≤ length slots.old }
     requires slots { length slots.old ≤ most_batch }
     requires words { length words.old ≡ length slots.old * column_count config.now }
@@ -39,7 +40,7 @@ pub fn repair<P: Workers>(
     let size = count * column_count(config);
     let slots = &mut slots[..count];
     let words = &mut words[..size];
-    decode(by, alloc, config, slots, words);
+    decode(crew, alloc, config, slots, words);
     write_items(config, words, slots);
 }
 
@@ -54,13 +55,19 @@ pub fn repair_slot(alloc: Global, config: &Config, slot: &mut Slot, words: &mut 
 {
     let count = column_count(config);
     let words = &mut words[..count];
-    decode(&InOrder, alloc, config, from_ref(slot), words);
+    decode(&Alone, alloc, config, from_ref(slot), words);
     slot.write_item(config, words);
 }
 
 // Decodes the columns of all codeblocks.
-fn decode<P: Workers>(by: &P, alloc: Global, config: &Config, slots: &[Slot], words: &mut [Word])
-    requires workers { P.is_ready by.now }
+fn decode<C: ReceiverCrew>(
+    crew: &C,
+    alloc: Global,
+    config: &Config,
+    slots: &[Slot],
+    words: &mut [Word],
+)
+    requires crew { C.can_decode crew.now }
     requires slots { length slots.now ≤ most_batch }
     requires words { length words.old ≡ length slots.now * column_count config.now }
     ensures decoded { AreDecoded config.now slots.now words.new }
@@ -71,7 +78,7 @@ fn decode<P: Workers>(by: &P, alloc: Global, config: &Config, slots: &[Slot], wo
         let params = params_of(config);
         let repair = config.repair() as u8;
         let workers = config.workers() as u8;
-        by.decode(alloc, &params, repair, words, workers);
+        crew.decode_words(alloc, &params, repair, words, workers);
     }
 }
 

@@ -5,10 +5,10 @@ ghost use Rattle.tm_config.specs.Configuration.{longest_codeblock, most_batch, c
 ghost use Rattle.tm_codeblock.specs.ReceivedCodeblock.{codeblock_in, is_sound};
 ghost use Rattle.tm_channel.specs.Receiving.{AreItemsFor, AreWritten, IsItemAt, least_bits, stored_of, waiting_bits};
 
+use crate::crew::ReceiverCrew;
 use crate::item::{Item, are_fixed};
 use crate::repair::{repair, repair_slot};
 use crate::slot::Slot;
-use crate::workers::Workers;
 use std::alloc::{AllocError, Global};
 use std::marker::Model;
 use tm_codeblock::{codeblock_size, column_count, columns_of};
@@ -147,8 +147,8 @@ impl Codeblocks {
     }
 
     /// Repairs all codeblocks that are stored, by these workers, and writes their items, where that is not done yet.
-    pub fn repair<P: Workers>(&mut self, by: &P)
-        requires workers { P.is_ready by.now }
+    pub fn repair<C: ReceiverCrew>(&mut self, crew: &C)
+        requires crew { C.can_decode crew.now }
         requires written { AreWritten self.old }
         ensures config { self.new.config ≡ self.old.config }
         ensures stored { self.new.stored ≡ self.old.stored }
@@ -158,7 +158,7 @@ impl Codeblocks {
             return;
         }
         repair(
-            by,
+            crew,
             self.alloc,
             &self.config,
             self.count,

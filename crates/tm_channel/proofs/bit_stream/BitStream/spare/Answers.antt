@@ -1,6 +1,6 @@
-use Rattle.std.proofs.Common.{◌≤◌, subst, arith}
+use Rattle.std.proofs.Common.{◌≡◌, ◌≤◌, subst, arith}
 use Rattle.tm_channel.specs.Receiving.{waiting_bits}
-use Rattle.tm_channel.specs.OctetReceiving.{AreSpare, BitReceiving}
+use Rattle.tm_channel.specs.OctetReceiving.{AreSpare, BitReceiving, spare_bits}
 use Rattle.tm_channel.proofs.Spare.{lacking-most, spare-due}
 use Rattle.tm_channel.proofs.bit_stream.BitStream.spare.Goals as goal
 
@@ -24,3 +24,8 @@ returns-clause-most c =
       c.bits_lacking-lacking.ensures.value,
       c.saturating_sub.ensures,
     ))
+
+pub returns-clause-exact : goal.returns-clause-exact
+returns-clause-exact c =
+    subst (λ (v : BitReceiving). c.saturating_sub.result ≡ spare_bits v) c.self.view_is
+    (omega (arith, c.bits_lacking-lacking.ensures.value, c.saturating_sub.ensures, c.count.ensures.value))

@@ -1,14 +1,44 @@
-use Rattle.std.proofs.Common.{ap, arith}
+use Rattle.std.proofs.Common.{◌≡◌, ◌≤◌, false, [], List, Bool, sym, ap, subst, refl, arith}
 use Rattle.tm_config.specs.Configuration.{Configuration}
-use Rattle.tm_channel.proofs.GivenOctets.{stands-fresh}
+use Rattle.tm_inner.specs.Inner.{inner_bits}
+use Rattle.tm_inner.specs.Receiving.{HasHanded}
+use Rattle.tm_inner.proofs.HandedBits.{handed-due-none}
+use Rattle.tm_inner.proofs.PlainBits.{bits-nil}
+use Rattle.tm_sync.specs.declared.found.Found.{Found}
+use Rattle.tm_channel.specs.Items.{AreItemsOf}
+use Rattle.tm_channel.specs.Due.{due}
+use Rattle.tm_channel.specs.OctetReceiving.{BitReceiverStandsFor, Stages, StagesFor}
+use Rattle.tm_channel.proofs.AllBits.{due-nil}
 use Rattle.tm_channel.proofs.receiver.Receiver.open_for.Goals as goal
+
+stands-fresh : (s : Stages) → 1 ≤ s.inner.config.keep → s.inner.has_ended ≡ false → HasHanded s.inner [] []
+    → BitReceiverStandsFor s.bits [] → StagesFor s [] []
+stands-fresh s some going inner bits =
+    let c = s.inner.config in
+    let none : inner_bits c [] [] ≡ [] = bits-nil c.inner c in
+    record {
+      going = going;
+      handed = [];
+      inner = inner.read;
+      all = inner.all;
+      so_far = inner.so_far;
+      waiting = [];
+      are_due = handed-due-none c some;
+      few = omega arith;
+      none_due = refl;
+      bits = subst (BitReceiverStandsFor s.bits) (sym none) bits;
+      items = [];
+      are_items = subst (λ (l : List Bool). AreItemsOf c l (due c l) []) (sym none)
+          (subst (λ (fs : List Found). AreItemsOf c [] fs []) (sym (due-nil c)) tt);
+      are = refl;
+    }
 
 pub returns-clause-stands : goal.returns-clause-stands
 returns-clause-stands c =
     stands-fresh (record { inner = c.in-Ok.inner; bits = c.new.result })
     (omega (
       arith,
-      c.held_bits.ensures.accepted.some_keep,
+      c.open_search.ensures.accepted.some_keep,
       ap (λ (k : Configuration). k.keep) c.in-Ok.ensures.config,
     ))
-    c.in-Ok.ensures.stands c.new.ensures.stands
+    c.in-Ok.ensures.going c.in-Ok.ensures.stands c.new.ensures.stands

@@ -1,0 +1,21 @@
+use Rattle.std.proofs.Common.{◌≡◌, ◌⊎◌, ◌<◌, ◌≤◌, ◌-◌, take, length}
+use Rattle.tm_base.specs.Handed.{on_handed}
+use Rattle.tm_channel.proofs.GivenOctets.{Holds}
+use Rattle.tm_channel.proofs.pipeline.take.Given as goal
+
+abbrev pub invariant-loop-done : goal.invariant-loop-done
+invariant-loop-done g l = record {
+  grows : l.initial.done ≤ l.done;
+  first : (l.initial.done < length l.octets) ⊎ ((l.inner ≡ l.initial.inner) × (l.stream ≡ l.initial.stream)
+      × (l.taker ≡ l.initial.taker));
+  within : l.done ≤ length l.octets;
+  inner : l.inner.config ≡ l.fn.inner.config;
+  stream : l.stream.batch.config ≡ l.fn.stream.batch.config;
+  faults : g.T.ItemTaker.faults l.taker ≡ g.T.ItemTaker.faults l.fn.taker;
+  holds : Holds (on_handed g.T.ItemTaker.took_phase g.T.ItemTaker.took)
+      (record { inner = l.fn.inner; bits = l.fn.stream }) l.inner l.stream l.fn.taker l.taker
+      (take l.done l.octets);
+}
+
+abbrev pub decreases-loop-done : goal.decreases-loop-done
+decreases-loop-done g l = length l.octets - l.done

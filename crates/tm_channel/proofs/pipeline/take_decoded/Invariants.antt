@@ -1,0 +1,20 @@
+use Rattle.std.proofs.Common.{◌≡◌, length}
+use Rattle.tm_inner.specs.InnerDecoding.{IsDrained, IsSettledQueue, held_in, ready_in}
+use Rattle.tm_channel.proofs.FirstStage.{Running, left_for}
+use Rattle.tm_channel.proofs.pipeline.take_decoded.Given as goal
+
+abbrev pub invariant-loop-count : goal.invariant-loop-count
+invariant-loop-count g l = record {
+  config : l.inner.config ≡ l.fn.inner.config;
+  stream : l.stream.batch.config ≡ l.fn.stream.batch.config;
+  settled : IsSettledQueue l.fn.inner.queue → IsSettledQueue l.inner.queue;
+  count : l.count ≡ length (ready_in l.inner.queue);
+  drained : l.count ≡ 0 → IsDrained l.inner.queue;
+  faults : g.T.ItemTaker.faults l.taker ≡ g.T.ItemTaker.faults l.fn.taker;
+  runs : Running g.T.ItemTaker.took_phase g.T.ItemTaker.took
+      (record { inner = l.fn.inner; bits = l.fn.stream }) (record { inner = l.inner; bits = l.stream })
+      l.fn.taker l.taker (ready_in l.inner.queue);
+}
+
+abbrev pub decreases-loop-count : goal.decreases-loop-count
+decreases-loop-count g l = left_for l.count (length (held_in l.inner.queue))

@@ -1,0 +1,18 @@
+use Rattle.std.proofs.Common.{◌≡◌, ◌≤◌, ◌-◌, take, length}
+use Rattle.tm_base.specs.Handed.{on_handed}
+use Rattle.tm_channel.specs.OctetReceiving.{StagesHand}
+use Rattle.tm_channel.proofs.pipeline.take_plain.Given as goal
+
+abbrev pub invariant-loop-done : goal.invariant-loop-done
+invariant-loop-done g l = record {
+  within : l.done ≤ length l.octets;
+  inner : l.inner.config ≡ l.initial.inner.config;
+  stream : l.stream.batch.config ≡ l.initial.stream.batch.config;
+  faults : g.T.ItemTaker.faults l.taker ≡ g.T.ItemTaker.faults l.initial.taker;
+  handed : StagesHand (on_handed g.T.ItemTaker.took_phase g.T.ItemTaker.took)
+      (record { inner = l.initial.inner; bits = l.initial.stream }) (record { inner = l.inner; bits = l.stream })
+      l.initial.taker l.taker (take l.done l.octets);
+}
+
+abbrev pub decreases-loop-done : goal.decreases-loop-done
+decreases-loop-done g l = length l.octets - l.done

@@ -1,0 +1,89 @@
+use Rattle.std.proofs.Common.{rules, ◌++◌, ◌∙◌, length, true, refl, sym, subst, Ok, Err}
+use Rattle.tm_base.specs.Handed.{items_of, on_handed}
+use Rattle.tm_config.specs.Configuration.{Configuration}
+use Rattle.tm_config.specs.Accepted.{IsAccepted}
+use Rattle.tm_inner.specs.Phase.{IsChosenSoFar}
+use Rattle.tm_channel.specs.Calls.{Feeds}
+use Rattle.tm_channel.specs.Handing.{AreReceivedDue, AreReceivedFirst}
+use Rattle.tm_channel.specs.Most.{AreFew}
+use Rattle.tm_channel.specs.OctetReceiving.{OctetReceiving, Stages}
+use Rattle.tm_channel.specs.declared.receiver.RecvError.TheVariants.{Taker}
+use Rattle.tm_channel.proofs.FewItems.{stages-few}
+use Rattle.tm_channel.proofs.GivenOctets.{received-due}
+use Rattle.tm_channel.proofs.receiver.Receiver.receive.Goals as goal
+
+pub returns-in-Ok-clause-feeds : goal.returns-in-Ok-clause-feeds
+returns-in-Ok-clause-feeds g c =
+    let s = c.self.inside in
+    let octets = c.args.octets.now in
+    let before : Stages = record { inner = s.inner; bits = s.stream } in
+    let stages : Stages = record { inner = c.take.new.inner; bits = c.take.new.stream } in
+    let now : OctetReceiving = record {
+      config = s.config;
+      has_stopped = s.has_stopped;
+      stages = stages;
+      by = c.workers_by-self-inside.result;
+    } in
+    let took = on_handed g.T.ItemTaker.took_phase g.T.ItemTaker.took in
+    let broke = on_handed g.T.ItemTaker.broke_phase g.T.ItemTaker.broke in
+    let p = c.in-Ok.ensures.takes.handed in
+    let of = c.take.ensures.takes.inner ∙ c.self.invariant.0 in
+    subst (λ (r : OctetReceiving). Feeds took broke g.T.ItemTaker.faults g.T.ItemTaker.is_last r now
+    c.args.taker.now c.take.new.taker octets (Ok tt)) c.self.view_is (record {
+      call = search rules;
+      stops = search rules;
+      config = refl;
+      handed = (
+        p.more,
+        p.handed,
+        λ given done few stood.
+            let there = (p.stands given done few stood).0 in (
+              there,
+              subst (λ (k : Configuration). AreReceivedDue k (given ++ octets) (done ++ p.more)) of
+                  (received-due stages (given ++ octets) (done ++ p.more) there),
+            ),
+        λ given done few stood. subst (λ (k : Configuration). AreFew k (length octets) (items_of p.more))
+            c.self.invariant.0
+            (stages-few before stages given octets done p.more
+            (subst IsAccepted (sym c.self.invariant.0) c.self.invariant.2) c.take.ensures.takes.inner stood
+            (p.stands given done few stood)),
+      );
+      prefix = search rules;
+      chosen =
+          λ given done few stood _. subst
+          (λ (k : Configuration). IsChosenSoFar k (given ++ octets) c.take.new.inner.chosen) of
+          (p.stands given done few stood).0.so_far;
+    })
+
+pub returns-in-Err-clause-feeds : goal.returns-in-Err-clause-feeds
+returns-in-Err-clause-feeds g c =
+    let s = c.self.inside in
+    let octets = c.args.octets.now in
+    let now : OctetReceiving = record {
+      config = s.config;
+      has_stopped = true;
+      stages = record { inner = c.take.new.inner; bits = c.take.new.stream };
+      by = c.workers_by-self-inside.result;
+    } in
+    let took = on_handed g.T.ItemTaker.took_phase g.T.ItemTaker.took in
+    let broke = on_handed g.T.ItemTaker.broke_phase g.T.ItemTaker.broke in
+    let p = c.in-Err.ensures.takes.prefix in
+    subst (λ (r : OctetReceiving). Feeds took broke g.T.ItemTaker.faults g.T.ItemTaker.is_last r now
+    c.args.taker.now c.take.new.taker octets (Err Taker)) c.self.view_is (record {
+      call = search rules;
+      stops = search rules;
+      config = refl;
+      handed = search rules;
+      prefix =
+          λ _. (
+            p.tried,
+            p.handed,
+            λ given done few stood. subst
+                (λ (k : Configuration). AreReceivedFirst k (given ++ octets) (done ++ p.tried))
+                c.self.invariant.0 (p.first given done few stood).0,
+          );
+      chosen =
+          λ given done few stood _. subst
+          (λ (k : Configuration). IsChosenSoFar k (given ++ octets) c.take.new.inner.chosen)
+          c.self.invariant.0 (p.first given done few stood).1;
+    })
