@@ -45,4 +45,4 @@ pub record DecodesLast (decoder now : InnerReceiving) (given : List ℕ)
   pub left : ℕ
   pub all : AreHanded decoder.config given (done ++ last) left
   pub fills : Fills count bits (kept_bits (items_of last))
-  pub chosen : IsChosen decoder.config given now.phased.chosen
+  pub chosen : IsChosen decoder.config given now.chosen

@@ -54,4 +54,4 @@ pub record ReceivesLast (receiver now : OctetReceiving) (given : List ℕ)
   pub all : AreReceived receiver.config given (done ++ last) totals
   pub written : HasWritten count (items_of last) frames frames_now reports reports_now
   pub enough : IsEnough receiver.config 0 count frames reports
-  pub chosen : IsChosen receiver.config given now.stages.inner.phased.chosen
+  pub chosen : IsChosen receiver.config given now.stages.inner.chosen

@@ -100,7 +100,7 @@ impl BufferDecoder {
 
     /// The symbol phase that was chosen: None before the choice, and where the phase is given.
     pub fn chosen(&self) -> Option<Chosen>
-        ensures value { result ≡ self.now.phased.chosen }
+        ensures value { result ≡ self.now.chosen }
         ensures so_far { (given : List ℕ) (done : List (Handed WindowBlock)) → IsDecoding self.now given done
             → IsChosenSoFar self.now.config given result }
     {

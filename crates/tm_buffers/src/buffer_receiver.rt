@@ -20,7 +20,7 @@ use tm_channel::{Receiver, Totals, waiting_bits};
 use tm_codeblock::{codeblock_size, columns_of};
 use tm_config::Config;
 use tm_inner::held_bits;
-use tm_windows::Chosen;
+use tm_windows::{Alone, Chosen};
 
 /// A receiver whose items go to buffers. It starts no thread.
 #[derive(Drop)]
@@ -42,7 +42,7 @@ impl BufferReceiver {
     pub fn open(alloc: Global, config: Config) -> Result<BufferReceiver, NoMemory>
         ensures config { IfOk result (λ receiver. receiver.config ≡ config) }
         ensures fresh { IfOk result (λ receiver. IsReceiving receiver [] []) }
-        ensures workers { IfOk result (λ receiver. HasWorkers 1 config receiver.stages.inner.phased.decoder) }
+        ensures workers { IfOk result (λ receiver. HasWorkers 1 receiver.stages.inner.queue) }
     {
         let receiver = Receiver::open_for(alloc, config, 1)?;
         Ok(BufferReceiver { receiver })
@@ -69,7 +69,7 @@ impl BufferReceiver {
     {
         let most = reports.len();
         let mut taker = BufferItems::over(frames, reports);
-        let fed = self.receiver.feed_in_order(octets, &mut taker);
+        let fed = self.receiver.receive(&Alone, octets, &mut taker);
         let BufferItems {
             count,
             is_short,
@@ -97,7 +97,7 @@ impl BufferReceiver {
     {
         let most = reports.len();
         let mut taker = BufferItems::over(frames, reports);
-        let ended = self.receiver.finish_in_order(&mut taker);
+        let ended = self.receiver.end(&Alone, &mut taker);
         let BufferItems {
             count,
             is_short,
@@ -114,7 +114,7 @@ impl BufferReceiver {
 
     /// The symbol phase that was chosen: None before the choice, and where the phase is given.
     pub fn chosen(&self) -> Option<Chosen>
-        ensures value { result ≡ self.now.stages.inner.phased.chosen }
+        ensures value { result ≡ self.now.stages.inner.chosen }
         ensures so_far { (given : List ℕ) (done : List (Handed ItemValue)) → IsReceiving self.now given done
             → IsChosenSoFar self.now.config given result }
     {

@@ -45,7 +45,7 @@ returns-clause-decoded c = λ given done is room.
                 c.self.view_is there.0;
             fills = search rules;
             chosen =
-                subst (λ (d : InnerReceiving). IsChosen d.config given c.finish-ended.new.self.phased.chosen)
+                subst (λ (d : InnerReceiving). IsChosen d.config given c.finish-ended.new.self.chosen)
                 c.self.view_is chosen;
           }
       | in-Err w ↦ absurd (search rules)

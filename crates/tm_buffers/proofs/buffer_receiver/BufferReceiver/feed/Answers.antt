@@ -17,10 +17,10 @@ returns-clause-received c = λ given done few is.
     (sym c.self.view_is) is.going in
     elim c.match-fed.branch [
       | in-Ok w ↦
-          let h = w.in-Ok.ensures.handed in
+          let h = w.in-Ok.ensures.feeds.handed in
           let there = h.2 given done few stood in
-          let taker = c.feed_in_order-fed.new.taker in
-          let now = c.feed_in_order-fed.new.self in
+          let taker = c.receive-fed.new.taker in
+          let now = c.receive-fed.new.self in
           let took = handled (λ (b : BufferItems). b.frames.ghost_name)
           (λ b. b.reports.ghost_name) collected _ taker h.0 h.1 in
           let frames_loan : taker.frames.ghost_name ≡ _ = took.frames_loan in

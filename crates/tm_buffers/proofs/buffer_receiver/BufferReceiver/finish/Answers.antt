@@ -19,9 +19,9 @@ returns-clause-received c = λ given done is.
     (sym c.self.view_is) is.going in
     elim c.match-ended.branch [
       | in-Ok w ↦
-          let h = w.in-Ok.ensures.handed in
+          let h = w.in-Ok.ensures.finishes.handed in
           let there = h.2 given done stood in
-          let taker = c.finish_in_order-ended.new.taker in
+          let taker = c.end-ended.new.taker in
           let took = handled (λ (b : BufferItems). b.frames.ghost_name)
           (λ b. b.reports.ghost_name) collected _ taker h.0 h.1 in
           let frames_loan : taker.frames.ghost_name ≡ _ = took.frames_loan in
@@ -29,8 +29,8 @@ returns-clause-received c = λ given done is.
           let all = subst (λ (r : OctetReceiving). AreReceived r.config given (done ++ h.0) w.in-Ok.received)
           c.self.view_is there in
           let chosen = subst (λ (r : OctetReceiving). IsChosen r.config given
-          c.finish_in_order-ended.new.self.stages.inner.phased.chosen) c.self.view_is
-          (w.in-Ok.ensures.chosen given done stood going) in
+          c.end-ended.new.self.stages.inner.chosen) c.self.view_is
+          (w.in-Ok.ensures.finishes.chosen given done stood going) in
           let all_new = subst (λ (a : Collected). All a (collected taker) (items_of h.0)) c.over-taker.ensures.none
           took.all in
           let written = has-written c.args.frames.now c.args.reports.now taker (items_of h.0) all_new in
