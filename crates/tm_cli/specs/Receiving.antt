@@ -15,6 +15,10 @@ use Rattle.tm_viterbi.specs.WindowSizes.{stream_bound}
 use Rattle.tm_cli.specs.Taken.{no_counts, ReportedAll, handed_frames}
 use Rattle.tm_cli.specs.declared.counts.Counts.{Counts}
 
+-- it was opened for the workers of its configuration, and the last call was by all of them
+abbrev pub IsByAll : OctetReceiving → Type 0
+IsByAll receiver = receiver.by ≡ receiver.config.workers
+
 -- a receiver that was given these octets and no others, and what it has handed over, of which
 -- something holds
 pub record HandedDue (c : Configuration) (receiver : OctetReceiving) (took : List

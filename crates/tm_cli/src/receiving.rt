@@ -43,7 +43,7 @@ impl<'a, 'b, 'c, R: Threads + Sync, T: ItemTaker + ReportEnd> Feed for Receiving
     ghost use Rattle.std.proofs.Common.{◌∙◌, subst, sym, append_assoc};
     ghost use Rattle.std.proofs.lemmas.List.{append-nil};
     ghost use Rattle.tm_base.specs.Takers.{HandedOver, HandedPart};
-    ghost use Rattle.tm_cli.specs.Receiving.{HandedDue, HandedFirst, Receives, ReceivesPart, HandedLast, HandedLastPart};
+    ghost use Rattle.tm_cli.specs.Receiving.{HandedDue, HandedFirst, IsByAll, Receives, ReceivesPart, HandedLast, HandedLastPart};
     ghost use Rattle.tm_driver.specs.declared.ending.Outcome.TheVariants.{Done, Bad};
     ghost use Rattle.tm_driver.specs.declared.ending.Stop.TheVariants.{SinkFault};
 
@@ -65,13 +65,14 @@ impl<'a, 'b, 'c, R: Threads + Sync, T: ItemTaker + ReportEnd> Feed for Receiving
 
     ghost sinks = { λ a b has_failed. ⊤ };
 
-    ghost same = { λ a b. (b.receiver.ghost_name ≡ a.receiver.ghost_name) × (b.taker.ghost_name ≡ a.taker.ghost_name) };
+    ghost same = { λ a b. (b.receiver.ghost_name ≡ a.receiver.ghost_name) × (b.taker.ghost_name ≡ a.taker.ghost_name)
+        × (IsByAll a.receiver.now → IsByAll b.receiver.now) };
 
-    ghost is_ready = { λ r. IsSync R.row × (r.receiver.now.has_stopped ≡ false) };
+    ghost is_ready = { λ r. IsSync R.row × (r.receiver.now.has_stopped ≡ false) × IsByAll r.receiver.now };
 
-    ghost same_none = { λ a. (refl, refl) };
+    ghost same_none = { λ a. (refl, refl, λ all. all) };
 
-    ghost same_more = { λ a b c p q. (q.0 ∙ p.0, q.1 ∙ p.1) };
+    ghost same_more = { λ a b c p q. (q.0 ∙ p.0, q.1 ∙ p.1, λ all. q.2 (p.2 all)) };
 
     ghost fed_none = { λ a ready c start given. subst (HandedDue c a.receiver.now
         (λ handed. HandedOver (on_handed T.took_phase T.took) start handed a.taker.now)) (sym (append-nil given)) };

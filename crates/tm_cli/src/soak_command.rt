@@ -11,7 +11,7 @@ ghost use Rattle.tm_channel.specs.Items.{ItemValue};
 ghost use Rattle.tm_channel.specs.OctetReceiving.{ReceiverStandsFor};
 ghost use Rattle.tm_cli.specs.Generated.{generated};
 ghost use Rattle.tm_cli.specs.HeldSymbols.{unit_room};
-ghost use Rattle.tm_cli.specs.Receiving.{HandedDue};
+ghost use Rattle.tm_cli.specs.Receiving.{HandedDue, IsByAll};
 ghost use Rattle.tm_cli.specs.Soak.{soak_meaning, soak_refusal, CountedHanded, counts_of};
 ghost use Rattle.tm_cli.specs.Taken.{no_counts};
 ghost use Rattle.tm_cli.specs.declared.counts.Counts.{Counts};
@@ -76,6 +76,7 @@ fn pass_unit<R: Threads + Sync>(
     ensures stands { (given : List ℕ) → InnerSenderStandsFor sender.old given
         → InnerSenderStandsFor sender.new (given ++ unit.now) }
     ensures ready { receiver.new.has_stopped ≡ false }
+    ensures by { IsByAll receiver.new }
     ensures handed { (c : Configuration) (start : Counts) (given : List ℕ) → InnerSenderStandsFor sender.old given
         → HandedDue c receiver.old
         (λ handed. HandedOver CountedHanded start handed counts.old) (symbols_of_octets sender.old.config given)
@@ -102,11 +103,13 @@ fn pass_frames<R: Threads + Sync>(
 ) -> Counts
     requires hits { hits ≤ 2 * correctable config.now.code }
     requires ready { receiver.old.has_stopped ≡ false }
+    requires by { IsByAll receiver.old }
     requires config { receiver.old.config ≡ config.now }
     requires new { ReceiverStandsFor receiver.old [] [] }
     ensures accepted { IsAccepted config.now }
     ensures few { length (generated config.now seed frames hits) ≤ unit_room * frames }
     ensures ready { receiver.new.has_stopped ≡ false }
+    ensures by { IsByAll receiver.new }
     ensures handed { HandedDue config.now receiver.new
         (λ handed. HandedOver CountedHanded no_counts handed result) (generated config.now seed frames hits) }
 {
@@ -134,9 +137,11 @@ fn count_frames<R: Threads + Sync>(
 ) -> (Counts, Totals)
     requires accepted { soak_refusal config.now seed frames hits ≡ None }
     requires ready { receiver.old.has_stopped ≡ false }
+    requires by { IsByAll receiver.old }
     requires config { receiver.old.config ≡ config.now }
     requires new { ReceiverStandsFor receiver.old [] [] }
     ensures accepted { IsAccepted config.now }
+    ensures by { IsByAll receiver.new }
     ensures counted { (handed : List (Handed ItemValue))
         × AreReceived config.now (generated config.now seed frames hits) handed result.1
         × (result.0 ≡ counts_of (items_of handed)) }

@@ -14,6 +14,6 @@ returns-clause-counted g c =
     let accepted = c.requires.accepted in
     let frames : c.args.frames ≤ 1000000 = grind (arith, nat_tests) in
     let sent = generated c.args.config.now c.args.seed c.args.frames c.args.hits in
-    let last = IfOk-at_ok _ c.unwrap-totals.ensures c.finish.ensures.handed in
+    let last = IfOk-at_ok _ c.unwrap-totals.ensures c.finish.ensures.finishes.handed in
     all-counted c.args.config.now pass.new.receiver pass.result c.finish.new.taker sent last.0 c.unwrap-totals.result
     (omega (arith, frames, pass.ensures.few)) pass.ensures.handed last.1 last.2

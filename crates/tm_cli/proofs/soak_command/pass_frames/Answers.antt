@@ -28,6 +28,7 @@ loop-frame-init g c =
           (sym (units-none config c.args.hits start)) c.new-sender.ensures.stands;
       few = omega (arith, ap length (units-none config c.args.hits start));
       ready = c.requires.ready;
+      by = c.requires.by;
       handed =
           subst (λ (k : Counts). HandedDue config c.args.receiver.now
           (λ handed. HandedOver CountedHanded no_counts handed k)
@@ -74,6 +75,7 @@ loop-frame-preserved g c =
           (pass.ensures.stands (generated_units config frame hits start) was.stands);
       few = units-long config frame hits start here.draws made.new.unit was.draws made.ensures.unit small was.few;
       ready = pass.ensures.ready;
+      by = pass.ensures.by;
       handed =
           handed-more config hits frame start here.draws here.sender here.receiver pass.new.receiver here.counts
           pass.new.counts made.new.unit was.config was.draws made.ensures.unit was.handed

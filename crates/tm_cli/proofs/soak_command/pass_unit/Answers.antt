@@ -14,8 +14,8 @@ returns-clause-handed g c = λ config start given stands was.
     let push = c.push-sent in
     let feed = c.feed in
     let sent = IfOk-at_ok _ c.unwrap.ensures push.ensures.sent in
-    let handed = IfOk-at_ok _ c.unwrap-2.ensures feed.ensures.handed in
+    let handed = IfOk-at_ok _ c.unwrap-2.ensures feed.ensures.feeds.handed in
     unit-received config c.args.sender.now push.new.self c.args.receiver.now feed.new.self start c.args.counts.now
     feed.new.taker given c.args.unit.now c.octets-octets.result.now
     c.new-symbols.result push.new.out handed.0 c.new-symbols.ensures c.octets-octets.ensures.octets sent stands
-    feed.ensures.config handed.1 handed.2 was
+    feed.ensures.feeds.config handed.1 handed.2 was
