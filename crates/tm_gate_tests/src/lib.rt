@@ -10,5 +10,3 @@ mod draws;
 mod gates;
 #[cfg(test)]
 mod shares;
-#[cfg(test)]
-mod windows;
