@@ -1,7 +1,7 @@
 #!/usr/bin/env python3
 """Certificates of the soft decoder, written and read by a plain program that shares nothing with the codec: the answers of its tests.
 
-    tests/certificates.py draw COUNT                            so many soft octets (form u8) that are drawn, often some at which symbols tie
+    tests/certificates.py draw COUNT                            COUNT soft octets (form u8) that are drawn, often some at which symbols tie
     tests/certificates.py write RATE INVERT START KEEP AHEAD    soft octets on standard input, their certificate on standard output
     tests/certificates.py check RATE INVERT START KEEP AHEAD    a certificate on standard input, what `check` says of it on standard output
     tests/certificates.py sweep RATE INVERT START KEEP AHEAD STEP   a certificate with the lowest bit of an octet changed in turn, of each one before the columns of a

@@ -208,7 +208,7 @@ def named_words(e):
 
 
 def drawn_word(draws, e, n, wrong, erased):
-    """A codeword with so many wrong symbols outside its erased places, of which about half have other symbols too."""
+    """A codeword with that many wrong symbols outside its erased places, of which about half have other symbols too."""
     word = encode(e, [draws.below(256) for _ in range(n - 2 * e)])
     places = draws.places(n, wrong + erased)
     for i in places[:wrong]:

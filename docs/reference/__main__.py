@@ -1,6 +1,6 @@
 """tmchan again, to be read beside CCSDS 131.0-B and docs/FORMAT.md: plain, slow, the standard
 library alone. `python3 docs/reference decode --depth 5 < symbols > frames` answers as the program
-does. Faults of reading and writing (statuses 3 and 4) and want of memory (5) are left out.
+does. Faults of reading and writing (statuses 3 and 4) and out of memory (5) are left out.
 
 Each command that reads answers output, notes and status for the octets of its input. Where the
 input goes on after these, past the limit (`ended` is False), it answers what is due for them."""

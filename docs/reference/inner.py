@@ -80,7 +80,7 @@ def traceback(columns, steps, first, c):
     return passed
 
 def path_costs(octets, first, count, c):
-    """What the best path costs over so many steps from octet k on, for each k below a period."""
+    """What the best path costs over that many steps from octet k on, for each k below a period."""
     return [min(path_metrics(cut_steps(octets[k:], c, first, count)[0], first, range(64), c)[-1])
             for k in range(period(c))]
 

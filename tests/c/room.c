@@ -18,7 +18,7 @@ static void expect(int right, const char *what, size_t length) {
     fprintf(stderr, "%s, length %zu\n", what, length);
 }
 
-/* An array of so many octets, and octets after it that no call may write. */
+/* An array of `length` octets, and octets after it that no call may write. */
 static void *guarded(size_t length) {
     void *made = malloc(length + GUARD);
     if (!made) exit(2);
