@@ -1,13 +1,12 @@
 -- Steps one after the other, and sums less a base.
 use Rattle.std.proofs.Common.{◌≡◌, ℕ, zero, suc, ◌+◌, ◌-◌, ◌*◌, ◌/◌, ◌%◌, ◌<◌, ◌≤◌, ◌∙◌, sym, ap, subst, refl, arith, length, get_or, List, [], ◌∷◌, ◌++◌, min, cond, ltb, Bool, append_assoc, length-append, length-drop, take, drop, set}
-use Rattle.std.proofs.lemmas.List.{reverse-append, append-nil, length-take-le, take_more_set, ext_get_or, take_all, take-append-drop}
+use Rattle.std.proofs.lemmas.List.{reverse-append, append-nil, length-take-le, take_more_set, ext_get_or, take_all}
 use Rattle.std.proofs.lemmas.Slice.{take-put_mid}
 use borrow.Rule.Slice.PartMut.{put_mid, same_len_mid}
 use Rattle.std.proofs.Math.Seq.{take-add}
 use Rattle.std.proofs.lemmas.Bool.Decides.{nat_tests}
 use mathlib.Core.List.{reverse}
 use Rattle.tm_conv.specs.declared.rates.Rate.{Rate}
-use Rattle.tm_conv.specs.declared.rates.Rate.TheVariants.{R12}
 use Rattle.tm_conv.specs.Path.{c1, c2, step_size, steps_size}
 use Rattle.tm_viterbi.specs.Walk.{AreBest}
 use Rattle.tm_viterbi.specs.AddCompareSelect.{IsNextSums, first_metric, second_metric}
@@ -16,7 +15,7 @@ use Rattle.tm_viterbi.proofs.Walk.{AreBest-more}
 use Rattle.tm_viterbi.proofs.Totals.{Grows-total_of}
 use Rattle.tm_conv.proofs.Paths.{steps_size-more, steps_size-zero}
 use Rattle.tm_viterbi.specs.Carries.{Carries, lifted}
-use Rattle.tm_conv.proofs.Sizes.{steps_size-add, steps_size-le, step_size-is}
+use Rattle.tm_conv.proofs.Sizes.{steps_size-add, steps_size-le}
 
 pub Carries-none : (rate : Rate) (invert : Bool) (t : ℕ) (sums : List ℕ) → Carries rate invert t [] sums sums []
 Carries-none rate invert t sums = record {
@@ -246,27 +245,18 @@ pub length-mid : (a k : ℕ) (xs ys : List ℕ) → a + k ≤ length xs → leng
 length-mid a k xs ys le e =
     same_len_mid a k xs ys (e ∙ sym (length-take-le k (drop a xs) (omega (arith, length-drop a xs))))
 
--- ---- rate 1/2
-
-pub half_step : (t : ℕ) → step_size R12 t ≡ 2
-half_step t = let e : t % 1 ≡ 0 = omega arith in step_size-is R12 t ∙ ap (λ k. 2 - min 1 k) e
-
-pub half_steps : (t n : ℕ) → steps_size R12 t n ≡ 2 * n
-half_steps t zero = steps_size-zero R12 t
-half_steps t (suc n) =
-    let e : n + 1 ≡ suc n = omega arith in
-    ap (steps_size R12 t) (sym e) ∙ steps_size-more R12 t n ∙ omega (arith, half_steps t n, half_step (t + n))
-
 -- two steps from the octets of both
-pub Carries-two : (invert : Bool) (t one two : ℕ) (octets sums between next : List ℕ) → length octets ≡ 4
-    → StepsTo R12 invert t (take 2 octets) sums between one
-    → StepsTo R12 invert (t + 1) (drop 2 octets) between next two
-    → Carries R12 invert t octets sums next (one ∷ two ∷ [])
-Carries-two invert t one two octets sums between next long a b =
-    let first : length (take 2 octets) ≡ step_size R12 t =
-    length-take-le 2 octets (omega arith) ∙ sym (half_step t) in
-    let second : length (drop 2 octets) ≡ step_size R12 (t + 1) =
-    length-drop 2 octets ∙ omega arith ∙ sym (half_step (t + 1)) in
-    subst (λ (v : List ℕ). Carries R12 invert t v sums next (one ∷ two ∷ [])) (take-append-drop 2 octets)
-    (Carries-more R12 invert t two (take 2 octets) (drop 2 octets) sums between next (one ∷ [])
-    (Carries-one R12 invert t one (take 2 octets) sums between first a) second b)
+pub Carries-two : (rate : Rate) (invert : Bool) (t one two : ℕ) (octets sums between next : List ℕ)
+    → step_size rate t + step_size rate (t + 1) ≤ length octets
+    → StepsTo rate invert t (take (step_size rate t) octets) sums between one
+    → StepsTo rate invert (t + 1) (take (step_size rate (t + 1)) (drop (step_size rate t) octets)) between next two
+    → Carries rate invert t (take (step_size rate t + step_size rate (t + 1)) octets) sums next (one ∷ two ∷ [])
+Carries-two rate invert t one two octets sums between next fits a b =
+    let n = step_size rate t in
+    let m = step_size rate (t + 1) in
+    let first : length (take n octets) ≡ n = length-take-le n octets (omega arith) in
+    let second : length (take m (drop n octets)) ≡ m =
+    length-take-le m (drop n octets) (omega (arith, length-drop n octets)) in
+    subst (λ (v : List ℕ). Carries rate invert t v sums next (one ∷ two ∷ [])) (sym (take-add n m octets))
+    (Carries-more rate invert t two (take n octets) (take m (drop n octets)) sums between next (one ∷ [])
+    (Carries-one rate invert t one (take n octets) sums between first a) second b)

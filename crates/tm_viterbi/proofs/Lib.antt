@@ -4,6 +4,7 @@ mod Walk
 mod Totals
 mod Final
 mod BranchMetrics
+mod StepPairs
 mod Vectors
 mod Places
 mod Butterfly

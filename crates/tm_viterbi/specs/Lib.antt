@@ -6,7 +6,7 @@ pub mod Blocks
 pub mod Due
 pub mod Clean
 pub mod AddCompareSelect
-pub mod Masks
+pub mod StepPairs
 pub mod Walk
 pub mod Totals
 pub mod Carries

@@ -3,7 +3,6 @@ ghost use Rattle.std.specs.Prelude.{◌≡◌, IsTrue, Bool, ℕ, ◌+◌, ◌-�
 ghost use Rattle.tm_conv.specs.Path.{sent_c2, step_size};
 ghost use Rattle.tm_conv.specs.Cost.{distance, greatest_octet, most_branch_metric};
 ghost use Rattle.tm_viterbi.specs.Totals.{AreBranchMetrics};
-ghost use Rattle.tm_viterbi.specs.Masks.{two_step_masks};
 
 use std::simd::prelude::*;
 use tm_conv::{Rate, kept};
@@ -67,40 +66,4 @@ pub(crate) fn wide_metrics(metrics: Simd<u16, 4>) -> [u32; 4]
         u32::from(each[2]),
         u32::from(each[3]),
     ]
-}
-
-// What the lanes of `two_step_metrics` are xored with. An octet is its own distance from a 0, and complemented its
-// distance from a 1; c2 may be sent inverted.
-pub(crate) fn two_step_masks(invert: bool) -> Simd<u8, 16>
-    ensures { result ≡ two_step_masks invert }
-{
-    if invert {
-        u8x16::from_array([
-            0, 0, 255, 255, 0, 0, 255, 255, 255, 0, 255, 0, 255, 0, 255, 0,
-        ])
-    } else {
-        u8x16::from_array([
-            0, 0, 255, 255, 0, 0, 255, 255, 0, 255, 0, 255, 0, 255, 0, 255,
-        ])
-    }
-}
-
-// The octets of c1 of two steps, and then those of c2, each once for each of its step's four pairs.
-const FOUR_TIMES: [usize; 16] = [0, 0, 0, 0, 2, 2, 2, 2, 1, 1, 1, 1, 3, 3, 3, 3];
-
-// The branch metrics of two steps at rate 1/2, where each sends both sums.
-pub(crate) fn two_step_metrics(masks: Simd<u8, 16>, octets: &[u8]) -> (Simd<u16, 4>, Simd<u16, 4>)
-    requires { length octets.now ≡ 4 }
-    ensures first { (invert : Bool) (t : ℕ) → masks ≡ two_step_masks invert
-        → AreBranchMetrics Rate.R12 invert t (take 2 octets.now) result.0 }
-    ensures second { (invert : Bool) (t : ℕ) → masks ≡ two_step_masks invert
-        → AreBranchMetrics Rate.R12 invert t (drop 2 octets.now) result.1 }
-    ensures first_small { (k : ℕ) → k < 4 → slice_index result.0 k ≤ most_branch_metric }
-    ensures second_small { (k : ℕ) → k < 4 → slice_index result.1 k ≤ most_branch_metric }
-{
-    let each = u8x4::from_slice(octets).swizzle(FOUR_TIMES) ^ masks;
-    let firsts = each.extract::<0, 8>().cast::<u16>();
-    let seconds = each.extract::<8, 8>().cast::<u16>();
-    let metrics = firsts.strict_add(seconds);
-    (metrics.extract::<0, 4>(), metrics.extract::<4, 4>())
 }

@@ -15,6 +15,7 @@ mod narrow_sums;
 mod path_cost;
 mod path_ends;
 mod plain;
+mod step_pairs;
 mod sums;
 mod traceback;
 mod window_decoder;

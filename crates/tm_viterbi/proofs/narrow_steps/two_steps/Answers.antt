@@ -1,7 +1,9 @@
-use Rattle.std.proofs.Common.{◌≡◌, ◌<◌, ◌≤◌, ◌+◌, ◌-◌, ◌^◌, ◌++◌, ℕ, List, get_or, arith, length, length-append}
-use Rattle.tm_conv.specs.declared.rates.Rate.TheVariants.{R12}
+use Rattle.std.proofs.Common.{◌≡◌, ◌<◌, ◌≤◌, ◌+◌, ◌-◌, ◌^◌, ◌++◌, [], ◌∷◌, ℕ, List, get_or, arith, length, length-append, sym, subst, take}
+use Rattle.tm_conv.specs.declared.rates.Rate.{Rate}
+use Rattle.tm_conv.specs.Path.{step_size}
+use Rattle.tm_conv.proofs.Sizes.{step_size-is}
 use Rattle.tm_viterbi.specs.Totals.{AreAtMost}
-use Rattle.tm_viterbi.specs.Carries.{lifted}
+use Rattle.tm_viterbi.specs.Carries.{Carries, lifted}
 use Rattle.tm_viterbi.proofs.Carrying.{at_most_next, Carries-two, StepsTo-lifted}
 use Rattle.tm_viterbi.proofs.narrow_steps.two_steps.Goals as goal
 
@@ -11,18 +13,26 @@ fits sums metrics room small s k sl kl = omega (arith, room s sl, small k kl)
 
 pub narrow_metrics-first-requires-clause-fits : goal.narrow_metrics-first-requires-clause-fits
 narrow_metrics-first-requires-clause-fits c =
-    fits (c.args.low ++ c.args.high) c.two_step_metrics.result.0 (λ s lt. omega (arith, c.requires.room s lt))
-    c.two_step_metrics.ensures.first_small
+    fits (c.args.low ++ c.args.high) c.pair_metrics.result.0 (λ s lt. omega (arith, c.requires.room s lt))
+    c.pair_metrics.ensures.first_small
 
 pub narrow_metrics-second-requires-clause-fits : goal.narrow_metrics-second-requires-clause-fits
 narrow_metrics-second-requires-clause-fits c =
     let between = c.narrow_metrics-first.result.0 ++ c.narrow_metrics-first.result.1 in
-    let room = at_most_next (c.args.low ++ c.args.high) c.two_step_metrics.result.0 between (2 ^ 16 - 1021)
-    c.narrow_metrics-first.ensures.sums c.requires.room c.two_step_metrics.ensures.first_small in
-    fits between c.two_step_metrics.result.1 (λ s lt. omega (arith, room s lt)) c.two_step_metrics.ensures.second_small
+    let room = at_most_next (c.args.low ++ c.args.high) c.pair_metrics.result.0 between (2 ^ 16 - 1021)
+    c.narrow_metrics-first.ensures.sums c.requires.room c.pair_metrics.ensures.first_small in
+    fits between c.pair_metrics.result.1 (λ s lt. omega (arith, room s lt)) c.pair_metrics.ensures.second_small
+
+-- two steps send at most four symbols
+few : (rate : Rate) (t len : ℕ) → len ≡ 4 → step_size rate t + step_size rate (t + 1) ≤ len
+few rate t len e = omega (arith, step_size-is rate t, step_size-is rate (t + 1))
 
 pub returns-clause-carries : goal.returns-clause-carries
-returns-clause-carries c invert t base e =
+returns-clause-carries c base =
+    let rate = c.args.rate in
+    let invert = c.args.invert in
+    let t = c.args.t in
+    let octets = c.args.octets.now in
     let before = c.args.low ++ c.args.high in
     let between = c.narrow_metrics-first.result.0 ++ c.narrow_metrics-first.result.1 in
     let next = c.narrow_metrics-second.result.0 ++ c.narrow_metrics-second.result.1 in
@@ -37,29 +47,31 @@ returns-clause-carries c invert t base e =
       length-append c.narrow_metrics-second.result.0 c.narrow_metrics-second.result.1,
       c.narrow_metrics-second.ensures.long,
     ) in
-    Carries-two invert t _ _ c.args.octets.now (lifted base before) (lifted base between)
-    (lifted base next) c.requires.size
-    (StepsTo-lifted R12 invert t base _ _ before between lb lm (record {
-      metrics = c.two_step_metrics.result.0;
-      are_branch_metrics = c.two_step_metrics.ensures.first invert t e;
+    subst (λ (n : ℕ). Carries rate invert t (take n octets) (lifted base before) (lifted base next)
+    (c.narrow_metrics-first.result.2 ∷ c.narrow_metrics-second.result.2 ∷ [])) (sym c.requires.pair.size)
+    (Carries-two rate invert t _ _ octets (lifted base before) (lifted base between)
+    (lifted base next) (few rate t (length octets) c.requires.size)
+    (StepsTo-lifted rate invert t base _ _ before between lb lm (record {
+      metrics = c.pair_metrics.result.0;
+      are_branch_metrics = c.pair_metrics.ensures.first;
       are_sums = c.narrow_metrics-first.ensures.sums;
       are_survivors = c.narrow_metrics-first.ensures.survivors;
     }))
-    (StepsTo-lifted R12 invert (t + 1) base _ _ between next lm ln (record {
-      metrics = c.two_step_metrics.result.1;
-      are_branch_metrics = c.two_step_metrics.ensures.second invert (t + 1) e;
+    (StepsTo-lifted rate invert (t + 1) base _ _ between next lm ln (record {
+      metrics = c.pair_metrics.result.1;
+      are_branch_metrics = c.pair_metrics.ensures.second;
       are_sums = c.narrow_metrics-second.ensures.sums;
       are_survivors = c.narrow_metrics-second.ensures.survivors;
-    }))
+    })))
 
 pub returns-clause-bounded : goal.returns-clause-bounded
 returns-clause-bounded c m h s lt =
     let between = c.narrow_metrics-first.result.0 ++ c.narrow_metrics-first.result.1 in
     let next = c.narrow_metrics-second.result.0 ++ c.narrow_metrics-second.result.1 in
-    let first = at_most_next (c.args.low ++ c.args.high) c.two_step_metrics.result.0 between m
-    c.narrow_metrics-first.ensures.sums h c.two_step_metrics.ensures.first_small in
+    let first = at_most_next (c.args.low ++ c.args.high) c.pair_metrics.result.0 between m
+    c.narrow_metrics-first.ensures.sums h c.pair_metrics.ensures.first_small in
     omega (
       arith,
-      at_most_next between c.two_step_metrics.result.1 next (m + 510) c.narrow_metrics-second.ensures.sums first
-          c.two_step_metrics.ensures.second_small s lt,
+      at_most_next between c.pair_metrics.result.1 next (m + 510) c.narrow_metrics-second.ensures.sums first
+          c.pair_metrics.ensures.second_small s lt,
     )
