@@ -69,7 +69,7 @@ pub some_start : (starts : Option ℕ) → ForSome starts (λ register. register
 some_start None are = (0, omega arith, refl)
 some_start (Some register) are = (register, are register refl, grind (arith, nat_tests))
 
-first_cost-start : (starts : ℕ → Bool) (register : ℕ) → IsTrue (starts register) → first_cost starts register ≡ 0
+pub first_cost-start : (starts : ℕ → Bool) (register : ℕ) → IsTrue (starts register) → first_cost starts register ≡ 0
 first_cost-start starts register is = ap (λ (v : Bool). cond v 0 (2 ^ 30)) is
 
 -- a first sum below the penalty is that of a start

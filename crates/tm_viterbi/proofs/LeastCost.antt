@@ -5,7 +5,7 @@ use Rattle.std.proofs.Math.Seq.{take-add}
 use Rattle.tm_conv.specs.declared.rates.Rate.{Rate}
 use Rattle.tm_conv.specs.Path.{steps_size, step_size}
 use Rattle.tm_conv.proofs.Paths.{steps_size-more}
-use Rattle.tm_conv.proofs.Sizes.{step_size_pos, steps_size-le}
+use Rattle.tm_conv.proofs.Sizes.{step_size_pos, steps_size-le, steps_size-most}
 
 -- fewer symbols are fewer steps
 pub steps_le : (rate : Rate) (t a b : ℕ) → steps_size rate t a ≤ steps_size rate t b → a ≤ b
@@ -19,6 +19,10 @@ steps_le rate t a b le = elim (cases_lt b a) as (λ _. a ≤ b) [
     steps_size-le rate t (b + 1) a (omega arith),
   ))
 ]
+
+-- octets of at most so many steps
+pub few_octets : (rate : Rate) (t steps size : ℕ) → steps ≤ 69632 → size ≡ steps_size rate t steps → size ≤ 139264
+few_octets rate t steps size few is = omega (arith, is, steps_size-most rate t steps)
 
 -- where octets are left of whole steps, the next step is whole
 pub step_left : (rate : Rate) (t done n at size : ℕ) → size ≡ steps_size rate t n → at ≡ steps_size rate t done

@@ -17,6 +17,7 @@ mod LeastTotals
 pub mod Closing
 pub mod WholeBlocks
 pub mod LeastCost
+pub mod Distances
 pub mod OneList
 pub mod CleanBlocks
 pub mod HasBlocks

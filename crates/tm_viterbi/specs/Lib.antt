@@ -1,5 +1,6 @@
 pub mod WindowSizes
 pub mod Starts
+pub mod Distances
 pub mod Settings
 pub mod WindowBlock
 pub mod Blocks

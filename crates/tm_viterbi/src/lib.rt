@@ -24,7 +24,7 @@ pub use block::{Block, BlockTaker, Start, first_start};
 pub use clean_laws::{clean_blocks_law, closed_windows_law, complemented_blocks_law};
 pub use lanes::lane_column;
 pub use laws::{due_law, one_list_law};
-pub use path_cost::{least_cost, least_cost_from};
+pub use path_cost::{least_cost, least_cost_below, least_cost_from, least_distances};
 pub use plain::plain_column;
 pub use sums::Sums;
 pub use window_decoder::{BestPath, WindowDecoder, WindowShape};
