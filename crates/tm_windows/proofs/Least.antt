@@ -1,8 +1,8 @@
 -- The first of least cost, as one candidate more is tried.
-use Rattle.std.proofs.Common.{◌≡◌, ℕ, zero, suc, ◌+◌, ◌<◌, ◌≤◌, subst, arith, inl, inr, Bool, List}
+use Rattle.std.proofs.Common.{◌≡◌, ℕ, zero, suc, ◌+◌, ◌<◌, ◌≤◌, ◌∙◌, refl, sym, subst, arith, inl, inr, Bool, List}
 use Rattle.std.proofs.lemmas.Bool.{cases_lt, cases_order}
 use Rattle.tm_conv.specs.declared.rates.Rate.{Rate}
-use Rattle.tm_windows.specs.Phase.{IsCostAt, IsFirstLeast}
+use Rattle.tm_windows.specs.Phase.{IsCostAt, IsFirstLeast, IsCostAfter}
 
 -- each number has at most one cost
 abbrev pub HasOne : (ℕ → ℕ → Type 0) → Type 0
@@ -109,3 +109,38 @@ IsFirstLeast-same IsCost IsOther count number amount to from h = record {
   least = λ other more lt cost. h.least other more lt (from other more lt cost);
   first = λ other more lt cost. h.first other more lt (from other more (omega (arith, h.below)) cost);
 }
+
+-- ---- where 0 has a cost of its own
+
+pub IsCostAfter-one : (low : ℕ) (IsCost : ℕ → ℕ → Type 0) → HasOne IsCost → HasOne (IsCostAfter low IsCost)
+IsCostAfter-one low IsCost one zero amount more a b = a ∙ sym b
+IsCostAfter-one low IsCost one (suc number) amount more a b = one (suc number) amount more a b
+
+pub IsCostAfter-later : (low : ℕ) (IsCost : ℕ → ℕ → Type 0) (number amount : ℕ) → 0 < number → IsCost number amount
+    → IsCostAfter low IsCost number amount
+IsCostAfter-later low IsCost zero amount some is = absurd (omega (arith, some))
+IsCostAfter-later low IsCost (suc number) amount some is = is
+
+pub IsCostAfter-all : (first : ℕ) (IsCost : ℕ → ℕ → Type 0) (number amount : ℕ) → IsCost 0 first
+    → IsCostAfter first IsCost number amount → IsCost number amount
+IsCostAfter-all first IsCost zero amount is after = subst (IsCost 0) (sym after) is
+IsCostAfter-all first IsCost (suc number) amount is after = after
+
+-- the first of least cost is that of all, where what 0 costs is no less
+pub IsFirstLeast-all : (IsCost : ℕ → ℕ → Type 0) → HasOne IsCost → (count number amount low first : ℕ)
+    → IsCost 0 first → low ≤ first → IsCost number amount
+    → IsFirstLeast (IsCostAfter low IsCost) count number amount → IsFirstLeast IsCost count number amount
+IsFirstLeast-all IsCost one count number amount low first here le is h = record {
+  below = h.below;
+  is = is;
+  least = least;
+  first = before;
+}
+  where
+    least : (other more : ℕ) → other < count → IsCost other more → amount ≤ more
+    least zero more lt cost = omega (arith, h.least 0 low lt refl, le, one 0 first more here cost)
+    least (suc other) more lt cost = h.least (suc other) more lt cost
+
+    before : (other more : ℕ) → other < number → IsCost other more → amount < more
+    before zero more lt cost = omega (arith, h.first 0 low lt refl, le, one 0 first more here cost)
+    before (suc other) more lt cost = h.first (suc other) more lt cost

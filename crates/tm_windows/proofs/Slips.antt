@@ -1,5 +1,5 @@
 -- Octets have one slip, and undisturbed symbols none.
-use Rattle.std.proofs.Common.{◌≡◌, ℕ, ◌-◌, ◌<◌, ◌≤◌, ◌∙◌, refl, sym, subst, ap, arith, inl, inr, Bool, None, List, ◌++◌, length, take}
+use Rattle.std.proofs.Common.{◌≡◌, ℕ, zero, suc, ◌+◌, ◌-◌, ◌*◌, ◌/◌, ◌<◌, ◌≤◌, ◌∙◌, min, refl, sym, subst, ap, arith, inl, inr, Bool, None, List, ◌++◌, length, take}
 use Rattle.std.proofs.lemmas.Bool.{cases_lt}
 use Rattle.std.proofs.lemmas.Bool.Decides.{nat_tests}
 use Rattle.std.proofs.lemmas.List.Elements.{All-take}
@@ -9,11 +9,13 @@ use Rattle.tm_conv.specs.Cost.{cost, sure}
 use Rattle.tm_conv.specs.Best.{IsBest, IsCandidate}
 use Rattle.tm_conv.proofs.Clean.{cost-sure, length-sure}
 use Rattle.tm_viterbi.specs.Starts.{starts_from}
+use Rattle.tm_viterbi.specs.Distances.{least_distances}
+use Rattle.tm_viterbi.proofs.Distances.{least_distances-part}
 use Rattle.tm_viterbi.proofs.CleanBlocks.{prefix-octets}
 use Rattle.tm_viterbi.proofs.HasBlocks.{HasBest}
-use Rattle.tm_windows.specs.Phase.{period_size, octets_at, IsCostAt}
+use Rattle.tm_windows.specs.Phase.{period_size, octets_at, IsCostAt, IsFirstLeast, IsCostAfter}
 use Rattle.tm_windows.specs.Slip.{octets_seen, excess, decided, IsSlip}
-use Rattle.tm_windows.proofs.Least.{IsCostAt-one, IsFirstLeast-one}
+use Rattle.tm_windows.proofs.Least.{IsCostAt-one, IsFirstLeast-one, IsFirstLeast-all, IsCostAfter-later}
 use Rattle.tm_windows.proofs.Phases.{period_size-is, octets_at-prefix, FirstLeast-exists, IsCostAt-exists, IsCostAt-prefix, IsFirstLeast-prefix}
 
 pub IsSlip-exists : HasBest → (rate : Rate) (invert : Bool) (t steps : ℕ) (octets : List ℕ)
@@ -48,6 +50,90 @@ IsSlip-one rate invert t steps octets slip other a b =
     (excess unmoved (octets_at rate t steps octets 0)) in
     a.is ∙ (λ i. chosen (found.0 i) (found.1 i) (unmoved i)) ∙ sym b.is
 
+-- ---- candidates that can neither be taken nor stand in the way
+
+decided-not : (number moved unmoved : ℕ) → 3 * unmoved ≤ 4 * moved → decided number moved unmoved ≡ 0
+decided-not number moved unmoved much = grind (arith, nat_tests)
+
+decided-none : (moved unmoved : ℕ) → decided 0 moved unmoved ≡ 0
+decided-none moved unmoved = grind (arith, nat_tests)
+
+-- nothing is dropped, where the first of least cost has too great an excess, or is 0
+none_dropped : HasBest → (rate : Rate) (invert : Bool) (t steps : ℕ) (octets : List ℕ) (unmoved : ℕ)
+    → octets_seen rate t steps ≤ length octets → IsCostAt rate invert t steps octets 0 unmoved
+    → ((number amount : ℕ) → 0 < number
+    → IsFirstLeast (IsCostAt rate invert t steps octets) (period_size rate) number amount
+    → 3 * excess unmoved (octets_at rate t steps octets 0) ≤ 4 * excess amount (octets_at rate t steps octets number))
+    → IsSlip rate invert t steps octets 0
+none_dropped best rate invert t steps octets unmoved many is much =
+    let first = FirstLeast-exists best rate invert t steps octets (omega (arith, many)) in
+    let still = excess unmoved (octets_at rate t steps octets 0) in
+    record {
+      number = first.0;
+      amount = first.1;
+      least = first.2;
+      unmoved = unmoved;
+      is_cost = is;
+      is = sym (nothing first.0 first.1 first.2);
+    }
+  where
+    nothing : (number amount : ℕ)
+        → IsFirstLeast (IsCostAt rate invert t steps octets) (period_size rate) number amount
+        → decided number (excess amount (octets_at rate t steps octets number))
+        (excess unmoved (octets_at rate t steps octets 0)) ≡ 0
+    nothing zero amount h =
+        decided-none (excess amount (octets_at rate t steps octets 0)) (excess unmoved (octets_at rate t steps octets 0))
+    nothing (suc number) amount h =
+        decided-not (suc number) (excess amount (octets_at rate t steps octets (suc number)))
+        (excess unmoved (octets_at rate t steps octets 0)) (much (suc number) amount (omega arith) h)
+
+pub IsSlip-undisturbed : HasBest → (rate : Rate) (invert : Bool) (t steps : ℕ) (octets : List ℕ) (unmoved : ℕ)
+    → octets_seen rate t steps ≤ length octets → IsCostAt rate invert t steps octets 0 unmoved
+    → excess unmoved (octets_at rate t steps octets 0) ≡ 0 → IsSlip rate invert t steps octets 0
+IsSlip-undisturbed best rate invert t steps octets unmoved many is free =
+    none_dropped best rate invert t steps octets unmoved many is (λ number amount some h. omega (arith, free))
+
+-- so it is enough to know the costs below what one that is taken costs less than
+pub IsSlip-below : HasBest → (rate : Rate) (invert : Bool) (t steps : ℕ) (octets : List ℕ)
+    (number amount unmoved bound : ℕ) → octets_seen rate t steps ≤ length octets
+    → IsCostAt rate invert t steps octets 0 unmoved
+    → bound ≡ least_distances (take (octets_seen rate t steps) octets)
+    + (3 * excess unmoved (octets_at rate t steps octets 0) + 3) / 4
+    → IsFirstLeast (IsCostAfter (min unmoved bound) (IsCostAt rate invert t steps octets)) (period_size rate) number
+    amount
+    → IsSlip rate invert t steps octets
+    (decided number (excess amount (octets_at rate t steps octets number))
+    (excess unmoved (octets_at rate t steps octets 0)))
+IsSlip-below best rate invert t steps octets zero amount unmoved bound many is same h =
+    let still = excess unmoved (octets_at rate t steps octets 0) in
+    subst (IsSlip rate invert t steps octets)
+    (sym (decided-none (excess amount (octets_at rate t steps octets 0)) still))
+    (none_dropped best rate invert t steps octets unmoved many is
+    (λ number more some first.
+    let lower = h.least number more first.below
+    (IsCostAfter-later (min unmoved bound) (IsCostAt rate invert t steps octets) number more some first.is) in
+    omega (
+      arith,
+      h.is,
+      lower,
+      first.first 0 unmoved some is,
+      same,
+      least_distances-part number (steps_size rate t steps) (octets_seen rate t steps) octets
+          (omega (arith, first.below)),
+    )))
+IsSlip-below best rate invert t steps octets (suc number) amount unmoved bound many is same h = record {
+  number = suc number;
+  amount = amount;
+  least =
+      IsFirstLeast-all (IsCostAt rate invert t steps octets) (IsCostAt-one rate invert t steps octets)
+      (period_size rate) (suc number) amount (min unmoved bound) unmoved is (omega arith) h.is h;
+  unmoved = unmoved;
+  is_cost = is;
+  is = refl;
+}
+
+-- ---- a slip is below the symbols of a period, and octets that follow change nothing
+
 decided-below : (number moved unmoved size : ℕ) → number < size → decided number moved unmoved < size
 decided-below number moved unmoved size below = grind (arith, nat_tests)
 
@@ -75,9 +161,6 @@ IsSlip-prefix rate invert t steps octets more slip many h =
     }
 
 -- ---- undisturbed symbols
-
-decided-none : (moved unmoved : ℕ) → decided 0 moved unmoved ≡ 0
-decided-none moved unmoved = grind (arith, nat_tests)
 
 -- the path that was sent costs nothing where nothing is dropped, and so this candidate is the first of least cost
 pub IsSlip-sure : (rate : Rate) (invert : Bool) (t steps register : ℕ) (bits : List ℕ) (slip : ℕ) → AreBits bits

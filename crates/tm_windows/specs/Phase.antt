@@ -1,6 +1,6 @@
 -- The symbol phase: how many soft octets stand before the first step's symbols (CCSDS 131.0-B,
 -- Convolutional Coding).
-use Rattle.std.specs.Prelude.{◌≡◌, ℕ, ◌+◌, ◌-◌, ◌<◌, ◌≤◌, Bool, None, List, take, drop, min}
+use Rattle.std.specs.Prelude.{◌≡◌, ℕ, zero, suc, ◌+◌, ◌-◌, ◌<◌, ◌≤◌, Bool, None, List, take, drop, min}
 use Rattle.tm_conv.specs.declared.rates.Rate.{Rate}
 use Rattle.tm_conv.specs.Path.{path, period, steps_size}
 use Rattle.tm_conv.specs.Cost.{cost}
@@ -47,6 +47,11 @@ pub record IsFirstLeast (IsCost : ℕ → ℕ → Type 0) (count number amount :
   pub is : IsCost number amount
   pub least : (other more : ℕ) → other < count → IsCost other more → amount ≤ more
   pub first : (other more : ℕ) → other < number → IsCost other more → amount < more
+
+-- costs as they are after 0, which has this one
+abbrev pub IsCostAfter : ℕ → (ℕ → ℕ → Type 0) → ℕ → ℕ → Type 0
+IsCostAfter first IsCost zero amount = amount ≡ first
+IsCostAfter first IsCost (suc number) amount = IsCost (suc number) amount
 
 -- the phase and its cost: the first candidate of least cost
 pub record IsPhase (rate : Rate) (invert : Bool) (window : ℕ) (octets : List ℕ)

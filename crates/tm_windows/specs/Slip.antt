@@ -1,8 +1,8 @@
 -- How many octets are dropped before a window, where symbols were lost or doubled before it.
-use Rattle.std.specs.Prelude.{◌≡◌, ℕ, ◌+◌, ◌-◌, ◌*◌, Bool, List, [], ◌∷◌, min, nat_lt, if◌then◌else◌}
+use Rattle.std.specs.Prelude.{◌≡◌, ℕ, ◌+◌, ◌-◌, ◌*◌, Bool, List, min, nat_lt, if◌then◌else◌}
 use Rattle.tm_conv.specs.declared.rates.Rate.{Rate}
 use Rattle.tm_conv.specs.Path.{steps_size}
-use Rattle.tm_conv.specs.Cost.{greatest_octet}
+use Rattle.tm_viterbi.specs.Distances.{least_distances}
 use Rattle.tm_windows.specs.Phase.{period_size, most_period_size, octets_at, IsCostAt, IsFirstLeast}
 
 -- the most steps that are looked at
@@ -18,12 +18,7 @@ steps_seen keep ahead = min (keep + ahead - most_period_size) most_seen
 abbrev pub octets_seen : Rate → ℕ → ℕ → ℕ
 octets_seen rate t steps = steps_size rate t steps + (period_size rate - 1)
 
--- what octets cost whatever the path: of each the lesser distance
-abbrev pub least_distances : List ℕ → ℕ
-least_distances [] = 0
-least_distances (octet ∷ octets) = min octet (greatest_octet - octet) + least_distances octets
-
--- what a path over octets costs beyond that
+-- what a path over octets costs beyond what they cost whatever the path
 abbrev pub excess : ℕ → List ℕ → ℕ
 excess amount octets = amount - least_distances octets
 

@@ -1,11 +1,11 @@
 // The choice of the symbol phase.
-ghost use Rattle.std.specs.Prelude.{◌≡◌, ℕ, ◌+◌, ◌-◌, ◌*◌, ◌^◌, ◌<◌, ◌≤◌, length};
+ghost use Rattle.std.specs.Prelude.{◌≡◌, ℕ, ◌+◌, ◌-◌, ◌*◌, ◌^◌, ◌<◌, ◌≤◌, length, min};
 ghost use Rattle.tm_conv.specs.Path.{most_period, steps_size};
 ghost use Rattle.tm_viterbi.specs.WindowSizes.{most_window, stream_bound};
-ghost use Rattle.tm_windows.specs.Phase.{period_size, most_period_size, octets_needed, AreCompared, IsCostAt, IsFirstLeast, IsPhase};
+ghost use Rattle.tm_windows.specs.Phase.{period_size, most_period_size, octets_needed, AreCompared, IsCostAt, IsFirstLeast, IsPhase, IsCostAfter};
 
 use tm_conv::{Rate, symbols_of};
-use tm_viterbi::{Start, least_cost_from};
+use tm_viterbi::{Start, least_cost_below, least_cost_from};
 
 /// A symbol phase.
 #[derive(Clone, Copy, Debug, PartialEq, Eq)]
@@ -57,31 +57,29 @@ fn compared(rate: Rate, window: u32, soft: &[u8]) -> usize
     whole.min(symbols_of(rate, u64::from(window)) as usize)
 }
 
-// Of as many candidates as a period sends symbols, the first whose best path costs least over `size` octets: those of
-// whole steps from step `t` on. That of the first candidate costs `first`.
+// Of the candidates after the first, as many as a period sends symbols with it, the first whose best path costs least
+// over `size` octets, those of whole steps from step `t` on, where that is below `limit`; and else 0 and the limit.
 pub(crate) fn first_least(
     rate: Rate,
     invert: bool,
     t: u64,
     size: usize,
     soft: &[u8],
-    first: u64,
+    limit: u64,
 ) -> Chosen
     requires inside { size + (period_size rate - 1) ≤ length soft.now }
     requires whole { (steps : ℕ) × (steps ≤ most_window) × (size ≡ steps_size rate t steps) }
     requires few { t < stream_bound }
-    requires first { (steps : ℕ) → size ≡ steps_size rate t steps → IsCostAt rate invert t steps soft.now 0 first }
-    requires small { first < 2 ^ 32 }
     ensures least { (steps : ℕ) → size ≡ steps_size rate t steps
-        → IsFirstLeast (IsCostAt rate invert t steps soft.now) (period_size rate) result.skip result.cost }
-    ensures small { result.cost < 2 ^ 32 }
+        → IsFirstLeast (IsCostAfter limit (IsCostAt rate invert t steps soft.now)) (period_size rate)
+        result.skip result.cost }
 {
     let mut chosen = Chosen {
         skip: 0,
-        cost: first,
+        cost: limit,
     };
     for skip in 1..period_size(rate) {
-        let cost = cost_at(rate, invert, t, size, soft, skip);
+        let cost = cost_below(rate, invert, t, size, soft, skip, chosen.cost);
         if cost < chosen.cost {
             chosen = Chosen { skip, cost };
         }
@@ -99,6 +97,26 @@ pub(crate) fn cost_at(rate: Rate, invert: bool, t: u64, size: usize, soft: &[u8]
 {
     let from = usize::from(skip);
     least_cost_from(rate, invert, Start::Any, t, &soft[from..from + size])
+}
+
+// The same where it is below `limit`, and else `limit`.
+fn cost_below(
+    rate: Rate,
+    invert: bool,
+    t: u64,
+    size: usize,
+    soft: &[u8],
+    skip: u8,
+    limit: u64,
+) -> u64
+    requires inside { skip + size ≤ length soft.now }
+    requires whole { (steps : ℕ) × (steps ≤ most_window) × (size ≡ steps_size rate t steps) }
+    requires few { t < stream_bound }
+    ensures cost { (steps : ℕ) → size ≡ steps_size rate t steps
+        → (amount : ℕ) × IsCostAt rate invert t steps soft.now skip amount × (result ≡ min amount limit) }
+{
+    let from = usize::from(skip);
+    least_cost_below(rate, invert, Start::Any, t, &soft[from..from + size], limit)
 }
 
 // How many symbols a period sends.

@@ -1,13 +1,15 @@
 // Symbols that were lost or doubled before a window.
-ghost use Rattle.std.specs.Prelude.{◌≡◌, ℕ, ◌+◌, ◌*◌, ◌^◌, ◌<◌, ◌≤◌, length};
+ghost use Rattle.std.specs.Prelude.{◌≡◌, ℕ, ◌+◌, ◌*◌, ◌/◌, ◌^◌, ◌<◌, ◌≤◌, length};
 ghost use Rattle.tm_conv.specs.declared.rates.Rate.{Rate};
 ghost use Rattle.tm_conv.specs.Path.{most_period, steps_size};
 ghost use Rattle.tm_viterbi.specs.WindowSizes.{most_window, stream_bound};
+ghost use Rattle.tm_viterbi.specs.Distances.{least_distances};
 ghost use Rattle.tm_windows.specs.Phase.{period_size, octets_at};
-ghost use Rattle.tm_windows.specs.Slip.{steps_seen, octets_seen, least_distances, excess, decided, IsSlip, most_seen};
+ghost use Rattle.tm_windows.specs.Slip.{steps_seen, octets_seen, excess, decided, IsSlip, most_seen};
 
 use crate::choosing::{cost_at, first_least, period_size};
-use tm_conv::{Rate, steps_len};
+use tm_conv::{Rate, best_path_law, steps_len};
+use tm_viterbi::least_distances;
 
 // The most steps over which a slip is looked for.
 const MOST_SEEN: usize = 1024;
@@ -24,11 +26,16 @@ pub fn slip(rate: Rate, invert: bool, t: u64, steps: usize, soft: &[u8]) -> u8
     ensures slip { IsSlip rate invert t steps soft.now result }
     ensures small { result < period_size rate }
 {
+    best_path_law();
     let size = steps_len(rate, t, steps);
     let unmoved = cost_at(rate, invert, t, size, soft, 0);
-    let least = first_least(rate, invert, t, size, soft, unmoved);
-    let moved = excess_at(size, soft, least.skip, least.cost);
     let still = excess_at(size, soft, 0, unmoved);
+    if still == 0 {
+        return 0;
+    }
+    let limit = unmoved.min(cost_bound(&soft[..octets_seen(rate, t, steps)], still));
+    let least = first_least(rate, invert, t, size, soft, limit);
+    let moved = excess_at(size, soft, least.skip, least.cost);
     taken(least.skip, moved, still)
 }
 
@@ -63,16 +70,14 @@ fn excess_at(size: usize, soft: &[u8], skip: u8, cost: u64) -> u64
     cost.saturating_sub(least_distances(&soft[from..from + size]))
 }
 
-// What octets cost whatever the path.
-fn least_distances(soft: &[u8]) -> u64
-    requires { length soft.now ≤ 2 * most_seen }
-    ensures { result ≡ least_distances soft.now }
+// A candidate that is taken costs less than this, where all of them lie within these octets: three quarters of the
+// excess of 0, rounded up, beyond what the octets cost whatever the path.
+fn cost_bound(soft: &[u8], unmoved: u64) -> u64
+    requires few { length soft.now ≤ 2 * most_window }
+    requires small { unmoved < 2 ^ 32 }
+    ensures value { result ≡ least_distances soft.now + (3 * unmoved + 3) / 4 }
 {
-    let mut sum = 0;
-    for octet in soft {
-        sum += u64::from((*octet).min(255 - *octet));
-    }
-    sum
+    least_distances(soft) + (3 * unmoved).div_ceil(4)
 }
 
 // A candidate, where its excess is below three quarters of that of 0.

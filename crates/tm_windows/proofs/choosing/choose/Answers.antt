@@ -1,5 +1,7 @@
-use Rattle.std.proofs.Common.{◌≡◌, arith}
+use Rattle.std.proofs.Common.{◌≡◌, ℕ, arith}
 use Rattle.tm_conv.specs.Path.{steps_size}
+use Rattle.tm_windows.specs.Phase.{period_size, IsCostAt}
+use Rattle.tm_windows.proofs.Least.{IsCostAt-one, IsCostAfter-all, IsFirstLeast-all}
 use Rattle.tm_windows.proofs.Phases.{compared_fit, IsFirstLeast-nothing}
 use Rattle.tm_windows.proofs.choosing.choose.Goals as goal
 
@@ -35,10 +37,19 @@ first_least-requires-clause-whole c =
     let found = c.compared-size.ensures in
     (found.0, omega (arith, found.1.lesser, c.requires.1), found.2)
 
-pub first_least-requires-clause-first : goal.first_least-requires-clause-first
-first_least-requires-clause-first c = c.cost_at-first.ensures.cost
-
 pub returns : goal.returns
 returns c =
     let found = c.compared-size.ensures in
-    record { steps = found.0; compared = found.1; least = c.first_least.ensures.least found.0 found.2 }
+    let Cost : ℕ → ℕ → Type 0 = IsCostAt c.args.rate c.args.invert 0 found.0 c.args.soft.now in
+    let first = c.cost_at-first.result in
+    let is = c.cost_at-first.ensures.cost found.0 found.2 in
+    let chosen = c.first_least.result in
+    let least = c.first_least.ensures.least found.0 found.2 in
+    record {
+      steps = found.0;
+      compared = found.1;
+      least =
+          IsFirstLeast-all Cost (IsCostAt-one c.args.rate c.args.invert 0 found.0 c.args.soft.now)
+          (period_size c.args.rate) chosen.skip chosen.cost first first is (omega arith)
+          (IsCostAfter-all first Cost chosen.skip chosen.cost is least.is) least;
+    }

@@ -1,6 +1,6 @@
 use Rattle.std.proofs.Common.{◌+◌, ◌-◌, ◌∙◌, ap, arith, length-drop, drop}
 use Rattle.std.proofs.lemmas.List.{length-take-le}
-use Rattle.tm_windows.specs.Slip.{least_distances}
+use Rattle.tm_viterbi.specs.Distances.{least_distances}
 use Rattle.tm_windows.proofs.Phases.{slice-octets_at}
 use Rattle.tm_windows.proofs.slipping.excess_at.Goals as goal
 
@@ -19,4 +19,4 @@ pub returns-clause-value : goal.returns-clause-value
 returns-clause-value c = λ rate t steps is.
     let same = slice-octets_at rate t steps c.args.soft.now c.args.skip c.from-from.result c.args.size
     c.from-from.ensures is in
-    omega (arith, c.saturating_sub.ensures, c.least_distances.ensures ∙ ap least_distances same)
+    omega (arith, c.saturating_sub.ensures, c.least_distances.ensures.value ∙ ap least_distances same)
