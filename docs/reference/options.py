@@ -72,7 +72,7 @@ def configuration(given):
     phase = chosen(given, "phase", ("given", "find", "follow"), "given")
     c.find_phase, c.follow = phase != "given", phase == "follow"
     c.find_polarity = chosen(given, "polarity", ("given", "find"), "given") == "find"
-    c.batch = number(given, "batch", 1, 32, 32)
+    c.batch = number(given, "batch", 1, 4096, 32)
     # Whether octets have eight bits, and are no symbols.
     c.packed = chosen(given, "pack", ("on", "off"), "on") == "on" and c.inner == "none"
     c.verify = number(given, "verify", 0, 7, 0)

@@ -37,7 +37,7 @@ HELP = {
     "ahead": "steps after these",
     "phase": "the symbol phase: given, find or follow",
     "polarity": "the polarity: given or find",
-    "batch": "how many codeblocks are handed over at once, 1 to 32",
+    "batch": "how many codeblocks are handed over at once, 1 to 4096",
     "verify": "how many further markers must match, 0 to 7",
     "skip": "how many symbols are dropped first, 0 to 15",
     "soft": "the octets of a symbol: u8 or i8",

@@ -73,7 +73,7 @@ REFUSALS = {
     -31: ("ahead", "not from 0 to 4096 steps follow those that are kept"),
     -32: ("phase", "the phase is none of given, find and follow"),
     -33: ("polarity", "the polarity is neither given nor find"),
-    -34: ("batch", "not from 1 to 32 codeblocks are handed over at once"),
+    -34: ("batch", "not from 1 to 4096 codeblocks are handed over at once"),
     -35: ("pack", "pack is neither on nor off"),
     -36: ("verify", "not from 0 to 7 further markers are to match"),
 }

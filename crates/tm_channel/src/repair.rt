@@ -16,8 +16,8 @@ use tm_config::{Config, OuterCode};
 use tm_windows::Alone;
 use tm_workers::Word;
 
-/// Repairs the codeblocks of the first slots by these workers, and writes their items. There are at most 32 slots, and
-/// words for the columns of all.
+/// Repairs the codeblocks of the first slots by these workers, and writes their items. There are words for the
+/// columns of all.
 pub fn repair<C: ReceiverCrew>(
     crew: &C,
     alloc: Global,

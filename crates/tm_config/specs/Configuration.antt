@@ -42,7 +42,7 @@ most_fly = 15
 
 -- the most codeblocks that are repaired at once
 abbrev pub most_batch : ℕ
-most_batch = 32
+most_batch = 4096
 
 -- the most further markers that must match before a place that is searched for is taken
 abbrev pub most_verify : ℕ

@@ -43,7 +43,7 @@ impl Config {
     /// - `Inner`: 0, 12, 23, 34, 56 or 78. `Switch`: `invert` `None`, 0 or 1, and `randomize` 0 or 1. `Basis`: 0 or 1.
     /// - `Tolerance`: 0 to 8. `Repair`: `None`, or 0 to E. `Soft`, `Start`: 0 or 1. `Skip`: 0 to 15.
     /// - `Workers`: 1 to 64. `Limit`: 1 to 2^40. `Fly`: 0 to 15. `Keep`: 64 to 65,536. `Ahead`: 0 to 4,096.
-    /// - `Phase`: 0 to 2. `Polarity`: 0 or 1. `Batch`: 1 to 32. `Pack`: 0 or 1. `Verify`: 0 to 7.
+    /// - `Phase`: 0 to 2. `Polarity`: 0 or 1. `Batch`: 1 to 4,096. `Pack`: 0 or 1. `Verify`: 0 to 7.
     /// - `Rescan`: 0 or 1.
     /// - `Bad`: 0 or 1.
     pub fn check(raw: &Raw) -> Result<Config, ConfigError>

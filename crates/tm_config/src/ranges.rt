@@ -31,7 +31,7 @@ pub const MOST_KEEP: u64 = 65_536;
 
 pub const MOST_AHEAD: u64 = 4096;
 
-pub const MOST_BATCH: u64 = 32;
+pub const MOST_BATCH: u64 = 4_096;
 
 pub const MOST_VERIFY: u64 = 7;
 

@@ -48,7 +48,7 @@ pub struct Raw {
     pub phase: u64,
     /// The polarity of the symbols: 0 where it is given, 1 where it is to be found.
     pub polarity: u64,
-    /// How many codeblocks are repaired and handed over at once: 1 to 32.
+    /// How many codeblocks are repaired and handed over at once: 1 to 4,096.
     pub batch: u64,
     /// Whether eight bits make an octet where there is no inner code (1), or each bit is an octet of its own (0).
     pub pack: u64,

@@ -43,7 +43,7 @@ phase=3 polarity=2|phase\n\
 phase=2 polarity=2|polarity\n\
 polarity=2 batch=0|polarity\n\
 batch=0|batch\n\
-batch=33 pack=2|batch\n\
+batch=4097 pack=2|batch\n\
 pack=2 verify=8|pack\n\
 verify=8 rescan=2|verify\n\
 rescan=2 bad=2|rescan\n\
