@@ -6,6 +6,7 @@ ghost use Rattle.tm_config.specs.Accepted.{IsAccepted};
 ghost use Rattle.tm_channel.specs.Items.{ItemValue};
 ghost use Rattle.tm_channel.specs.Most.{most_bits, most_found};
 ghost use Rattle.tm_channel.specs.OctetReceiving.{AreSlipsSoFar};
+ghost use Rattle.tm_channel.specs.Receiving.{waiting_bits};
 ghost use Rattle.tm_inner.specs.InnerDecoding.{HasWorkers};
 ghost use Rattle.tm_inner.specs.Phase.{IsChosenSoFar};
 ghost use Rattle.tm_buffers.specs.Receiving.{IsReceiving, Receives, ReceivesLast, items_room};
@@ -42,7 +43,8 @@ impl BufferReceiver {
     pub fn open(alloc: Global, config: Config) -> Result<BufferReceiver, NoMemory>
         ensures config { IfOk result (λ receiver. receiver.config ≡ config) }
         ensures fresh { IfOk result (λ receiver. IsReceiving receiver [] []) }
-        ensures workers { IfOk result (λ receiver. HasWorkers 1 receiver.stages.inner.queue) }
+        ensures workers { IfOk result (λ receiver. HasWorkers 1 (waiting_bits config config.batch)
+            receiver.stages.inner.queue) }
     {
         let receiver = Receiver::open_for(alloc, config, 1)?;
         Ok(BufferReceiver { receiver })

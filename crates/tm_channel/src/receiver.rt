@@ -17,12 +17,13 @@ ghost use Rattle.tm_channel.specs.Items.{ItemValue};
 ghost use Rattle.tm_channel.specs.Handing.{AreReceived, AreReceivedFirst, AreReceivedPrefix};
 ghost use Rattle.tm_channel.specs.Calls.{Feeds, Finishes};
 ghost use Rattle.tm_channel.specs.OctetReceiving.{AreSlipsSoFar, ReceiverStandsFor};
+ghost use Rattle.tm_channel.specs.Receiving.{waiting_bits};
 
 use crate::bit_stream::BitStream;
 use crate::crew::ReceiverCrew;
 use crate::item::ItemTaker;
 use crate::pipeline::{PIECE, end, take};
-use crate::store::Codeblocks;
+use crate::store::{Codeblocks, waiting_bits};
 use crate::totals::Totals;
 use std::alloc::Global;
 use std::marker::Model;
@@ -86,7 +87,8 @@ impl Receiver {
         ensures config { IfOk result (λ r. r.config ≡ config) }
         ensures fresh { IfOk result (λ r. r.has_stopped ≡ false) }
         ensures stands { IfOk result (λ r. ReceiverStandsFor r [] []) }
-        ensures workers { IfOk result (λ r. HasWorkers config.workers r.stages.inner.queue) }
+        ensures workers { IfOk result (λ r. HasWorkers config.workers (waiting_bits config config.batch)
+            r.stages.inner.queue) }
         ensures by { IfOk result (λ r. r.by ≡ config.workers) }
     {
         Receiver::open_for(alloc, config, config.workers() as u8)
@@ -98,10 +100,12 @@ impl Receiver {
         ensures config { IfOk result (λ r. r.config ≡ config) }
         ensures fresh { IfOk result (λ r. r.has_stopped ≡ false) }
         ensures stands { IfOk result (λ r. ReceiverStandsFor r [] []) }
-        ensures workers { IfOk result (λ r. HasWorkers workers r.stages.inner.queue) }
+        ensures workers { IfOk result (λ r. HasWorkers workers (waiting_bits config config.batch)
+            r.stages.inner.queue) }
         ensures by { IfOk result (λ r. r.by ≡ workers) }
     {
-        let Ok(inner) = InnerDecoder::open(alloc, &config, workers) else {
+        let waiting = waiting_bits(&config, config.batch());
+        let Ok(inner) = InnerDecoder::open(alloc, &config, workers, waiting) else {
             return Err(NoMemory);
         };
         let Ok(batch) = Codeblocks::open(alloc, config) else {

@@ -39,10 +39,11 @@ GoesWith None count has_ended = Unit {0}
 GoesWith (Some queue) count has_ended = (queue.has_ended ≡ has_ended) × (reached queue ≤ count)
     × (reached queue < stream_bound)
 
--- it has as many workers as it was opened for, and windows at a time for these
-abbrev pub HasWorkers : ℕ → Option Queueing → Type 0
-HasWorkers workers None = Unit {0}
-HasWorkers workers (Some queue) = SharesAmong workers queue
+-- it has as many workers as it was opened for, and windows at a time for these and for the bits that
+-- may wait
+abbrev pub HasWorkers : (workers waiting : ℕ) → Option Queueing → Type 0
+HasWorkers workers waiting None = Unit {0}
+HasWorkers workers waiting (Some queue) = SharesAmong workers waiting queue
 
 -- these soft octets were put in, and these blocks were decoded; with no inner code there are none
 abbrev pub DecodesFor : Option Queueing → List ℕ → List WindowBlock → Type 0

@@ -53,13 +53,19 @@ pub struct InnerDecoder {
     has_ended: bool,
 }
 
-// The queue of windows of a configuration, for so many workers, or None where there is no inner code.
-fn queue_of(alloc: Global, config: &Config, workers: u8) -> Result<Option<WindowQueue>, NoMemory>
+// The queue of windows of a configuration, or None where there is no inner code. Windows that keep up to `waiting` bits
+// may be buffered.
+fn queue_of(
+    alloc: Global,
+    config: &Config,
+    workers: u8,
+    waiting: u64,
+) -> Result<Option<WindowQueue>, NoMemory>
     requires { (0 < workers) × (workers ≤ most_workers) }
     ensures of { IfOk result (IsQueueOf config.now) }
     ensures stands { IfOk result (λ queue. DecodesFor queue [] [] × IsDrained queue × HasChosen queue None) }
     ensures goes { IfOk result (λ queue. GoesWith queue 0 false) }
-    ensures workers { IfOk result (HasWorkers workers) }
+    ensures workers { IfOk result (HasWorkers workers waiting) }
 {
     let Some(rate) = rate_of(config) else {
         return Ok(None);
@@ -70,7 +76,7 @@ fn queue_of(alloc: Global, config: &Config, workers: u8) -> Result<Option<Window
         find: config.values().phase == Sought::Find,
         follow: config.values().follow,
     };
-    let queue = WindowQueue::open(alloc, settings, workers)?;
+    let queue = WindowQueue::open(alloc, settings, workers, waiting)?;
     Ok(Some(queue))
 }
 
@@ -93,16 +99,22 @@ impl Model for InnerDecoder {
 }
 
 impl InnerDecoder {
-    /// The decoder of a configuration for 1 to 64 workers, which was given nothing yet. It fails only where there isn't
+    /// The decoder of a configuration for 1 to 64 workers, which was given nothing yet. It has room to buffer windows
+    /// that keep up to `waiting` bits, or as many as the workers decode at a time. It fails only where there isn't
     /// enough memory.
-    pub fn open(alloc: Global, config: &Config, workers: u8) -> Result<InnerDecoder, NoMemory>
+    pub fn open(
+        alloc: Global,
+        config: &Config,
+        workers: u8,
+        waiting: u64,
+    ) -> Result<InnerDecoder, NoMemory>
         requires workers { (0 < workers) × (workers ≤ most_workers) }
         ensures config { IfOk result (λ d. d.config ≡ config.now) }
         ensures going { IfOk result (λ d. d.has_ended ≡ false) }
         ensures stands { IfOk result (λ d. HasHanded d [] []) }
-        ensures workers { IfOk result (λ d. HasWorkers workers d.queue) }
+        ensures workers { IfOk result (λ d. HasWorkers workers waiting d.queue) }
     {
-        let queue = queue_of(alloc, config, workers)?;
+        let queue = queue_of(alloc, config, workers, waiting)?;
         Ok(InnerDecoder {
             config: *config,
             queue,

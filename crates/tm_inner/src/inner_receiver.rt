@@ -61,7 +61,7 @@ impl InnerReceiver {
         ensures fresh { IfOk result (λ r. r.has_stopped ≡ false) }
         ensures stands { IfOk result (λ r. InnerReceiverStandsFor r [] []) }
     {
-        let decoder = InnerDecoder::open(alloc, config, 1)?;
+        let decoder = InnerDecoder::open(alloc, config, 1, 0)?;
         Ok(InnerReceiver {
             decoder,
             has_stopped: false,

@@ -246,7 +246,7 @@ fn opened_for(
     ensures drained { IfOk result (λ d. IsDrained d.queue) }
 {
     assert!(rt; 0 < workers && workers <= 64);
-    Ok(InnerDecoder::open(alloc, config, workers)?)
+    Ok(InnerDecoder::open(alloc, config, workers, 1 << 20)?)
 }
 
 fn feed(

@@ -164,10 +164,13 @@ abbrev pub HoldsRun : Queueing → ℕ → Type 0
 HoldsRun q count = steps_size q.windows.settings.rate q.t
     (count * q.windows.settings.keep + q.windows.settings.ahead + 1) ≤ length q.held
 
--- it is for so many workers: there are as many, with a window each at a time at least, and one
--- worker has just one
-pub record SharesAmong (workers : ℕ) (q : Queueing) : Type 0 where
+-- it is for so many workers, where windows that keep so many bits may wait: there are as many, with
+-- a window each at a time at least, and one worker has just one; there are no more windows than one
+-- each, or than keep these bits and the one after them
+pub record SharesAmong (workers waiting : ℕ) (q : Queueing) : Type 0 where
   pub all : q.workers ≡ workers
   pub each : workers ≤ q.most
   pub alone : workers ≡ 1 → q.most ≡ 1
   pub bound : q.most * (q.windows.settings.keep + q.windows.settings.ahead) ≤ most_window_steps
+  pub few : (q.most ≤ workers)
+      ⊎ (q.most * q.windows.settings.keep ≤ waiting + q.windows.settings.keep)

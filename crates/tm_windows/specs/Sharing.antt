@@ -7,7 +7,7 @@ most_window_steps = 2 ^ 26
 
 -- the most windows that workers have at a time
 abbrev pub most_windows : ℕ
-most_windows = 2 ^ 17
+most_windows = 2 ^ 20
 
 -- the most octets that windows are decoded from at a time
 abbrev pub most_octets : ℕ

@@ -103,7 +103,7 @@ impl Decoder {
             find: false,
             follow: false,
         };
-        let queue = WindowQueue::open(alloc, settings, 1)?;
+        let queue = WindowQueue::open(alloc, settings, 1, 0)?;
         Ok(Decoder {
             queue,
             count: 0,

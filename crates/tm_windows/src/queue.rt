@@ -33,7 +33,7 @@ use tm_viterbi::{Block, BlockTaker, Start, WindowDecoder, WindowShape, first_sta
 pub const STREAM_BOUND: u64 = 1 << 60;
 
 // The steps of the windows that a worker has at a time: so many that making a thread costs little beside them.
-const STEPS_EACH: usize = 131_072;
+const STEPS_EACH: usize = 1 << 20;
 
 /// How octets are cut into windows.
 #[derive(Clone, Copy, Debug)]
@@ -162,8 +162,9 @@ pub(crate) fn new_candidates(
     Ok(candidates)
 }
 
-// How many windows so many workers have at a time: one each, and more where they are shared out.
-fn window_count(workers: u8, shape: WindowShape) -> usize
+// How many windows so many workers have at a time: one each, and more where they are shared out, but no more than bits
+// may wait.
+fn window_count(workers: u8, shape: WindowShape, waiting: u64) -> usize
     requires workers { (0 < workers) × (workers ≤ most_workers) }
     requires keep { (least_keep ≤ shape.keep) × (shape.keep ≤ most_keep) }
     requires ahead { shape.ahead ≤ most_ahead }
@@ -171,12 +172,15 @@ fn window_count(workers: u8, shape: WindowShape) -> usize
     ensures alone { workers ≡ 1 → result ≡ 1 }
     ensures small { result ≤ most_windows }
     ensures bound { result * (shape.keep + shape.ahead) ≤ most_window_steps }
+    ensures few { (result ≤ workers) ⊎ (result * shape.keep ≤ waiting + shape.keep) }
 {
-    if workers > 1 && are_shared(shape) {
-        usize::from(workers) * (STEPS_EACH / shape.keep)
-    } else {
-        usize::from(workers)
+    let each = usize::from(workers);
+    if workers == 1 || !are_shared(shape) {
+        return each;
     }
+    let most = each * (STEPS_EACH / (shape.keep + shape.ahead));
+    let needed = waiting / shape.keep as u64 + 1;
+    each.max(needed.min(most as u64) as usize)
 }
 
 // How many whole steps so many octets have from step t on, at most `limit`.
@@ -258,12 +262,14 @@ impl WindowQueue {
     ghost use Rattle.tm_windows.specs.Windows.{AreDueIn, AreUndropped, IsUndropped};
     ghost use Rattle.tm_windows.specs.declared.choosing.Chosen.{Chosen};
 
-    /// A queue with no octets, for 1 to 64 workers. There is room for a window for each worker at least, and for one
-    /// alone where there is one worker. It fails only where there isn't enough memory.
+    /// A queue with no octets, for 1 to 64 workers, where windows that keep at most so many bits may wait. There is
+    /// room for a window for each worker at least, and for one alone where there is one worker; for no more than one
+    /// each, or than have these bits and the one after them. It fails only where there isn't enough memory.
     pub fn open(
         alloc: Global,
         settings: QueueSettings,
         workers: u8,
+        waiting: u64,
     ) -> Result<WindowQueue, NoMemory>
         requires keep { (least_keep ≤ settings.shape.keep) × (settings.shape.keep ≤ most_keep) }
         requires ahead { settings.shape.ahead ≤ most_ahead }
@@ -271,13 +277,13 @@ impl WindowQueue {
         ensures windows { IfOk result (λ q. q.windows ≡ windows_of settings
             (if settings.follow then Some (steps_seen settings.shape.keep settings.shape.ahead) else None)) }
         ensures find { IfOk result (λ q. q.find ≡ settings.find) }
-        ensures workers { IfOk result (λ q. SharesAmong workers q) }
+        ensures workers { IfOk result (λ q. SharesAmong workers waiting q) }
         ensures stands { IfOk result (λ q. QueueStandsFor q [] []) }
         ensures is_open { IfOk result (λ q. IsOpen q) }
         ensures fresh { IfOk result (λ q. (q.chosen ≡ None) × (q.has_ended ≡ false) × (reached q ≡ 0)) }
     {
         let shape = settings.shape;
-        let most = window_count(workers, shape);
+        let most = window_count(workers, shape, waiting);
         let Ok(decoders) = new_decoders(alloc, shape, usize::from(workers)) else {
             return Err(NoMemory);
         };

@@ -18,10 +18,7 @@ use tm_base::{Gate, OpenGate};
 use tm_conv::steps_len;
 use tm_viterbi::{WindowDecoder, WindowShape};
 
-// The least windows that are shared out: a guess runs over some hundred steps, and is often wrong where few stand
-// ahead.
-const LEAST_SHARED_KEEP: usize = 1_024;
-
+// The least steps ahead with which windows are shared out: a guess is often wrong where few stand there.
 const LEAST_SHARED_AHEAD: usize = 64;
 
 // The least steps that they keep together: one worker decodes fewer in the millisecond that a thread may take to begin.
@@ -184,10 +181,8 @@ fn decode_both<R: Threads + Sync, G: Gate + Sync>(
 }
 
 /// Whether windows of this shape are shared out, where they have enough steps together.
-pub(crate) fn are_shared(shape: WindowShape) -> bool
-    ensures long { IsTrue result → 1024 ≤ shape.keep }
-{
-    shape.keep >= LEAST_SHARED_KEEP && shape.ahead >= LEAST_SHARED_AHEAD
+pub(crate) fn are_shared(shape: WindowShape) -> bool {
+    shape.ahead >= LEAST_SHARED_AHEAD
 }
 
 /// Decodes a window for each candidate of a run: by all workers, which enter the gate before each window, where there is enough to

@@ -423,7 +423,7 @@ fn followed<R: Abort, C: Crew>(
         find: false,
         follow: true,
     };
-    let mut queue = WindowQueue::open(alloc, settings, workers)?;
+    let mut queue = WindowQueue::open(alloc, settings, workers, u64::MAX)?;
     let mut digest = empty();
     let mut done = 0;
     for _ in 0..TURNS {
@@ -455,23 +455,24 @@ fn sent(alloc: Global, steps: usize) -> Result<Vec<u8>, AllocError> {
     Ok(octets)
 }
 
-// Whether the first of two workers is held, and freed by the four windows of the other, where eight windows of so many
-// steps are decoded together.
+// Whether the first of two workers is held, and freed by the windows of the other, half of all, where so many windows
+// are decoded together.
 fn is_freed<R: Abort + Threads + Sync>(
     rt: &R,
     alloc: Global,
+    windows: u32,
     keep: usize,
     ahead: usize,
 ) -> Result<bool, Fail>
     requires keep { (least_keep ≤ keep) × (keep ≤ most_keep) }
     requires ahead { (33 ≤ ahead) × (ahead ≤ most_ahead) }
 {
-    let octets = sent(alloc, WINDOWS * keep + ahead + 1)?;
+    let octets = sent(alloc, windows as usize * keep + ahead + 1)?;
     assert!(rt; octets.len() < 200_000);
-    let gate = gate_that_holds(0, 4);
+    let gate = gate_that_holds(0, u64::from(windows / 2));
     let crew = PastHolding { rt, gate: &gate };
     let (digest, slips) = followed(rt, alloc, &crew, keep, ahead, 2, &octets)?;
-    assert!(rt; digest.blocks == WINDOWS as u64 + 1);
+    assert!(rt; digest.blocks == u64::from(windows) + 1);
     assert!(rt; slips == 0);
     Ok(gate.freed.load(Ordering::SeqCst) == 1)
 }
@@ -495,12 +496,15 @@ fn windows_are_decoded_side_by_side_in_even_parts(rt: HostRuntime) -> Result<(),
     Ok(())
 }
 
-// Eight windows of 8,192 steps with 64 ahead are just enough to share out, and of a step less they are too few.
+// Eight windows of 8,192 steps with 64 ahead are just enough to share out, and of a step less they are too few; and so
+// are 1,024 of the shortest, and 1,022.
 #[test]
 fn windows_of_enough_steps_are_decoded_side_by_side(rt: HostRuntime) -> Result<(), Fail> {
-    assert!(rt; is_freed(&rt, rt.alloc(), 8_192, 64)?);
-    assert!(rt; !is_freed(&rt, rt.alloc(), 8_191, 64)?);
-    assert!(rt; !is_freed(&rt, rt.alloc(), 8_192, 63)?);
+    assert!(rt; is_freed(&rt, rt.alloc(), 8, 8_192, 64)?);
+    assert!(rt; !is_freed(&rt, rt.alloc(), 8, 8_191, 64)?);
+    assert!(rt; !is_freed(&rt, rt.alloc(), 8, 8_192, 63)?);
+    assert!(rt; is_freed(&rt, rt.alloc(), 1_024, 64, 64)?);
+    assert!(rt; !is_freed(&rt, rt.alloc(), 1_022, 64, 64)?);
     Ok(())
 }
 

@@ -21,6 +21,9 @@ const PIECE: usize = 777;
 
 const WINDOWS: usize = 4;
 
+// How many bits may wait: more than a stream has.
+const MOST_WAITING: u64 = 40_000;
+
 // How a stream is put into a queue.
 #[derive(Clone, Copy)]
 enum Way {
@@ -189,7 +192,7 @@ fn opened(
         find: false,
         follow,
     };
-    Ok(WindowQueue::open(alloc, settings, workers)?)
+    Ok(WindowQueue::open(alloc, settings, workers, MOST_WAITING)?)
 }
 
 fn with_workers<R: Abort + Threads + Sync>(
@@ -342,7 +345,7 @@ fn gathered_octets_wait(rt: HostRuntime) -> Result<(), Fail> {
     Ok(())
 }
 
-// There is room for the octets that close a window for each worker, though too few steps are kept to share them out.
+// There is room for the octets that close a window for each worker, though too few steps stand ahead to share them out.
 #[test]
 fn room_ends_with_the_run(rt: HostRuntime) -> Result<(), Fail> {
     let alloc = rt.alloc();
@@ -364,6 +367,28 @@ fn room_ends_with_the_run(rt: HostRuntime) -> Result<(), Fail> {
     let mut many = opened(&rt, alloc, shape, Start::Zero, 7, false)?;
     assert!(rt; many.fill(false, &[127; 899]) == 898);
     assert!(rt; many.count_closed() == 7);
+    Ok(())
+}
+
+// Two workers have room for the windows that may wait and one more; for no more than have 1,048,576 steps each; and for
+// one each where few steps stand ahead.
+#[test]
+fn room_is_for_what_may_wait(rt: HostRuntime) -> Result<(), Fail> {
+    let alloc = rt.alloc();
+    for (keep, ahead, windows) in [(64, 64, 626), (64, 4096, 504), (64, 63, 2), (1024, 64, 40)] {
+        let shape = WindowShape {
+            rate: Rate::R12,
+            invert: false,
+            keep,
+            ahead,
+        };
+        let mut queue = opened(&rt, alloc, shape, Start::Zero, 2, false)?;
+        let room = 2 * (windows * keep + ahead + 1);
+        let octets = vec![in alloc; 127; room + 1]?;
+        assert!(rt; (octets.len() as u64) < STREAM_BOUND);
+        assert!(rt; queue.fill(false, &octets) == room);
+        assert!(rt; queue.count_closed() == windows);
+    }
     Ok(())
 }
 
