@@ -2,7 +2,7 @@
 -- each sum of each step and each of the four pairs of c1 and c2.
 use Rattle.std.specs.Prelude.{ℕ, ◌≡◌, ◌+◌, ◌<◌, List, [], ◌∷◌, Bool, if◌then◌else◌, slice_index_or}
 use Rattle.tm_conv.specs.declared.rates.Rate.{Rate}
-use Rattle.tm_conv.specs.Path.{keeps_c1, keeps_c2, step_size}
+use Rattle.tm_conv.specs.Path.{keeps_c1, keeps_c2, most_period, step_size}
 use Rattle.tm_conv.specs.Cost.{greatest_octet}
 use Rattle.tm_viterbi.specs.declared.step_pairs.StepPair.{StepPair}
 
@@ -45,7 +45,7 @@ pub record IsStepPair (rate : Rate) (invert : Bool) (t : ℕ) (pair : StepPair) 
 
 -- how many pairs there are: one for each position of the longest pattern, and two more
 abbrev pub pair_count : ℕ
-pair_count = 9
+pair_count = most_period + 2
 
 -- those of the pattern's steps in turn
 abbrev pub AreStepPairs : Rate → Bool → List StepPair → Type 0

@@ -100,6 +100,7 @@ fn joined(first: Simd<u16, 16>, second: Simd<u16, 16>) -> Simd<u16, 32>
 
 // The next path metrics, those of registers below 32 and those of the others, and the survivors. The order
 // of its lines counts: in another the compiler puts more vectors aside.
+#[inline(always)]
 pub(crate) fn narrow_metrics(
     low: Simd<u16, 32>,
     high: Simd<u16, 32>,

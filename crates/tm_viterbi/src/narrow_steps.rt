@@ -81,6 +81,7 @@ fn narrow_run(
 }
 
 // Two steps: the path metrics after them, and the survivors of each.
+#[inline(always)]
 fn two_steps(
     rate: Rate,
     invert: bool,
@@ -113,6 +114,7 @@ fn two_steps(
 }
 
 // Four steps, from as many octets as they send at most: the path metrics after them, and how many octets they took.
+#[inline(always)]
 fn four_steps(
     rate: Rate,
     invert: bool,

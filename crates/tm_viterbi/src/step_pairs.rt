@@ -93,6 +93,7 @@ pub(crate) fn step_pairs(rate: Rate, invert: bool) -> [StepPair; 9]
 const WIDE: [usize; 16] = [0, 1, 2, 3, 4, 4, 4, 4, 4, 4, 4, 4, 4, 4, 4, 4];
 
 // The branch metrics of step t and of the one after it, from as many octets as they send at most.
+#[inline(always)]
 pub(crate) fn pair_metrics(
     rate: Rate,
     invert: bool,
