@@ -20,6 +20,7 @@ use Rattle.tm_buffers.specs.Items.{Collected, Collects, HasWritten, collected, n
 use Rattle.tm_buffers.specs.Receiving.{HasRoom, IsEnough}
 use Rattle.tm_buffers.specs.declared.items.BufferItems.{BufferItems}
 use Rattle.tm_buffers.specs.declared.items.Report.{Report}
+use Rattle.tm_buffers.specs.declared.items.Written.{Written}
 
 -- the first of these items were written: all, or those before the first that does not fit
 pub record Wrote (a b : Collected) (items : List ItemValue) : Type 0 where
@@ -219,31 +220,35 @@ answer-of short count written all whole less is =
 pub has-written : (frames : List ℕ) (reports : List Report) (b : BufferItems) (items : List ItemValue)
     → All (none_yet frames reports) (collected b) items
     → HasWritten (if b.is_short then None else Some (min b.count (length reports))) items frames b.frames.now reports
-    b.reports.now
+    b.reports.now (record { reports = b.count; octets = b.octets; windows = 0 })
 has-written frames reports b items all =
     let w = all.wrote refl in
     let size = same-length (take w.written items) w.said w.are in
-    let count : min b.count (length reports) ≡ w.written = omega (
+    let most : w.written ≤ length reports = omega (arith, w.within, w.room, size, length-take w.written items) in
+    let count : b.count ≡ w.written = omega (
       arith,
       w.within,
-      w.room,
       b.within,
       ap length w.reports,
       length-take b.count b.reports.now,
       size,
       length-take w.written items,
-    ) in record {
-      written = w.written;
+    ) in
+    subst (λ (n : ℕ). HasWritten (if b.is_short then None else Some (min b.count (length reports))) items frames
+    b.frames.now reports b.reports.now (record { reports = n; octets = b.octets; windows = 0 })) (sym count)
+    (record {
       within = w.within;
       answer =
           answer-of b.is_short (min b.count (length reports)) w.written (length items) w.all
-          (λ short. (w.full short).0) count;
+          (λ short. (w.full short).0) (omega (arith, count, most));
       said = w.said;
       are_reports = w.are;
       reports_hold = held b.count b.reports.now w.said reports w.reports w.reports_behind;
       frames_hold = held b.octets b.frames.now (frames_of (take w.written items)) frames w.frames w.frames_behind;
+      octets = omega (arith, b.octets_within, ap length w.frames, length-take b.octets b.frames.now);
+      windows = refl;
       full = by_short b.is_short refl w;
-    }
+    })
   where
     by_short : (short : Bool) → short ≡ b.is_short → (w : Wrote (none_yet frames reports) (collected b) items)
         → w.written < length items → (length reports ≤ w.written)
@@ -305,18 +310,18 @@ no-answer false written is = refl
 
 -- with the room that `items_room` gives all items were written
 pub enough : (c : Configuration) (octets : ℕ) (count : Option ℕ) (items : List ItemValue) (frames frames_now : List ℕ)
-    (reports reports_now : List Report) → AreFew c octets items
-    → HasWritten count items frames frames_now reports reports_now
+    (reports reports_now : List Report) (said : Written) → AreFew c octets items
+    → HasWritten count items frames frames_now reports reports_now said
     → IsEnough c octets count frames reports
-enough c octets (Some count) items frames frames_now reports reports_now few h most more room = refl
-enough c octets None items frames frames_now reports reports_now few h most more room =
+enough c octets (Some count) items frames frames_now reports reports_now said few h most more room = refl
+enough c octets None items frames frames_now reports reports_now said few h most more room =
     let is = has-room c (nat_le most (2 ^ 40)) (most_items c most) frames reports room in
     let items_few = items-more c octets most more in
     let frames_few = mul-le-mul_right c.frame_length items_few in
-    let cut = no-answer (h.written == length items) h.written h.answer in
-    let less : h.written < length items = elim (eqb_tells h.written (length items)) [
+    let cut = no-answer (said.reports == length items) said.reports h.answer in
+    let less : said.reports < length items = elim (eqb_tells said.reports (length items)) [
       | inl same ↦ absurd (true≢false (sym same.0 ∙ cut))
-      | inr other ↦ elim (cases_lt h.written (length items)) [
+      | inr other ↦ elim (cases_lt said.reports (length items)) [
         | inl less ↦ less
         | inr least ↦ absurd (other.1 (omega (arith, least, h.within)))
       ]
@@ -324,5 +329,5 @@ enough c octets None items frames frames_now reports reports_now few h most more
     absurd (elim (h.full less) as (λ _. ⊥) [
       | inl many ↦ omega (arith, many, less, few.0, items_few, is.0)
       | inr many ↦
-          omega (arith, many, frames-first (suc h.written) items, few.1, frames_few, is.1)
+          omega (arith, many, frames-first (suc said.reports) items, few.1, frames_few, is.1)
     ])

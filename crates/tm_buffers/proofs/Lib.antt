@@ -1,6 +1,6 @@
 pub mod Needed
 pub mod SymbolRoom
-pub mod Written
+pub mod Sinks
 pub mod KeptBits
 pub mod Spans
 pub mod ItemsWithPhase

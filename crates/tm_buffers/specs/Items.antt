@@ -5,6 +5,7 @@ use Rattle.tm_buffers.specs.Buffer.{over}
 use Rattle.tm_buffers.specs.Reports.{AreReports, IsReport}
 use Rattle.tm_buffers.specs.declared.items.BufferItems.{BufferItems}
 use Rattle.tm_buffers.specs.declared.items.Report.{Report}
+use Rattle.tm_buffers.specs.declared.items.Written.{Written}
 
 -- what was written, what stands behind it in the two arrays, and whether an item was dropped
 pub record Collected : Type 0 where
@@ -49,17 +50,20 @@ pub record Collects (before : Collected) (item : ItemValue) (now : Collected) : 
       × (now.frames_behind ≡ drop (length item.frame) before.frames_behind)
   pub dropped : now.is_short ≡ true → now ≡ record before { is_short = true }
 
--- Of these items the first `written` ones were written: their reports and their frames, and no
--- others, stand at the start of two arrays, which are as they were behind them. They are all, and
--- the answer is how many they are; or there was no room for the next one, and there is no answer.
+-- Of these items the first ones were written, as many as `written` says: their reports and their
+-- frames, and no others, stand at the start of two arrays, which are as they were behind them. They
+-- are all, and the answer is how many they are; or there was no room for the next one, and there is
+-- no answer.
 pub record HasWritten (count : Option ℕ) (items : List ItemValue) (frames frames_now : List ℕ)
-    (reports reports_now : List Report) : Type 0 where
-  pub written : ℕ
-  pub within : written ≤ length items
-  pub answer : count ≡ (if written == length items then Some written else None)
+    (reports reports_now : List Report) (written : Written) : Type 0 where
+  pub within : written.reports ≤ length items
+  pub answer : count
+      ≡ (if written.reports == length items then Some written.reports else None)
   pub said : List Report
-  pub are_reports : AreReports (take written items) said
+  pub are_reports : AreReports (take written.reports items) said
   pub reports_hold : reports_now ≡ over said reports
-  pub frames_hold : frames_now ≡ over (frames_of (take written items)) frames
-  pub full : written < length items → (length reports ≤ written)
-      ⊎ (length frames < length (frames_of (take (suc written) items)))
+  pub frames_hold : frames_now ≡ over (frames_of (take written.reports items)) frames
+  pub octets : written.octets ≡ length (frames_of (take written.reports items))
+  pub windows : written.windows ≡ 0
+  pub full : written.reports < length items → (length reports ≤ written.reports)
+      ⊎ (length frames < length (frames_of (take (suc written.reports) items)))

@@ -11,6 +11,7 @@ use Rattle.tm_inner.specs.Phase.{IsChosen}
 use Rattle.tm_buffers.specs.Items.{HasWritten}
 use Rattle.tm_buffers.specs.Buffer.{most_taken}
 use Rattle.tm_buffers.specs.declared.items.Report.{Report}
+use Rattle.tm_buffers.specs.declared.items.Written.{Written}
 
 -- For how many items there has to be room where so many more octets are given, or fewer, and at the
 -- end, whatever was given before. It is said for no more than 2^40 octets at a time.
@@ -38,20 +39,20 @@ pub record IsReceiving (receiver : OctetReceiving) (given : List ℕ)
 -- there is the room that is said
 pub record Receives (receiver now : OctetReceiving) (given octets : List ℕ)
     (done : List (Handed ItemValue)) (count : Option ℕ) (frames frames_now : List ℕ)
-    (reports reports_now : List Report) : Type 0 where
+    (reports reports_now : List Report) (said : Written) : Type 0 where
   pub more : List (Handed ItemValue)
   pub receiving : IsReceiving now (given ++ octets) (done ++ more)
   pub due : AreReceivedDue receiver.config (given ++ octets) (done ++ more)
-  pub written : HasWritten count (items_of more) frames frames_now reports reports_now
+  pub written : HasWritten count (items_of more) frames frames_now reports reports_now said
   pub enough : IsEnough receiver.config (length octets) count frames reports
 
 -- at the end of its octets, which came to this, what is left was written in the same way, and the
 -- phase is chosen, where it is to be found
 pub record ReceivesLast (receiver now : OctetReceiving) (given : List ℕ)
     (done : List (Handed ItemValue)) (count : Option ℕ) (totals : Totals)
-    (frames frames_now : List ℕ) (reports reports_now : List Report) : Type 0 where
+    (frames frames_now : List ℕ) (reports reports_now : List Report) (said : Written) : Type 0 where
   pub last : List (Handed ItemValue)
   pub all : AreReceived receiver.config given (done ++ last) totals
-  pub written : HasWritten count (items_of last) frames frames_now reports reports_now
+  pub written : HasWritten count (items_of last) frames frames_now reports reports_now said
   pub enough : IsEnough receiver.config 0 count frames reports
   pub chosen : IsChosen receiver.config given now.stages.inner.chosen

@@ -1,9 +1,9 @@
 -- What is said of items, as plain numbers.
 use Rattle.std.specs.Int.{from_bool}
-use Rattle.std.specs.Prelude.{◌≡◌, ℕ, List, [], ◌∷◌, length, map, take}
+use Rattle.std.specs.Prelude.{◌≡◌, ℕ, not, List, [], ◌∷◌, length, map, take}
 use Rattle.tm_rs_solve.specs.declared.answers.Answer.{Answer}
 use Rattle.tm_rs_solve.specs.declared.answers.Answer.TheVariants.{Fixed, Beyond}
-use Rattle.tm_channel.specs.Items.{ItemValue}
+use Rattle.tm_channel.specs.Items.{ItemValue, are_fixed}
 use Rattle.tm_buffers.specs.declared.items.Report.{Report}
 
 -- how many symbols of a column were wrong, or 255 where it is uncorrectable
@@ -19,6 +19,7 @@ pub record IsReport (item : ItemValue) (report : Report) : Type 0 where
   pub bridged : report.bridged ≡ from_bool item.found.bridged
   pub inverted : report.inverted ≡ from_bool item.found.inverted
   pub columns : report.columns ≡ length item.answers
+  pub bad : report.bad ≡ from_bool (not (are_fixed item.answers))
   pub repaired : take (length item.answers) report.repaired ≡ map repaired_of item.answers
 
 -- the same of one item after another

@@ -12,7 +12,7 @@ ghost use Rattle.tm_inner.specs.Phase.{IsChosenSoFar};
 ghost use Rattle.tm_buffers.specs.Receiving.{IsReceiving, Receives, ReceivesLast, items_room};
 ghost use Rattle.tm_buffers.specs.Buffer.{most_taken};
 
-use crate::items::{BufferItems, Report};
+use crate::items::{BufferItems, Report, Written};
 use crate::room::MOST;
 use std::alloc::Global;
 use std::marker::Model;
@@ -53,7 +53,8 @@ impl BufferReceiver {
     /// Takes the next octets, and writes the frames of the items that are due with them to the start of `frames`, one
     /// after the other, and what else is said of each to `reports`. Answers how many items these are; or None where
     /// there was no room for all: those before the first one that did not fit are written then, and it and all after it
-    /// are lost. With the room that `items_room` answers there is room for all. What follows is as it was.
+    /// are lost. With the room that `items_room` answers there is room for all. What follows is as it was. `written`
+    /// says how much was written, in either case.
     ///
     /// The octets given in all are to be below 2^60.
     pub fn feed(
@@ -61,22 +62,30 @@ impl BufferReceiver {
         octets: &[u8],
         frames: &mut [u8],
         reports: &mut [Report],
+        written: &mut Written,
     ) -> Option<usize>
         ensures config { self.new.config ≡ self.old.config }
         ensures within { IfSome result (λ count. count ≤ length reports.old) }
         ensures received { (given : List ℕ) (done : List (Handed ItemValue))
             → length given + length octets.now < stream_bound
             → IsReceiving self.old given done
-            → Receives self.old self.new given octets.now done result frames.old frames.new reports.old reports.new }
+            → Receives self.old self.new given octets.now done result frames.old frames.new reports.old reports.new
+            written.new }
     {
         let most = reports.len();
         let mut taker = BufferItems::over(frames, reports);
         let fed = self.receiver.receive(&Alone, octets, &mut taker);
         let BufferItems {
             count,
+            octets: size,
             is_short,
             ..
         } = taker;
+        *written = Written {
+            reports: count as u64,
+            octets: size as u64,
+            windows: 0,
+        };
         match fed {
             Ok(()) => counted(count.min(most), is_short),
             Err(_) => None,
@@ -90,21 +99,28 @@ impl BufferReceiver {
         frames: &mut [u8],
         reports: &mut [Report],
         totals: &mut Totals,
+        written: &mut Written,
     ) -> Option<usize>
         ensures config { self.new.config ≡ self.old.config }
         ensures within { IfSome result (λ count. count ≤ length reports.old) }
         ensures received { (given : List ℕ) (done : List (Handed ItemValue)) → IsReceiving self.old given done
-            → ReceivesLast self.old self.new given done result totals.new frames.old frames.new reports.old
-            reports.new }
+            → ReceivesLast self.old self.new given done result totals.new frames.old frames.new reports.old reports.new
+            written.new }
     {
         let most = reports.len();
         let mut taker = BufferItems::over(frames, reports);
         let ended = self.receiver.end(&Alone, &mut taker);
         let BufferItems {
             count,
+            octets: size,
             is_short,
             ..
         } = taker;
+        *written = Written {
+            reports: count as u64,
+            octets: size as u64,
+            windows: 0,
+        };
         match ended {
             Ok(received) => {
                 *totals = received;

@@ -4,7 +4,7 @@ ghost use Rattle.tm_config.specs.Configuration.{deepest};
 ghost use Rattle.tm_buffers.specs.Reports.{IsReport, repaired_of};
 
 use tm_base::Failed;
-use tm_channel::{Answer, Item, ItemTaker};
+use tm_channel::{Answer, Item, ItemTaker, are_fixed};
 
 /// What is said of a codeblock that was found, but for its frame, as plain numbers.
 #[repr(C)]
@@ -12,7 +12,7 @@ use tm_channel::{Answer, Item, ItemTaker};
 pub struct Report {
     /// How many received bits stand before its marker.
     pub place: u64,
-    /// The octets of its frame; 0 where a column is uncorrectable.
+    /// The octets of its frame; 0 where it has none.
     pub frame_length: u64,
     /// How many of the marker's 32 bits are wrong, in the codeblock's polarity.
     pub distance: u8,
@@ -22,8 +22,20 @@ pub struct Report {
     pub inverted: u8,
     /// How many columns it has; 0 with no outer code.
     pub columns: u8,
+    /// 1 where a column is uncorrectable.
+    pub bad: u8,
     /// For each of them how many symbols were wrong, or 255 where it is uncorrectable.
     pub repaired: [u8; 8],
+}
+
+/// How much a call wrote to the start of its arrays.
+#[repr(C)]
+#[derive(Clone, Copy, Debug, PartialEq, Eq)]
+pub struct Written {
+    pub reports: u64,
+    /// The octets of frames, or of what else the call writes.
+    pub octets: u64,
+    pub windows: u64,
 }
 
 /// Writes the frames of items to a buffer and what else is said of them to an array, from their start on. It never
@@ -112,6 +124,7 @@ fn report_of(item: &Item<'_>) -> Report
         bridged: u8::from(item.bridged),
         inverted: u8::from(item.inverted),
         columns: item.answers.len() as u8,
+        bad: u8::from(!are_fixed(item.answers)),
         repaired: repaired(item.answers),
     }
 }

@@ -15,5 +15,5 @@ mod sink;
 pub use buffer_decoder::{BufferDecoder, bits_room};
 pub use buffer_receiver::{BufferReceiver, items_room};
 pub use buffer_sender::{BufferSender, symbols_room};
-pub use items::Report;
+pub use items::{Report, Written};
 pub use searching::{find_in_bits, find_in_octets};

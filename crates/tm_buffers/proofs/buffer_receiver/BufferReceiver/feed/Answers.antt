@@ -40,7 +40,8 @@ returns-clause-received c = λ given done few is.
             written = search rules;
             enough =
                 enough c.args.self.now.config (length c.args.octets.now) _ (items_of h.0) _ taker.frames.now _
-                taker.reports.now few_items (search rules);
+                taker.reports.now
+                (record { reports = taker.count; octets = taker.octets; windows = 0 }) few_items (search rules);
           }
       | in-Err w ↦ absurd (search rules)
     ]

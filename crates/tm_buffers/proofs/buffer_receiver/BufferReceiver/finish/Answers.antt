@@ -42,7 +42,8 @@ returns-clause-received c = λ given done is.
                 (sym w.totals-is) all;
             written = search rules;
             enough =
-                enough c.args.self.now.config 0 _ (items_of h.0) _ taker.frames.now _ taker.reports.now few_items
+                enough c.args.self.now.config 0 _ (items_of h.0) _ taker.frames.now _ taker.reports.now
+                (record { reports = taker.count; octets = taker.octets; windows = 0 }) few_items
                 (search rules);
             chosen = chosen;
           }

@@ -4,7 +4,7 @@ use Rattle.tm_base.proofs.Octets.{are_octets}
 use Rattle.tm_config.specs.Accepted.{IsAccepted}
 use Rattle.tm_channel.specs.Sending.{Sending, SenderStandsFor}
 use Rattle.tm_buffers.proofs.SymbolRoom.{symbols-fit}
-use Rattle.tm_buffers.proofs.Written.{fills, held, not-full, sink_alone}
+use Rattle.tm_buffers.proofs.Sinks.{fills, held, not-full, sink_alone}
 use Rattle.tm_buffers.proofs.buffer_sender.BufferSender.push.Goals as goal
 use Rattle.tm_buffers.proofs.buffer_sender.BufferSender.push.Goals.{in-Ok, in-Err}
 
