@@ -14,12 +14,13 @@
  * - An array is passed as a pointer followed by its length, in octets, and of reports in reports. A call reads and
  *   writes nothing beyond it.
  * - Any length may be passed, 0 too, and any number. What does not fit is answered by a negative number, and nothing
- *   is written then, but by a receiver's push and finish (TMCHAN_ROOM).
+ *   is written then, but by a receiver's push and finish (TMCHAN_ROOM), and to a tmchan_written, which says so.
  *
  * What the caller owes, since no call can test it
  *
  * - A pointer is never null, not even where the length is 0. The memory that it points to is readable, or writable
  *   where it is not const, for the length passed.
+ * - An array of options or reports is aligned to 8 octets, as C does it.
  * - What a call may write, that is all that a pointer without const points to, an array or a struct, overlaps nothing
  *   else that is passed to that call, or to another call under way. Each call that takes a handle or a tmchan_search
  *   writes it: two threads do not pass one at the same time. What is const may be shared.
@@ -50,9 +51,9 @@ extern "C" {
 #endif
 
 /* The version that this header describes: 65,536 times the first number, 256 times the second, and the third. While
- * the first is 0, a program is compiled anew for each second number: in 0.2 tmchan_config and tmchan_search are
- * longer, and the calls of a search and tmchan_receiver_finish take other arguments than in 0.1. */
-#define TMCHAN_VERSION 0x000200
+ * the first is 0, a program is compiled anew for each second number: in 0.3 each push and finish takes a tmchan_written
+ * as its last argument, and the calls that take options take their number too, which macros of their names pass. */
+#define TMCHAN_VERSION 0x000300
 
 /* The codes. TMCHAN_NO_CODE is taken by tmchan_cadu, tmchan_cadu_length and the field code of tmchan_config alone. */
 #define TMCHAN_NO_CODE 0
@@ -63,8 +64,38 @@ extern "C" {
 #define TMCHAN_DUAL 0
 #define TMCHAN_POLYNOMIAL 1
 
+/* On and off. */
+#define TMCHAN_OFF 0
+#define TMCHAN_ON 1
+
+/* The rates of the convolutional code, by their digits. */
+#define TMCHAN_NO_INNER 0
+#define TMCHAN_RATE_12 12
+#define TMCHAN_RATE_23 23
+#define TMCHAN_RATE_34 34
+#define TMCHAN_RATE_56 56
+#define TMCHAN_RATE_78 78
+
+/* The forms of soft octets. */
+#define TMCHAN_U8 0
+#define TMCHAN_I8 1
+
+/* From which register the decoder's first path starts. */
+#define TMCHAN_ZERO 0
+#define TMCHAN_ANY 1
+
+/* What is known of the symbol phase, and of the polarity, which is not followed. */
+#define TMCHAN_GIVEN 0
+#define TMCHAN_FIND 1
+#define TMCHAN_FOLLOW 2
+
+/* What becomes of a frame with an uncorrectable column. */
+#define TMCHAN_DROP 0
+#define TMCHAN_PASS 1
+
 /* Answers below 0. Each call lists its own; where several apply it gives the first of its list. After any of them all
- * arrays are as they were, but for those of a receiver's push or finish: after TMCHAN_ROOM nothing is said of them. */
+ * arrays are as they were, but for those of a receiver's push or finish: after TMCHAN_ROOM the tmchan_written says what
+ * stands in them. tmchan_text has what each means. */
 #define TMCHAN_BEYOND (-1)      /* uncorrectable: no codeword is within the repair bound. No mistake of the caller */
 #define TMCHAN_ROOM (-2)        /* the length of an array does not fit those of the others, or the code */
 #define TMCHAN_FLAGS (-3)       /* there are not as many flags as symbols */
@@ -79,6 +110,7 @@ extern "C" {
 #define TMCHAN_CLOSED (-5)      /* the handle is closed, or a stream of another kind is open */
 #define TMCHAN_OPEN (-6)        /* the handle is open already */
 #define TMCHAN_MEMORY (-7)      /* malloc gave no memory */
+#define TMCHAN_BAD_CONFIG (-8)  /* a number behind the options that this library has is not 0 */
 #define TMCHAN_BAD_INNER (-19)
 #define TMCHAN_BAD_TOLERANCE (-22)
 #define TMCHAN_BAD_SOFT (-24)
@@ -94,9 +126,18 @@ extern "C" {
 #define TMCHAN_BAD_BATCH (-34)
 #define TMCHAN_BAD_PACK (-35)
 #define TMCHAN_BAD_VERIFY (-36)
+#define TMCHAN_BAD_RESCAN (-37)
+#define TMCHAN_BAD_BAD (-38)
 
 /* The version of the library that is linked. */
 uint32_t tmchan_version(void);
+
+/* In so many octets the text of each answer has room, and the 0 after it. */
+#define TMCHAN_TEXT_LENGTH 96
+
+/* Writes what an answer means to text: a sentence in ASCII without a full stop, and a 0 after it. Answers the sentence's
+ * length; TMCHAN_ROOM, where text is too short: never with TMCHAN_TEXT_LENGTH. */
+int32_t tmchan_text(int64_t answer, char *text, size_t text_length);
 
 /* Reed-Solomon codes */
 
@@ -169,23 +210,24 @@ int32_t tmchan_cadu(uint32_t code, uint32_t depth, uint32_t basis, uint32_t rand
 
 /* The options of a link, as those of the command line: which numbers each takes, and what the defaults are. A number
  * outside is answered by the option's TMCHAN_BAD_.., the first in the order in which they stand here (but invert and
- * randomize are tested together). */
+ * randomize are tested together). Later versions may add options at the end, of which 0 is the default. */
 typedef struct {
     uint64_t code;      /* TMCHAN_RS16 (default), TMCHAN_RS8 or TMCHAN_NO_CODE */
     uint64_t depth;     /* interleaving depth: 1 (default), 2, 3, 4, 5 or 8; 1 alone where there is no code */
     uint64_t length;    /* octets of a transfer frame: a multiple of the depth, 1 to 255 - 2E times it; with no code 1
                            to 2,040. TMCHAN_UNSET (default): the most */
-    uint64_t inner;     /* the convolutional code's rate by its digits: 12 (default), 23, 34, 56, 78; 0: none */
-    uint64_t invert;    /* 1: each second symbol of the convolutional code is inverted, 0: not. TMCHAN_UNSET
-                           (default): at rate 1/2 alone */
-    uint64_t randomize; /* 1 (default): codeblocks are randomized, 0: not. TMCHAN_BAD_SWITCH is the answer of invert
-                           and of randomize */
+    uint64_t inner;     /* the convolutional code's rate: TMCHAN_RATE_12 (default) and so on, or TMCHAN_NO_INNER */
+    uint64_t invert;    /* TMCHAN_ON: each second symbol of the convolutional code is inverted, TMCHAN_OFF: not.
+                           TMCHAN_UNSET (default): at rate 1/2 alone */
+    uint64_t randomize; /* codeblocks are randomized: TMCHAN_ON (default), or not: TMCHAN_OFF. TMCHAN_BAD_SWITCH is the
+                           answer of invert and of randomize */
     uint64_t basis;     /* TMCHAN_DUAL (default) or TMCHAN_POLYNOMIAL */
     uint64_t tolerance; /* sync threshold: how many of a marker's 32 bits may be wrong, 0 (default) to 8 */
     uint64_t repair;    /* how many symbols of a codeword are repaired at most, 0 to E. TMCHAN_UNSET (default): E */
-    uint64_t soft;      /* soft octets: 0 (default): 0 is the surest 0 and 255 the surest 1; 1: in two's complement,
-                           -128 and 127 */
-    uint64_t start;     /* the decoder's first path starts from register zero: 0 (default), or from any: 1 */
+    uint64_t soft;      /* soft octets: TMCHAN_U8 (default): 0 is the surest 0 and 255 the surest 1; TMCHAN_I8: in
+                           two's complement, -128 and 127 */
+    uint64_t start;     /* the decoder's first path starts from register zero: TMCHAN_ZERO (default), or from any:
+                           TMCHAN_ANY */
     uint64_t skip;      /* how many soft octets, or bits with no inner code, are dropped first: 0 (default) to 15 */
     uint64_t workers;   /* 1 (default) to 64: no thread is started here; with more than 1 tmchan_receiver_room says
                            more */
@@ -193,25 +235,48 @@ typedef struct {
     uint64_t fly;       /* flywheel: how many markers in a row may be missing, 0 (default) to 15 */
     uint64_t keep;      /* steps of a decoder's window that are kept: 64 to 65,536, default 8,192 */
     uint64_t ahead;     /* steps after these: 0 to 4,096, default 256 */
-    uint64_t phase;     /* the symbol phase is given: 0 (default), or to be found: 1, or to be found and followed: 2.
-                           Then it is looked at again before each later window of the decoder, and a few octets are
-                           dropped there where symbols were lost or doubled */
-    uint64_t polarity;  /* the polarity of the bits is given: 0 (default), or to be found: 1 */
-    uint64_t batch;     /* how many codeblocks a receiver repairs and hands over at once: 1 to 32 (default) */
-    uint64_t pack;      /* with no inner code, eight bits make an octet: 1 (default), or each bit is an octet of its
-                           own, as symbols are: 0 */
+    uint64_t phase;     /* the symbol phase is TMCHAN_GIVEN (default), to be found: TMCHAN_FIND, or to be found and
+                           followed: TMCHAN_FOLLOW. Then it is looked at again before each later window of the
+                           decoder, and a few octets are dropped there where symbols were lost or doubled */
+    uint64_t polarity;  /* the polarity of the bits is TMCHAN_GIVEN (default), or to be found: TMCHAN_FIND */
+    uint64_t batch;     /* how many codeblocks a receiver repairs and hands over at once: 1 to 4,096 (32 by default) */
+    uint64_t pack;      /* with no inner code, eight bits make an octet: TMCHAN_ON (default), or each bit is an octet of
+                           its own, as symbols are: TMCHAN_OFF */
     uint64_t verify;    /* how many further markers must match before a place that is searched for is taken, 0
                            (default) to 7 */
+    uint64_t rescan;    /* markers are looked for inside codeblocks too, where a column is uncorrectable or no marker
+                           follows: TMCHAN_ON, or not: TMCHAN_OFF (default). tmchan_receiver_room says nearly twice as
+                           much then */
+    uint64_t bad;       /* a frame with an uncorrectable column is not given: TMCHAN_DROP (default), or given with that
+                           column as it was received: TMCHAN_PASS */
 } tmchan_config;
 
-/* Fills in the defaults. */
-void tmchan_config_defaults(tmchan_config *config);
+/* How many numbers of options a program passes: as many as its tmchan_config has. A call has the defaults for options
+ * that are missing, and of more numbers than it knows each is to be 0 (TMCHAN_BAD_CONFIG), so that a program and a
+ * library may be of different versions. It is passed by macros of the calls' names: one writes
+ * tmchan_config_check(&config). A program that calls by a pointer, or from another language, passes it itself. */
+#define TMCHAN_CONFIG_LENGTH (sizeof(tmchan_config) / sizeof(uint64_t))
 
-/* Answers 0, or the TMCHAN_BAD_.. of the first option whose value is outside. */
-int32_t tmchan_config_check(const tmchan_config *config);
+/* Fills in the defaults; of numbers behind the options 0. */
+void tmchan_config_defaults(tmchan_config *config, size_t config_length);
 
-/* The octets of a transfer frame, 1 to 2,040; or the TMCHAN_BAD_.. of the first option. */
-int32_t tmchan_frame_length(const tmchan_config *config);
+/* Sets the options for a recording from outside, which begins anywhere, has noise before it, loses symbols and turns
+ * over, as README's lines have them: start TMCHAN_ANY, phase TMCHAN_FOLLOW, polarity TMCHAN_FIND, tolerance 3, fly 1,
+ * verify 0, rescan TMCHAN_ON; and where inner is TMCHAN_RATE_12 keep 128 and ahead 64, else the defaults of these two.
+ * So inner is set before. It leaves the other options. */
+void tmchan_config_recording(tmchan_config *config, size_t config_length);
+
+/* Answers 0; TMCHAN_BAD_CONFIG, or the TMCHAN_BAD_.. of the first option whose value is outside. So do the calls below
+ * that list TMCHAN_BAD_... */
+int32_t tmchan_config_check(const tmchan_config *config, size_t config_length);
+
+/* The octets of a transfer frame, 1 to 2,040; TMCHAN_BAD_... */
+int32_t tmchan_frame_length(const tmchan_config *config, size_t config_length);
+
+#define tmchan_config_defaults(config) (tmchan_config_defaults)(config, TMCHAN_CONFIG_LENGTH)
+#define tmchan_config_recording(config) (tmchan_config_recording)(config, TMCHAN_CONFIG_LENGTH)
+#define tmchan_config_check(config) (tmchan_config_check)(config, TMCHAN_CONFIG_LENGTH)
+#define tmchan_frame_length(config) (tmchan_frame_length)(config, TMCHAN_CONFIG_LENGTH)
 
 /* Streams
  *
@@ -237,6 +302,12 @@ typedef struct {
     uint64_t cost;
 } tmchan_phase;
 
+/* How much a push or a finish has written to the start of its arrays: reports, octets (of frames, or symbols or bits),
+ * and windows, of which it is 0 so far. After a negative answer all are 0, but at a receiver's TMCHAN_ROOM. */
+typedef struct {
+    uint64_t reports, octets, windows;
+} tmchan_written;
+
 /* Closes a stream of any kind, and drops what was not written yet. Answers 0; TMCHAN_CLOSED. */
 int32_t tmchan_close(tmchan_stream *stream);
 
@@ -245,40 +316,48 @@ int32_t tmchan_close(tmchan_stream *stream);
  * octets of the CADU, or with pack = 0 such an octet for each of its bits. */
 
 /* For how many symbols a push of so many octets needs room: more than it writes. Answers TMCHAN_BAD_.., TMCHAN_ROOM. */
-int64_t tmchan_sender_room(const tmchan_config *config, size_t octets_length);
+int64_t tmchan_sender_room(const tmchan_config *config, size_t config_length, size_t octets_length);
 
 /* Opens a sender. Answers 0; TMCHAN_OPEN, TMCHAN_BAD_.., TMCHAN_MEMORY. */
-int32_t tmchan_sender_open(tmchan_stream *stream, const tmchan_config *config);
+int32_t tmchan_sender_open(tmchan_stream *stream, const tmchan_config *config, size_t config_length);
 
 /* Takes the next octets of the frames. Answers how many symbols were written; TMCHAN_CLOSED, TMCHAN_ROOM: nothing was
  * taken then. */
 int64_t tmchan_sender_push(tmchan_stream *stream, const uint8_t *octets, size_t octets_length, uint8_t *symbols,
-                           size_t symbols_length);
+                           size_t symbols_length, tmchan_written *written);
 
-/* Closes a sender. Answers how many octets follow the last whole frame, which were not sent; TMCHAN_CLOSED. */
-int64_t tmchan_sender_finish(tmchan_stream *stream);
+/* Closes a sender, and writes nothing but *written, all 0. Answers how many octets follow the last whole frame, which
+ * were not sent; TMCHAN_CLOSED. */
+int64_t tmchan_sender_finish(tmchan_stream *stream, tmchan_written *written);
+
+#define tmchan_sender_room(config, octets_length) (tmchan_sender_room)(config, TMCHAN_CONFIG_LENGTH, octets_length)
+#define tmchan_sender_open(stream, config) (tmchan_sender_open)(stream, config, TMCHAN_CONFIG_LENGTH)
 
 /* The soft decoder of the convolutional code: soft octets in pieces of any length, and the decoded bits, an octet for
  * each, 0 or 1. With inner = 0 no bit comes. Bits come a window at a time: keep bits once more than keep + ahead
  * steps are there. */
 
 /* For how many bits a push of so many octets needs room, or with 0 the finish. Answers TMCHAN_BAD_.., TMCHAN_ROOM. */
-int64_t tmchan_decoder_room(const tmchan_config *config, size_t octets_length);
+int64_t tmchan_decoder_room(const tmchan_config *config, size_t config_length, size_t octets_length);
 
 /* Opens a decoder. Answers 0; TMCHAN_OPEN, TMCHAN_BAD_.., TMCHAN_MEMORY. */
-int32_t tmchan_decoder_open(tmchan_stream *stream, const tmchan_config *config);
+int32_t tmchan_decoder_open(tmchan_stream *stream, const tmchan_config *config, size_t config_length);
 
 /* Takes the next soft octets. Answers how many bits were written; TMCHAN_CLOSED, TMCHAN_ROOM: nothing was taken then.
  * */
 int64_t tmchan_decoder_push(tmchan_stream *stream, const uint8_t *octets, size_t octets_length, uint8_t *bits,
-                            size_t bits_length);
+                            size_t bits_length, tmchan_written *written);
 
 /* Gives the phase so far. Answers 0; TMCHAN_CLOSED. */
 int32_t tmchan_decoder_phase(tmchan_stream *stream, tmchan_phase *phase);
 
 /* Writes the bits that are left, gives the phase, and closes the decoder. Answers how many bits were written;
  * TMCHAN_CLOSED, TMCHAN_ROOM: the decoder is still open then. */
-int64_t tmchan_decoder_finish(tmchan_stream *stream, uint8_t *bits, size_t bits_length, tmchan_phase *phase);
+int64_t tmchan_decoder_finish(tmchan_stream *stream, uint8_t *bits, size_t bits_length, tmchan_phase *phase,
+                              tmchan_written *written);
+
+#define tmchan_decoder_room(config, octets_length) (tmchan_decoder_room)(config, TMCHAN_CONFIG_LENGTH, octets_length)
+#define tmchan_decoder_open(stream, config) (tmchan_decoder_open)(stream, config, TMCHAN_CONFIG_LENGTH)
 
 /* The receiver: received soft octets (or octets that hold the bits, with no inner code) in pieces of any length; the
  * frames of the codeblocks that are found in them, and a report of each. Codeblocks come in whole batches, of as many
@@ -286,34 +365,39 @@ int64_t tmchan_decoder_finish(tmchan_stream *stream, uint8_t *bits, size_t bits_
 
 typedef struct {
     uint64_t place;        /* how many received bits stand before its marker */
-    uint64_t frame_length; /* the octets of its frame; 0 where a column is uncorrectable: it has none then */
+    uint64_t frame_length; /* the octets of its frame; 0 where a column is uncorrectable and bad is TMCHAN_DROP: it has
+                              none then */
     uint8_t distance;      /* how many of the marker's 32 bits are wrong, in the codeblock's polarity */
     uint8_t bridged;       /* 1: no marker stands there, and its place was taken since it directly follows a codeblock
                               */
     uint8_t inverted;      /* 1: the codeblock was received inverted */
     uint8_t columns;       /* how many columns it has: the depth, or 0 with no code */
+    uint8_t bad;           /* 1: a column is uncorrectable */
     uint8_t repaired[8];   /* for each column how many symbols were wrong, or 255 where it is uncorrectable; of others
                               nothing is said */
 } tmchan_report;
 
 /* For how many reports a push of so many octets, or of fewer, and the finish need room: enough for any receiver of
- * this configuration, whatever was pushed before, and so mostly more than are written. For how many octets of frames,
- * as many frames, it writes to *frames_length.
+ * this configuration, whatever was pushed before, and so mostly more than are written; with rescan nearly twice as many
+ * as without, since codeblocks may lie inside others then. For how many octets of frames, as many frames, it writes to
+ * *frames_length.
  *
  * Answers the number of reports; TMCHAN_BAD_.., TMCHAN_ROOM (of more than 2^40 octets): *frames_length is as it was
  * then. */
-int64_t tmchan_receiver_room(const tmchan_config *config, size_t octets_length, uint64_t *frames_length);
+int64_t tmchan_receiver_room(const tmchan_config *config, size_t config_length, size_t octets_length,
+                             uint64_t *frames_length);
 
 /* Opens a receiver. Answers 0; TMCHAN_OPEN, TMCHAN_BAD_.., TMCHAN_MEMORY. */
-int32_t tmchan_receiver_open(tmchan_stream *stream, const tmchan_config *config);
+int32_t tmchan_receiver_open(tmchan_stream *stream, const tmchan_config *config, size_t config_length);
 
 /* Takes the next octets, and writes the frames of the codeblocks that are handed over, one after the other, to
  * frames, and a report of each to reports; frames_length is in octets, reports_length in reports. Answers how many
- * codeblocks these are; TMCHAN_CLOSED: nothing was taken then; TMCHAN_ROOM: the octets were taken, all codeblocks from
- * the first that had no room on are lost, and nothing is said of either array. That never comes with the room that
- * tmchan_receiver_room says. */
+ * codeblocks these are; TMCHAN_CLOSED: nothing was taken then; TMCHAN_ROOM: the octets were taken, those codeblocks
+ * were written that *written says, and all from the first that had no room on are lost. That never comes with the room
+ * that tmchan_receiver_room says. */
 int64_t tmchan_receiver_push(tmchan_stream *stream, const uint8_t *octets, size_t octets_length, uint8_t *frames,
-                             size_t frames_length, tmchan_report *reports, size_t reports_length);
+                             size_t frames_length, tmchan_report *reports, size_t reports_length,
+                             tmchan_written *written);
 
 /* Gives the phase so far. Answers 0; TMCHAN_CLOSED. */
 int32_t tmchan_receiver_phase(tmchan_stream *stream, tmchan_phase *phase);
@@ -333,7 +417,12 @@ int32_t tmchan_receiver_slips(tmchan_stream *stream, uint64_t *slips);
  * receiver. Answers how many codeblocks these are; TMCHAN_CLOSED; TMCHAN_ROOM, as of a push: the totals and the phase
  * are given, and the receiver is closed, all the same. */
 int64_t tmchan_receiver_finish(tmchan_stream *stream, uint8_t *frames, size_t frames_length, tmchan_report *reports,
-                               size_t reports_length, tmchan_totals *totals, tmchan_phase *phase);
+                               size_t reports_length, tmchan_totals *totals, tmchan_phase *phase,
+                               tmchan_written *written);
+
+#define tmchan_receiver_room(config, octets_length, frames_length) \
+    (tmchan_receiver_room)(config, TMCHAN_CONFIG_LENGTH, octets_length, frames_length)
+#define tmchan_receiver_open(stream, config) (tmchan_receiver_open)(stream, config, TMCHAN_CONFIG_LENGTH)
 
 /* The search for sync markers: in bits, or in octets, which marker has a whole codeblock after it. It takes no
  * memory: what it keeps stands in the caller's struct, which begins as {0}, and in a room of the caller's, and only

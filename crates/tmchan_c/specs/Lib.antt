@@ -1,5 +1,6 @@
-pub mod Refusal
 pub mod Options
+pub mod Refusal
+pub mod Texts
 pub mod Repaired
 pub mod Unit
 pub mod Kept

@@ -10,6 +10,7 @@ use Rattle.tm_inner.specs.Phase.{IsChosen}
 use Rattle.tm_buffers.specs.Items.{HasWritten}
 use Rattle.tm_buffers.specs.Receiving.{IsEnough, IsReceiving}
 use Rattle.tm_buffers.specs.declared.items.Report.{Report}
+use Rattle.tm_buffers.specs.declared.items.Written.{Written}
 use Rattle.tmchan_c.specs.Phases.{chosen_of}
 use Rattle.tmchan_c.specs.Totals.{totals_state}
 use Rattle.tmchan_c.specs.Refusal.{number_answer}
@@ -32,33 +33,36 @@ IsReceiver held c given done =
     (λ receiver. (receiver.config ≡ c) × IsReceiving receiver given done)
 
 -- the frames and the reports of items were written, and the answer is how many these are; or those
--- of the first ones, as many as had room, and the answer is that there was not the room
+-- of the first ones, as many as had room, and the answer is that there was not the room; how much
+-- was written is said in either case
 pub record WroteItems (answer : ℤ) (items : List ItemValue) (frames frames_now : List ℕ)
-    (reports reports_now : List Report) : Type 0 where
+    (reports reports_now : List Report) (said : Written) : Type 0 where
   pub count : Option ℕ
   pub answers : answer ≡ number_answer None count
-  pub written : HasWritten count items frames frames_now reports reports_now
+  pub written : HasWritten count items frames frames_now reports reports_now said
 
 -- a receiver that was given octets goes on to further ones, and what is due with them was written,
 -- all of it where there is the room that is said
 pub record ReceivesInto (c : Configuration) (given octets : List ℕ)
     (done : List (Handed ItemValue)) (now : Option Stream) (answer : ℤ)
-    (frames frames_now : List ℕ) (reports reports_now : List Report) : Type 0 where
+    (frames frames_now : List ℕ) (reports reports_now : List Report) (said : Written)
+    : Type 0 where
   pub more : List (Handed ItemValue)
   pub receiver : IsReceiver now c (given ++ octets) (done ++ more)
   pub due : AreReceivedDue c (given ++ octets) (done ++ more)
-  pub wrote : WroteItems answer (items_of more) frames frames_now reports reports_now
+  pub wrote : WroteItems answer (items_of more) frames frames_now reports reports_now said
   pub enough : IsEnough c (length octets) wrote.count frames reports
 
 -- at the end of its octets what is left was written in the same way, and what they came to and the
 -- phase were given
 pub record ReceivesLastInto (c : Configuration) (given : List ℕ)
     (done : List (Handed ItemValue)) (answer : ℤ) (frames frames_now : List ℕ)
-    (reports reports_now : List Report) (sums : TotalsState) (phase : PhaseState) : Type 0 where
+    (reports reports_now : List Report) (said : Written) (sums : TotalsState)
+    (phase : PhaseState) : Type 0 where
   pub last : List (Handed ItemValue)
   pub totals : Totals
   pub all : AreReceived c given (done ++ last) totals
   pub reported : sums ≡ totals_state totals
-  pub wrote : WroteItems answer (items_of last) frames frames_now reports reports_now
+  pub wrote : WroteItems answer (items_of last) frames frames_now reports reports_now said
   pub enough : IsEnough c 0 wrote.count frames reports
   pub chosen : IsChosen c given (chosen_of phase)

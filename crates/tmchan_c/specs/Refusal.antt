@@ -1,14 +1,15 @@
 -- When a call is refused, what that promises, and the numbers that calls answer.
-use Rattle.std.specs.Prelude.{◌≡◌, ℕ, ◌+◌, ◌*◌, ◌==◌, ℤ, pos, negsuc, [], ◌∷◌, Option, Some, None, option_map, nat_lt, nat_le, if◌then◌else◌}
+use Rattle.std.specs.Prelude.{◌≡◌, ℕ, ◌+◌, ◌*◌, ◌==◌, ℤ, pos, negsuc, List, [], ◌∷◌, length, drop, Option, Some, None, option_map, nat_lt, nat_le, if◌then◌else◌}
 use Rattle.tm_rs_code.specs.Code.{longest_word}
 use Rattle.tm_config.specs.Accepted.{is_number, is_within, place_of, refusal_of_raw}
-use Rattle.tm_config.specs.Configuration.{correctable, number_of_basis, all_bases}
+use Rattle.tm_config.specs.Configuration.{correctable, default_raw, number_of_basis, all_bases}
 use Rattle.tm_config.specs.declared.error.ConfigError.{ConfigError}
 use Rattle.tm_config.specs.declared.error.ConfigError.TheVariants.{Code, Length, Basis, Repair}
 use Rattle.tm_config.specs.declared.values.OuterCode.TheVariants.{Rs16, Rs8}
 use Rattle.tm_config.specs.declared.values.Raw.{Raw}
 use Rattle.tmchan_c.specs.declared.refusal.Refusal.{Refusal}
-use Rattle.tmchan_c.specs.declared.refusal.Refusal.TheVariants.{Room, Flags, Column, Closed, Open, Memory, Value}
+use Rattle.tmchan_c.specs.declared.refusal.Refusal.TheVariants.{Room, Flags, Column, Closed, Open, Memory, Config, Value}
+use Rattle.tmchan_c.specs.Options.{are_zero, numbers_of, raw_of}
 
 -- the answer where no codeword is within the repair bound
 abbrev pub beyond : ℤ
@@ -27,6 +28,7 @@ refused Column = negsuc 3
 refused Closed = negsuc 4
 refused Open = negsuc 5
 refused Memory = negsuc 6
+refused Config = negsuc 7
 refused (Value error) = value_answer error
 
 -- the answer of a call that does nothing else than succeed or be refused
@@ -49,6 +51,12 @@ Refuses refusal answer unchanged =
 -- the reason to refuse the values of options: the first that is outside its list or range, or none
 abbrev pub values_refusal : Raw → Option Refusal
 values_refusal raw = option_map (λ error. Value error) (refusal_of_raw raw)
+
+-- the same of the options that a program passes: first that a number behind those that there are is
+-- not 0
+abbrev pub config_refusal : List ℕ → Option Refusal
+config_refusal options = if are_zero (drop (length (numbers_of default_raw)) options)
+    then values_refusal (raw_of options) else Some Config
 
 -- the first reason to refuse a word of n symbols of the code that corrects this many, or else the
 -- one that comes after these, or none

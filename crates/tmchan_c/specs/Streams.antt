@@ -1,5 +1,5 @@
 -- What a call does with the stream behind a handle.
-use Rattle.std.specs.Prelude.{◌≡◌, ℕ, ℤ, Bool, if◌then◌else◌, pos, List, ◌++◌, length, take, Option, Some, None, IsSomeAnd}
+use Rattle.std.specs.Prelude.{◌≡◌, ℕ, ℤ, Bool, if◌then◌else◌, pos, negsuc, List, ◌++◌, length, take, Option, Some, None, IsSomeAnd}
 use Rattle.tm_base.specs.Handed.{Handed, items_of}
 use Rattle.tm_base.specs.Pieces.{further}
 use Rattle.tm_config.specs.Configuration.{Configuration}
@@ -13,9 +13,8 @@ use Rattle.tm_viterbi.specs.WindowBlock.{WindowBlock}
 use Rattle.tm_buffers.specs.Buffer.{has_room}
 use Rattle.tm_buffers.specs.Decoding.{IsDecoding, bits_room}
 use Rattle.tm_buffers.specs.Sending.{IsSending, symbols_room}
-use Rattle.tmchan_c.specs.Options.{raw_of}
-use Rattle.tmchan_c.specs.Refusal.{refused, values_refusal}
-use Rattle.tmchan_c.specs.declared.config.Options.{Options}
+use Rattle.tm_buffers.specs.declared.items.Written.{Written}
+use Rattle.tmchan_c.specs.Refusal.{config_refusal, refused}
 use Rattle.tmchan_c.specs.declared.refusal.Refusal.{Refusal}
 use Rattle.tmchan_c.specs.declared.refusal.Refusal.TheVariants.{Room, Closed, Open, Memory}
 use Rattle.tmchan_c.specs.declared.stream.Stream.{Stream}
@@ -26,8 +25,8 @@ use Rattle.tmchan_c.specs.declared.phase.PhaseState.{PhaseState}
 -- ---- streams of any kind
 
 -- the first reason to refuse to open a handle, where it is open or not, or none
-abbrev pub open_refusal : Bool → Options → Option Refusal
-open_refusal is_open options = if is_open then Some Open else values_refusal (raw_of options)
+abbrev pub open_refusal : Bool → List ℕ → Option Refusal
+open_refusal is_open options = if is_open then Some Open else config_refusal options
 
 -- a stream was opened, of which this is true, or there was not enough memory
 abbrev pub Opens : ℤ → Option Stream → (Option Stream → Type 0) → Type 0
@@ -47,6 +46,14 @@ room_refusal (Some stream) needed room = if has_room (needed stream) room then N
 -- a call has written this to the start of a buffer
 abbrev pub Wrote : {T : Type 0} → ℤ → List T → List T → Type 0
 Wrote answer buffer items = (answer ≡ pos (length items)) × (take (length items) buffer ≡ items)
+
+abbrev pub none_written : Written
+none_written = record { reports = 0; octets = 0; windows = 0 }
+
+-- what a call has written whose answer is how many octets these are: none where it is refused
+abbrev pub written_by : ℤ → Written
+written_by (pos count) = record none_written { octets = count }
+written_by (negsuc n) = none_written
 
 -- ---- senders
 

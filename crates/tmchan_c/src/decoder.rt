@@ -8,26 +8,27 @@ ghost use Rattle.tm_viterbi.specs.WindowBlock.{WindowBlock};
 ghost use Rattle.tm_viterbi.specs.WindowSizes.{stream_bound};
 ghost use Rattle.tm_buffers.specs.Buffer.{has_room};
 ghost use Rattle.tm_buffers.specs.Decoding.{bits_room};
-ghost use Rattle.tmchan_c.specs.Options.{configuration, raw_of};
+ghost use Rattle.tmchan_c.specs.Options.{configuration};
 ghost use Rattle.tmchan_c.specs.Phases.{chosen_of};
-ghost use Rattle.tmchan_c.specs.Refusal.{Refuses, number_answer, values_refusal};
-ghost use Rattle.tmchan_c.specs.Streams.{DecodesInto, DecodesLastInto, IsDecoder, Opens, closed_refusal, decoder_in, decoder_refusal, open_refusal};
+ghost use Rattle.tmchan_c.specs.Refusal.{Refuses, config_refusal, number_answer};
+ghost use Rattle.tmchan_c.specs.Streams.{DecodesInto, DecodesLastInto, IsDecoder, Opens, closed_refusal, decoder_in, decoder_refusal, open_refusal, written_by};
 
-use crate::config::{Options, checked, raw};
+use crate::config::config_of;
 use crate::handle::{Handle, open, put, take, to_open};
 use crate::phase::{PhaseState, phase_state};
 use crate::refusal::{Refusal, number_answer};
 use crate::stream::Stream;
+use crate::written::{NOTHING, written_by};
 use std::alloc::Global;
-use tm_buffers::{BufferDecoder, bits_room};
+use tm_buffers::{BufferDecoder, Written, bits_room};
 
 /// For how many bits a push of so many soft octets needs room, or with none the end; or why there is no such room.
 #[unsafe(no_mangle)]
-pub extern "C" fn tmchan_decoder_room(options: &Options, octets_length: usize) -> i64
-    ensures { result ≡ number_answer (values_refusal (raw_of options.now))
+pub extern "C" fn tmchan_decoder_room(options: &[u64], octets_length: usize) -> i64
+    ensures { result ≡ number_answer (config_refusal options.now)
         (bits_room (configuration options.now) octets_length) }
 {
-    match checked(&raw(options)) {
+    match config_of(options) {
         Err(refusal) => refusal.long_answer(),
         Ok(config) => number_answer(bits_room(&config, octets_length)),
     }
@@ -35,7 +36,7 @@ pub extern "C" fn tmchan_decoder_room(options: &Options, octets_length: usize) -
 
 /// Opens a decoder that was given nothing yet. Answers 0, or why it is refused.
 #[unsafe(no_mangle)]
-pub extern "C" fn tmchan_decoder_open(alloc: Global, handle: &mut Handle, options: &Options) -> i32
+pub extern "C" fn tmchan_decoder_open(alloc: Global, handle: &mut Handle, options: &[u64]) -> i32
     ensures refused { Refuses (open_refusal (is_some handle.old.kept.value) options.now) result
         (handle.new.kept.value ≡ handle.old.kept.value) }
     ensures opened { open_refusal (is_some handle.old.kept.value) options.now ≡ None
@@ -51,13 +52,14 @@ pub extern "C" fn tmchan_decoder_open(alloc: Global, handle: &mut Handle, option
 }
 
 /// Takes the next soft octets, and writes the bits that are due with them to the start of `bits`. Answers how many
-/// these are, or why it is refused.
+/// these are, as `written` says too, or why it is refused.
 #[unsafe(no_mangle)]
 pub extern "C" fn tmchan_decoder_push(
     alloc: Global,
     handle: &mut Handle,
     octets: &[u8],
     bits: &mut [u8],
+    written: &mut Written,
 ) -> i64
     ensures refused { Refuses (decoder_refusal handle.old.kept.value (length octets.now) (length bits.old)) result
         ((handle.new.kept.value ≡ handle.old.kept.value) × (bits.new ≡ bits.old)) }
@@ -65,7 +67,9 @@ pub extern "C" fn tmchan_decoder_push(
         → IsDecoder handle.old.kept.value c given done → length given + length octets.now < stream_bound
         → has_room (bits_room c (length octets.now)) (length bits.old) ≡ true
         → DecodesInto c given octets.now done handle.new.kept.value result bits.new }
+    ensures written { written.new ≡ written_by result }
 {
+    *written = NOTHING;
     let Some(mut stream) = take(alloc, handle) else {
         return Refusal::Closed.long_answer();
     };
@@ -73,17 +77,19 @@ pub extern "C" fn tmchan_decoder_push(
         Stream::Decoder(decoder) => number_answer(decoder.feed(octets, bits)),
         _ => Refusal::Closed.long_answer(),
     };
+    *written = written_by(answer);
     put(handle, stream, answer)
 }
 
 /// Writes the bits that are left to the start of `bits`, gives the symbol phase, and closes the decoder. Answers how
-/// many bits these are, or why it is refused.
+/// many bits these are, as `written` says too, or why it is refused.
 #[unsafe(no_mangle)]
 pub extern "C" fn tmchan_decoder_finish(
     alloc: Global,
     handle: &mut Handle,
     bits: &mut [u8],
     phase: &mut PhaseState,
+    written: &mut Written,
 ) -> i64
     ensures refused { Refuses (decoder_refusal handle.old.kept.value 0 (length bits.old)) result
         ((handle.new.kept.value ≡ handle.old.kept.value) × (bits.new ≡ bits.old) × (phase.new ≡ phase.old)) }
@@ -91,7 +97,9 @@ pub extern "C" fn tmchan_decoder_finish(
         → IsDecoder handle.old.kept.value c given done
         → has_room (bits_room c 0) (length bits.old) ≡ true
         → DecodesLastInto c given done result bits.new phase.new × (handle.new.kept.value ≡ None) }
+    ensures written { written.new ≡ written_by result }
 {
+    *written = NOTHING;
     let Some(mut stream) = take(alloc, handle) else {
         return Refusal::Closed.long_answer();
     };
@@ -99,6 +107,7 @@ pub extern "C" fn tmchan_decoder_finish(
         Stream::Decoder(decoder) => match decoder.finish(bits) {
             Some(count) => {
                 *phase = phase_state(decoder.chosen());
+                *written = written_by(count as i64);
                 drop(stream);
                 count as i64
             }

@@ -5,7 +5,7 @@ ghost use Rattle.tmchan_c.specs.Refusal.{answered};
 ghost use Rattle.tmchan_c.specs.Options.{configuration};
 ghost use Rattle.tmchan_c.specs.Streams.{Opens, closed_refusal, open_refusal};
 
-use crate::config::{Options, checked, raw};
+use crate::config::config_of;
 use crate::kept::Kept;
 use crate::parts::Parts;
 use crate::refusal::Refusal;
@@ -66,7 +66,7 @@ pub fn open(alloc: Global, handle: &mut Handle, stream: Stream) -> i32
 }
 
 /// The configuration with which a handle is to be opened, or why it cannot be.
-pub fn to_open(handle: &Handle, options: &Options) -> Result<Config, Refusal>
+pub fn to_open(handle: &Handle, options: &[u64]) -> Result<Config, Refusal>
     ensures ok { IfOk result (λ config. (open_refusal (is_some handle.now.kept.value) options.now ≡ None)
         × (config ≡ configuration options.now)
         × (handle.now.kept.value ≡ None)) }
@@ -76,7 +76,7 @@ pub fn to_open(handle: &Handle, options: &Options) -> Result<Config, Refusal>
     if is_open(handle) {
         return Err(Refusal::Open);
     }
-    checked(&raw(options))
+    config_of(options)
 }
 
 // So that it is proved that a handle may go to another thread: where a part of a stream may not, no call of this is.

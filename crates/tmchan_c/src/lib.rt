@@ -20,8 +20,10 @@ mod sender;
 mod stream;
 #[cfg(test)]
 mod tests;
+mod text;
 mod totals;
 mod unit;
 mod version;
+mod written;
 
 pub use refusal::Refusal;

@@ -8,37 +8,38 @@ ghost use Rattle.tm_channel.specs.Items.{ItemValue};
 ghost use Rattle.tm_channel.specs.OctetReceiving.{AreSlipsSoFar};
 ghost use Rattle.tm_inner.specs.Phase.{IsChosenSoFar};
 ghost use Rattle.tm_buffers.specs.Receiving.{items_room};
-ghost use Rattle.tmchan_c.specs.Options.{configuration, raw_of};
+ghost use Rattle.tmchan_c.specs.Options.{configuration};
 ghost use Rattle.tmchan_c.specs.Phases.{chosen_of};
 ghost use Rattle.tmchan_c.specs.Receivers.{IsReceiver, ReceivesInto, ReceivesLastInto, receiver_in};
-ghost use Rattle.tmchan_c.specs.Refusal.{Refuses, number_answer, values_refusal};
-ghost use Rattle.tmchan_c.specs.Streams.{Opens, closed_refusal, open_refusal};
+ghost use Rattle.tmchan_c.specs.Refusal.{Refuses, config_refusal, number_answer};
+ghost use Rattle.tmchan_c.specs.Streams.{Opens, closed_refusal, none_written, open_refusal};
 
-use crate::config::{Options, checked, raw};
+use crate::config::config_of;
 use crate::handle::{Handle, open, put, take, to_open};
 use crate::phase::{PhaseState, phase_state};
 use crate::refusal::{Refusal, number_answer};
 use crate::stream::Stream;
 use crate::totals::{TotalsState, totals_state};
+use crate::written::NOTHING;
 use std::alloc::Global;
-use tm_buffers::{BufferReceiver, Report, items_room};
+use tm_buffers::{BufferReceiver, Report, Written, items_room};
 use tm_channel::Totals;
 
 /// For how many reports a push of so many octets, or fewer, and the finish need room, whatever was pushed before; and
 /// for how many octets of frames. Or why no such room is said.
 #[unsafe(no_mangle)]
 pub extern "C" fn tmchan_receiver_room(
-    options: &Options,
+    options: &[u64],
     octets_length: usize,
     frames_length: &mut u64,
 ) -> i64
-    ensures answer { result ≡ number_answer (values_refusal (raw_of options.now))
+    ensures answer { result ≡ number_answer (config_refusal options.now)
         (items_room (configuration options.now) octets_length) }
     ensures frames { (items : ℕ) → result ≡ pos items
         → frames_length.new ≡ items * (configuration options.now).frame_length }
     ensures unchanged { result <ℤ pos 0 → frames_length.new ≡ frames_length.old }
 {
-    match checked(&raw(options)) {
+    match config_of(options) {
         Err(refusal) => refusal.long_answer(),
         Ok(config) => match items_room(&config, octets_length) {
             Some(items) => {
@@ -52,7 +53,7 @@ pub extern "C" fn tmchan_receiver_room(
 
 /// Opens a receiver that was given nothing yet. Answers 0, or why it is refused.
 #[unsafe(no_mangle)]
-pub extern "C" fn tmchan_receiver_open(alloc: Global, handle: &mut Handle, options: &Options) -> i32
+pub extern "C" fn tmchan_receiver_open(alloc: Global, handle: &mut Handle, options: &[u64]) -> i32
     ensures refused { Refuses (open_refusal (is_some handle.old.kept.value) options.now) result
         (handle.new.kept.value ≡ handle.old.kept.value) }
     ensures opened { open_refusal (is_some handle.old.kept.value) options.now ≡ None
@@ -69,7 +70,7 @@ pub extern "C" fn tmchan_receiver_open(alloc: Global, handle: &mut Handle, optio
 
 /// Takes the next octets, and writes the frames of the items that are due with them to the start of `frames`, and what
 /// else is said of each to that of `reports`. Answers how many items these are, or why it is refused; or that there was
-/// not the room for all: those before the first one that did not fit are written then, and C is not told how many.
+/// not the room for all: those before the first one that did not fit are written then. `written` says how much was.
 #[unsafe(no_mangle)]
 pub extern "C" fn tmchan_receiver_push(
     alloc: Global,
@@ -77,19 +78,22 @@ pub extern "C" fn tmchan_receiver_push(
     octets: &[u8],
     frames: &mut [u8],
     reports: &mut [Report],
+    written: &mut Written,
 ) -> i64
     ensures refused { Refuses (closed_refusal (receiver_in handle.old.kept.value)) result
-        ((handle.new.kept.value ≡ handle.old.kept.value) × (frames.new ≡ frames.old) × (reports.new ≡ reports.old)) }
+        ((handle.new.kept.value ≡ handle.old.kept.value) × (frames.new ≡ frames.old) × (reports.new ≡ reports.old)
+        × (written.new ≡ none_written)) }
     ensures pushed { (c : Configuration) (given : List ℕ) (done : List (Handed ItemValue))
         → IsReceiver handle.old.kept.value c given done → length given + length octets.now < stream_bound
         → ReceivesInto c given octets.now done handle.new.kept.value result frames.old frames.new reports.old
-        reports.new }
+        reports.new written.new }
 {
+    *written = NOTHING;
     let Some(mut stream) = take(alloc, handle) else {
         return Refusal::Closed.long_answer();
     };
     let answer = match &mut *stream {
-        Stream::Receiver(receiver) => number_answer(receiver.feed(octets, frames, reports)),
+        Stream::Receiver(receiver) => number_answer(receiver.feed(octets, frames, reports, written)),
         _ => Refusal::Closed.long_answer(),
     };
     put(handle, stream, answer)
@@ -105,15 +109,17 @@ pub extern "C" fn tmchan_receiver_finish(
     reports: &mut [Report],
     totals: &mut TotalsState,
     phase: &mut PhaseState,
+    written: &mut Written,
 ) -> i64
     ensures refused { Refuses (closed_refusal (receiver_in handle.old.kept.value)) result
         ((handle.new.kept.value ≡ handle.old.kept.value) × (frames.new ≡ frames.old) × (reports.new ≡ reports.old)
-        × (totals.new ≡ totals.old) × (phase.new ≡ phase.old)) }
+        × (totals.new ≡ totals.old) × (phase.new ≡ phase.old) × (written.new ≡ none_written)) }
     ensures finished { (c : Configuration) (given : List ℕ) (done : List (Handed ItemValue))
         → IsReceiver handle.old.kept.value c given done
-        → ReceivesLastInto c given done result frames.old frames.new reports.old reports.new totals.new phase.new
-        × (handle.new.kept.value ≡ None) }
+        → ReceivesLastInto c given done result frames.old frames.new reports.old reports.new written.new totals.new
+        phase.new × (handle.new.kept.value ≡ None) }
 {
+    *written = NOTHING;
     let Some(mut stream) = take(alloc, handle) else {
         return Refusal::Closed.long_answer();
     };
@@ -123,7 +129,7 @@ pub extern "C" fn tmchan_receiver_finish(
                 bits: 0,
                 slips: None,
             };
-            let count = receiver.finish(frames, reports, &mut all);
+            let count = receiver.finish(frames, reports, &mut all, written);
             *totals = totals_state(&all);
             *phase = phase_state(receiver.chosen());
             drop(stream);

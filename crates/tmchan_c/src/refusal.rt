@@ -20,6 +20,8 @@ pub enum Refusal {
     Open,
     /// There is not enough memory.
     Memory,
+    /// A number behind the options that there are is not 0.
+    Config,
     /// The value of an option is outside its list or range.
     Value(ConfigError),
 }
@@ -37,6 +39,7 @@ impl Refusal {
             Refusal::Closed => -5,
             Refusal::Open => -6,
             Refusal::Memory => -7,
+            Refusal::Config => -8,
             Refusal::Value(error) => value_answer(error),
         }
     }

@@ -5,25 +5,26 @@ ghost use Rattle.tm_codeblock.specs.Frames.{after_frames};
 ghost use Rattle.tm_config.specs.Configuration.{Configuration};
 ghost use Rattle.tm_buffers.specs.Buffer.{has_room};
 ghost use Rattle.tm_buffers.specs.Sending.{symbols_room};
-ghost use Rattle.tmchan_c.specs.Options.{configuration, raw_of};
-ghost use Rattle.tmchan_c.specs.Refusal.{Refuses, number_answer, values_refusal};
-ghost use Rattle.tmchan_c.specs.Streams.{IsSender, Opens, Sends, closed_refusal, open_refusal, sender_in, sender_refusal};
+ghost use Rattle.tmchan_c.specs.Options.{configuration};
+ghost use Rattle.tmchan_c.specs.Refusal.{Refuses, config_refusal, number_answer};
+ghost use Rattle.tmchan_c.specs.Streams.{IsSender, Opens, Sends, closed_refusal, none_written, open_refusal, sender_in, sender_refusal, written_by};
 
-use crate::config::{Options, checked, raw};
+use crate::config::config_of;
 use crate::handle::{Handle, open, put, take, to_open};
 use crate::refusal::{Refusal, number_answer};
 use crate::stream::Stream;
+use crate::written::{NOTHING, written_by};
 use std::alloc::Global;
-use tm_buffers::{BufferSender, symbols_room};
+use tm_buffers::{BufferSender, Written, symbols_room};
 
 /// For how many symbols a push of so many octets needs room: one more than it writes at most; or why there is no such
 /// room.
 #[unsafe(no_mangle)]
-pub extern "C" fn tmchan_sender_room(options: &Options, octets_length: usize) -> i64
-    ensures { result ≡ number_answer (values_refusal (raw_of options.now))
+pub extern "C" fn tmchan_sender_room(options: &[u64], octets_length: usize) -> i64
+    ensures { result ≡ number_answer (config_refusal options.now)
         (symbols_room (configuration options.now) octets_length) }
 {
-    match checked(&raw(options)) {
+    match config_of(options) {
         Err(refusal) => refusal.long_answer(),
         Ok(config) => number_answer(symbols_room(&config, octets_length)),
     }
@@ -31,7 +32,7 @@ pub extern "C" fn tmchan_sender_room(options: &Options, octets_length: usize) ->
 
 /// Opens a sender that was given nothing yet. Answers 0, or why it is refused.
 #[unsafe(no_mangle)]
-pub extern "C" fn tmchan_sender_open(alloc: Global, handle: &mut Handle, options: &Options) -> i32
+pub extern "C" fn tmchan_sender_open(alloc: Global, handle: &mut Handle, options: &[u64]) -> i32
     ensures refused { Refuses (open_refusal (is_some handle.old.kept.value) options.now) result
         (handle.new.kept.value ≡ handle.old.kept.value) }
     ensures opened { open_refusal (is_some handle.old.kept.value) options.now ≡ None
@@ -44,20 +45,23 @@ pub extern "C" fn tmchan_sender_open(alloc: Global, handle: &mut Handle, options
 }
 
 /// Takes the next octets of the frames, and writes the symbols of each frame that is whole now to the start of
-/// `symbols`. Answers how many these are, or why it is refused.
+/// `symbols`. Answers how many these are, as `written` says too, or why it is refused.
 #[unsafe(no_mangle)]
 pub extern "C" fn tmchan_sender_push(
     alloc: Global,
     handle: &mut Handle,
     octets: &[u8],
     symbols: &mut [u8],
+    written: &mut Written,
 ) -> i64
     ensures refused { Refuses (sender_refusal handle.old.kept.value (length octets.now) (length symbols.old)) result
         ((handle.new.kept.value ≡ handle.old.kept.value) × (symbols.new ≡ symbols.old)) }
     ensures pushed { (c : Configuration) (given : List ℕ) → IsSender handle.old.kept.value c given
         → has_room (symbols_room c (length octets.now)) (length symbols.old) ≡ true
         → Sends c given octets.now handle.new.kept.value result symbols.new }
+    ensures written { written.new ≡ written_by result }
 {
+    *written = NOTHING;
     let Some(mut stream) = take(alloc, handle) else {
         return Refusal::Closed.long_answer();
     };
@@ -65,17 +69,21 @@ pub extern "C" fn tmchan_sender_push(
         Stream::Sender(sender) => number_answer(sender.push(octets, symbols)),
         _ => Refusal::Closed.long_answer(),
     };
+    *written = written_by(answer);
     put(handle, stream, answer)
 }
 
-/// Answers how many octets follow the last whole frame, and closes the sender; or why it is refused.
+/// Answers how many octets follow the last whole frame, and closes the sender; or why it is refused. It writes nothing,
+/// as `written` says.
 #[unsafe(no_mangle)]
-pub extern "C" fn tmchan_sender_finish(alloc: Global, handle: &mut Handle) -> i64
+pub extern "C" fn tmchan_sender_finish(alloc: Global, handle: &mut Handle, written: &mut Written) -> i64
     ensures refused { Refuses (closed_refusal (sender_in handle.old.kept.value)) result
         (handle.new.kept.value ≡ handle.old.kept.value) }
     ensures finished { (c : Configuration) (given : List ℕ) → IsSender handle.old.kept.value c given
         → (result ≡ pos (length (after_frames c.frame_length given))) × (handle.new.kept.value ≡ None) }
+    ensures written { written.new ≡ none_written }
 {
+    *written = NOTHING;
     let Some(stream) = take(alloc, handle) else {
         return Refusal::Closed.long_answer();
     };

@@ -1,7 +1,7 @@
 // Each call once, on values from outside: the generator polynomial of the (255,223) code, which is the codeword that
 // begins with 1, and the first octets of the pseudo-random sequence.
 use crate::codeblock::{tmchan_put_column, tmchan_randomize, tmchan_take_column};
-use crate::config::{Options, tmchan_config_check, tmchan_config_defaults};
+use crate::config::{tmchan_config_check, tmchan_config_defaults, tmchan_config_recording};
 use crate::handle::{Handle, tmchan_close};
 use crate::kept::Kept;
 use crate::phase::PhaseState;
@@ -14,11 +14,13 @@ use crate::sender::{
     tmchan_sender_finish, tmchan_sender_open, tmchan_sender_push, tmchan_sender_room,
 };
 use crate::totals::TotalsState;
+use crate::text::tmchan_text;
 use crate::unit::{tmchan_cadu, tmchan_cadu_length};
 use crate::version::tmchan_version;
+use crate::written::NOTHING;
 use std::alloc::Global;
 use std::process::Abort;
-use tm_buffers::Report;
+use tm_buffers::{Report, Written};
 
 static WORD: [u8; 33] = [
     0x01, 0x5B, 0x7F, 0x56, 0x10, 0x1E, 0x0D, 0xEB, 0x61, 0xA5, 0x08, 0x2A, 0x36, 0x56, 0xAB, 0x20,
@@ -65,7 +67,7 @@ fn check_filling_in(rt: &impl Abort, word: &mut [u8; 33]) {
 
 #[test]
 fn units_are_written_and_taken_apart(rt: HostRuntime) {
-    assert!(rt; tmchan_version() == 512);
+    assert!(rt; tmchan_version() == 768);
     let mut unit = [0; 70];
     check_unit(&rt, &mut unit);
     let block = &mut unit[4..];
@@ -90,38 +92,61 @@ fn check_columns(rt: &impl Abort, block: &mut [u8]) {
     assert!(rt; tmchan_put_column(2, 2, block, &word) == -4);
 }
 
-// Options as C begins with them.
-fn zeros() -> Options {
-    Options {
-        code: 0,
-        depth: 0,
-        length: 0,
-        inner: 0,
-        invert: 0,
-        randomize: 0,
-        basis: 0,
-        tolerance: 0,
-        repair: 0,
-        soft: 0,
-        start: 0,
-        skip: 0,
-        workers: 0,
-        limit: 0,
-        fly: 0,
-        keep: 0,
-        ahead: 0,
-        phase: 0,
-        polarity: 0,
-        batch: 0,
-        pack: 0,
-        verify: 0,
-    }
+// The places of options.
+const CODE: usize = 0;
+
+const LENGTH: usize = 2;
+
+const INNER: usize = 3;
+
+const RANDOMIZE: usize = 5;
+
+const KEEP: usize = 15;
+
+const BAD: usize = 23;
+
+#[test]
+fn options_are_as_many_as_are_passed(rt: HostRuntime) {
+    let mut options = [9; 26];
+    tmchan_config_defaults(&mut options);
+    assert!(rt; options[LENGTH] == u64::MAX && options[KEEP] == 8192 && options[25] == 0);
+    assert!(rt; tmchan_config_check(&options) == 0);
+    assert!(rt; tmchan_config_check(&[]) == 0);
+    options[25] = 1;
+    assert!(rt; tmchan_config_check(&options) == -8);
+    assert!(rt; tmchan_config_check(&options[..25]) == 0);
+    options[BAD] = 2;
+    assert!(rt; tmchan_config_check(&options[..24]) == -38);
+    assert!(rt; tmchan_config_check(&options[..23]) == 0);
+    check_recording(&rt, &mut options);
+}
+
+// Windows are short at rate 1/2 alone.
+fn check_recording(rt: &impl Abort, options: &mut [u64; 26]) {
+    tmchan_config_recording(options);
+    assert!(rt; &options[14..19] == &[1, 128, 64, 2, 1][..]);
+    assert!(rt; &options[21..] == &[0, 1, 2, 0, 1][..]);
+    options[INNER] = 34;
+    tmchan_config_recording(&mut options[..16]);
+    assert!(rt; &options[15..17] == &[8192, 64][..]);
+}
+
+#[test]
+fn answers_have_texts(rt: HostRuntime) {
+    let mut text = [7; 40];
+    assert!(rt; tmchan_text(-38, &mut text) == 28);
+    assert!(rt; text.starts_with(b"bad is neither drop nor pass\0\x07"));
+    assert!(rt; tmchan_text(-3, &mut text[..39]) == 38);
+    assert!(rt; tmchan_text(-3, &mut text[..38]) == -2);
+    assert!(rt; tmchan_text(i64::MIN, &mut text) == 14);
+    assert!(rt; tmchan_text(9, &mut text) == 4);
+    assert!(rt; text.starts_with(b"done\0"));
 }
 
 #[test]
 fn frames_are_sent_and_received_after_handles(rt: HostRuntime) {
     let alloc = rt.alloc();
-    let mut options = zeros();
+    let mut options = [0; 24];
     fill_in(&rt, &mut options);
     let mut handle = Handle {
         is_open: 0,
@@ -135,14 +160,14 @@ fn frames_are_sent_and_received_after_handles(rt: HostRuntime) {
 }
 
 // Frames of three octets, as they are.
-fn fill_in(rt: &impl Abort, options: &mut Options) {
+fn fill_in(rt: &impl Abort, options: &mut [u64; 24]) {
     assert!(rt; tmchan_config_check(options) == -17);
     tmchan_config_defaults(options);
     assert!(rt; tmchan_config_check(options) == 0);
-    options.code = 0;
-    options.length = 3;
-    options.inner = 0;
-    options.randomize = 0;
+    options[CODE] = 0;
+    options[LENGTH] = 3;
+    options[INNER] = 0;
+    options[RANDOMIZE] = 0;
 }
 
 // A handle that is closed takes nothing, and one that is open is not opened.
@@ -150,10 +175,12 @@ fn check_opening(
     rt: &impl Abort,
     alloc: Global,
     handle: &mut Handle,
-    options: &Options,
+    options: &[u64],
     symbols: &mut [u8],
 ) {
-    assert!(rt; tmchan_sender_push(alloc, handle, &[1, 2, 3], symbols) == -5);
+    let mut written = octets(9);
+    assert!(rt; tmchan_sender_push(alloc, handle, &[1, 2, 3], symbols, &mut written) == -5);
+    assert!(rt; written == NOTHING);
     assert!(rt; tmchan_sender_open(alloc, handle, options) == 0);
     assert!(rt; tmchan_receiver_open(alloc, handle, options) == -6);
 }
@@ -162,13 +189,16 @@ fn check_sending(
     rt: &impl Abort,
     alloc: Global,
     handle: &mut Handle,
-    options: &Options,
+    options: &[u64],
     symbols: &mut [u8],
 ) {
     assert!(rt; tmchan_sender_room(options, 4) == 15);
-    assert!(rt; tmchan_sender_push(alloc, handle, &[1, 2, 3, 4], symbols) == 7);
+    let mut written = NOTHING;
+    assert!(rt; tmchan_sender_push(alloc, handle, &[1, 2, 3, 4], symbols, &mut written) == 7);
+    assert!(rt; written == octets(7));
     assert!(rt; symbols.starts_with(&[0x1A, 0xCF, 0xFC, 0x1D, 1, 2, 3]));
-    assert!(rt; tmchan_sender_finish(alloc, handle) == 1);
+    assert!(rt; tmchan_sender_finish(alloc, handle, &mut written) == 1);
+    assert!(rt; written == NOTHING);
     assert!(rt; tmchan_close(alloc, handle) == -5);
 }
 
@@ -176,16 +206,34 @@ fn check_receiving(
     rt: &impl Abort,
     alloc: Global,
     handle: &mut Handle,
-    options: &Options,
+    options: &[u64],
     symbols: &[u8],
 ) {
     let mut octets = 0;
+    let mut written = NOTHING;
     assert!(rt; tmchan_receiver_room(options, 7, &mut octets) == 33);
     assert!(rt; octets == 99);
     assert!(rt; tmchan_receiver_open(alloc, handle, options) == 0);
-    assert!(rt; tmchan_receiver_push(alloc, handle, symbols, &mut [0; 6], &mut [NONE; 2]) == 0);
+    let answer = tmchan_receiver_push(
+        alloc,
+        handle,
+        symbols,
+        &mut [0; 6],
+        &mut [NONE; 2],
+        &mut written,
+    );
+    assert!(rt; answer == 0);
     assert!(rt; tmchan_receiver_slips(alloc, handle, &mut octets) == 0);
     assert!(rt; octets == 0);
+}
+
+// So many octets and nothing else.
+fn octets(count: u64) -> Written {
+    Written {
+        reports: 0,
+        octets: count,
+        windows: 0,
+    }
 }
 
 // No report.
@@ -196,6 +244,7 @@ const NONE: Report = Report {
     bridged: 0,
     inverted: 0,
     columns: 0,
+    bad: 0,
     repaired: [0; 8],
 };
 
@@ -203,6 +252,7 @@ fn check_the_end(rt: &impl Abort, alloc: Global, handle: &mut Handle) {
     let mut frames = [0; 6];
     let mut reports = [NONE; 2];
     let mut totals = TotalsState { bits: 1, slips: 1 };
+    let mut written = NOTHING;
     let mut phase = PhaseState {
         is_chosen: 1,
         skip: 1,
@@ -215,8 +265,10 @@ fn check_the_end(rt: &impl Abort, alloc: Global, handle: &mut Handle) {
         &mut reports,
         &mut totals,
         &mut phase,
+        &mut written,
     );
     assert!(rt; count == 1);
+    assert!(rt; written.reports == 1 && written.octets == 3 && written.windows == 0);
     assert!(rt; totals.bits == 56);
     assert!(rt; totals.slips == 0);
     assert!(rt; phase.is_chosen == 0);

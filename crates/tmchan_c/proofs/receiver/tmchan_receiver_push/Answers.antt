@@ -25,13 +25,13 @@ returns-clause-pushed c = λ config given done is few.
           let there = w.feed.ensures.received given done few receiver.1 in
           let items = items_of there.more in
           let written : HasWritten w.feed.result items c.args.frames.now c.match-deref_mut.frames c.args.reports.now
-          c.match-deref_mut.reports =
-          subst (λ reports. HasWritten w.feed.result items c.args.frames.now c.match-deref_mut.frames
-          c.args.reports.now reports)
-          (sym w.reports-is)
+          c.match-deref_mut.reports c.match-deref_mut.written =
+          subst (λ said. HasWritten w.feed.result items c.args.frames.now c.match-deref_mut.frames c.args.reports.now
+          c.match-deref_mut.reports said) (sym w.written-is)
+          (subst (λ reports. HasWritten w.feed.result items c.args.frames.now c.match-deref_mut.frames
+          c.args.reports.now reports w.feed.new.written) (sym w.reports-is)
           (subst (λ frames. HasWritten w.feed.result items c.args.frames.now frames c.args.reports.now
-          w.feed.new.reports)
-          (sym w.frames-is) there.written) in
+          w.feed.new.reports w.feed.new.written) (sym w.frames-is) there.written)) in
           record {
             more = there.more;
             receiver =
