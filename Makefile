@@ -125,13 +125,17 @@ $(OUT)/libtmchan.a: $(OBJECTS)/tmchan.o
 	rm -f $@
 	$(CROSS)ar rcD $@ $<
 
-$(OUT)/libtmchan.so: $(OBJECTS)/tmchan.o
-	$(LINK) -shared -Wl,-soname,$(SONAME) -o $@ $<
+# The names of the shared library, with the version whose they are
+$(OBJECTS)/tmchan.map: Makefile include/tmchan.h | $(OBJECTS)
+	printf '%s\n' 'TMCHAN_$(basename $(VERSION)) {' 'global:' $(patsubst %,'    %;',$(CALLS)) 'local:' '    *;' '};' >$@
+
+$(OUT)/libtmchan.so: $(OBJECTS)/tmchan.o $(OBJECTS)/tmchan.map
+	$(LINK) -shared -Wl,-soname,$(SONAME) -Wl,--version-script,$(OBJECTS)/tmchan.map -o $@ $<
 
 # Its prefix is written as it is installed.
 $(OUT)/tmchan.pc: Makefile include/tmchan.h | $(OBJECTS)
-	printf '%s\n' 'prefix=@PREFIX@' 'libdir=$${prefix}/@LIBDIR@' 'Name: tmchan' 'Description: CCSDS 131.0-B channel codec' \
-	    'Version: $(VERSION)' 'Libs: -L$${libdir} -ltmchan' 'Cflags: -I$${prefix}/include' >$@
+	printf '%s\n' 'prefix=@PREFIX@' 'libdir=$${prefix}/@LIBDIR@' 'includedir=$${prefix}/include' 'Name: tmchan' \
+	    'Description: CCSDS 131.0-B channel codec' 'Version: $(VERSION)' 'Libs: -L$${libdir} -ltmchan' 'Cflags: -I$${includedir}' >$@
 
 # The program, and that of the rows of tests: their main has another name, and C's stands in platform/.
 $(OBJECTS)/main-%.o: $(OBJECTS)/program-%.o
