@@ -4,27 +4,29 @@ crates/tm_rows/stdin. Where octets go through `encode` first it is that of docs/
 
     tests/stream_rows.py > rows.txt
 
-A row is a word, 22 numbers of a configuration in the order of tmchan_config, and fields in hexadecimal ("-": none):
+A row is a word, the numbers of a configuration in the order of tmchan_config, and fields in hexadecimal ("-": none):
 
     send NUMBERS FRAMES SYMBOLS            what is given, and what has to come
     receive NUMBERS OCTETS FRAMES NOTES    the notes are the lines of the program; "*" in place of the frames: they are not told
     bits NUMBERS OCTETS BITS NOTES         the decoder's bits, eight to an octet, or "*"; the line of the phase, and one of their number
     check NUMBERS ANSWER                   a configuration that is refused
+    recording NUMBERS NUMBERS              a configuration, and what tmchan_config_recording makes of it: README's line for its rate
 """
 import re
 import runpy
 import sys
 from pathlib import Path
 
-NAMES = "code depth length inner invert randomize basis tolerance repair soft start skip workers limit fly keep ahead phase polarity batch pack verify".split()
+NAMES = "code depth length inner invert randomize basis tolerance repair soft start skip workers limit fly keep ahead phase polarity batch pack verify rescan bad".split()
 UNSET = 2**64 - 1
 DEFAULTS = dict(code=16, depth=1, length=UNSET, inner=12, invert=UNSET, randomize=1, basis=0, tolerance=0, repair=UNSET, soft=0, start=0, skip=0,
-                workers=1, limit=2**32, fly=0, keep=8192, ahead=256, phase=0, polarity=0, batch=32, pack=1, verify=0)
+                workers=1, limit=2**32, fly=0, keep=8192, ahead=256, phase=0, polarity=0, batch=32, pack=1, verify=0, rescan=0, bad=0)
 WORDS = {"code": {"rs16": 16, "rs8": 8, "none": 0}, "inner": {"none": 0, "1/2": 12, "2/3": 23, "3/4": 34, "5/6": 56, "7/8": 78},
          "invert": {"on": 1, "off": 0}, "randomize": {"on": 1, "off": 0}, "basis": {"dual": 0, "poly": 1}, "soft": {"u8": 0, "i8": 1},
-         "start": {"zero": 0, "any": 1}, "phase": {"given": 0, "find": 1, "follow": 2}, "polarity": {"given": 0, "find": 1}, "pack": {"on": 1, "off": 0}}
+         "start": {"zero": 0, "any": 1}, "phase": {"given": 0, "find": 1, "follow": 2}, "polarity": {"given": 0, "find": 1}, "pack": {"on": 1, "off": 0},
+         "rescan": {"on": 1, "off": 0}, "bad": {"drop": 0, "pass": 1}}
 REFUSALS = {word: -16 - k for k, word in enumerate("code depth length inner switch basis tolerance repair soft start skip workers limit fly keep ahead "
-                                                   "phase polarity batch pack verify".split())}
+                                                   "phase polarity batch pack verify rescan bad".split())}
 COMMANDS = ("encode", "decode", "report", "bits")
 TOP = Path(__file__).parent.parent
 values = {}
@@ -120,11 +122,32 @@ def rows_of(fields):
         yield "bits", numbers, hexadecimal(given), hexadecimal(out), hexadecimal(decoder_lines(notes.decode()).encode())
 
 
+def inside():
+    """Codeblocks of which each second begins inside the one before it, by docs/reference: more than there are one after the other."""
+    two = bytes.fromhex("1acffc1dff480ec09a0d70bc8e1acffc1ddd9faf41fd8e9a844714792ec036e71978")
+    for batch in ("1", "32"):
+        words = ["--code", "rs8", "--length", "1", "--inner", "none", "--fly", "1", "--rescan", "on", "--batch", batch]
+        made, notes, _ = reference["run"](["decode", *words], lambda most: (20 * two)[:most])
+        assert notes.count(b"frame ") > len(20 * two) // 21 + 1
+        yield "receive", " ".join(str(config(words)[name]) for name in NAMES), (20 * two).hex(), hexadecimal(made), hexadecimal(notes)
+
+
+def recordings():
+    """README's lines for a recording, of which the first is for rate 1/2; the options that they leave have other numbers than the defaults."""
+    text = (TOP / "README.md").read_text().replace("\\\n", "")
+    lines = [line.split() for line in re.findall(r"tmchan decode (--start any [^<]*)<", text)]
+    kept = dict(depth=5, basis=1, skip=3, batch=1)
+    for inner in WORDS["inner"].values():
+        wanted = config(lines[inner != 12]) | kept | {"inner": inner}
+        given = DEFAULTS | kept | dict(inner=inner, keep=64, ahead=0, tolerance=1, fly=2, verify=7)
+        yield "recording", *(str(numbers[name]) for numbers in (given, wanted) for name in NAMES)
+
+
 def hexadecimal(octets):
     return "*" if octets is None else octets.hex() or "-"
 
 
-found = [row for fields in rows() for row in rows_of(fields)]
+found = [row for fields in rows() for row in rows_of(fields)] + [*inside(), *recordings()]
 for row in found:
     print(*row)
-sys.exit({row[0] for row in found} != {"send", "receive", "bits", "check"})
+sys.exit({row[0] for row in found} != {"send", "receive", "bits", "check", "recording"})

@@ -54,18 +54,20 @@ struct data {
 /* The calls of a stream of each kind between its open and its end. Each answers whether the calls answered as they should. */
 static int use_sender(tmchan_stream *stream, const tmchan_config *config, struct data *data) {
     size_t half = data->frames_length / 2, needed = tmchan_sender_room(config, data->frames_length);
-    return needed <= data->octets_length && tmchan_sender_push(stream, data->frames, 1, data->octets, 0) == TMCHAN_ROOM
-        && tmchan_sender_push(stream, data->frames, half, data->octets, needed) >= 0
-        && tmchan_sender_push(stream, data->frames + half, data->frames_length - half, data->octets, needed) > 0;
+    tmchan_written written;
+    return needed <= data->octets_length && tmchan_sender_push(stream, data->frames, 1, data->octets, 0, &written) == TMCHAN_ROOM
+        && tmchan_sender_push(stream, data->frames, half, data->octets, needed, &written) >= 0
+        && tmchan_sender_push(stream, data->frames + half, data->frames_length - half, data->octets, needed, &written) > 0;
 }
 
 static int use_decoder(tmchan_stream *stream, const tmchan_config *config, struct data *data) {
     size_t half = data->symbols_length / 2;
     tmchan_phase phase;
+    tmchan_written written;
     return tmchan_decoder_room(config, data->symbols_length) <= (int64_t)data->octets_length
-        && tmchan_decoder_push(stream, data->symbols, 1, data->octets, 0) <= 0
-        && tmchan_decoder_push(stream, data->symbols, half, data->octets, data->octets_length) >= 0
-        && tmchan_decoder_push(stream, data->symbols + half, data->symbols_length - half, data->octets, data->octets_length) >= 0
+        && tmchan_decoder_push(stream, data->symbols, 1, data->octets, 0, &written) <= 0
+        && tmchan_decoder_push(stream, data->symbols, half, data->octets, data->octets_length, &written) >= 0
+        && tmchan_decoder_push(stream, data->symbols + half, data->symbols_length - half, data->octets, data->octets_length, &written) >= 0
         && tmchan_decoder_phase(stream, &phase) == 0;
 }
 
@@ -73,32 +75,36 @@ static int use_receiver(tmchan_stream *stream, const tmchan_config *config, stru
     size_t half = data->symbols_length / 2;
     uint64_t slips, frames_length;
     tmchan_phase phase;
+    tmchan_written written;
     return tmchan_receiver_room(config, data->symbols_length, &frames_length) <= (int64_t)data->reports_length
         && frames_length <= data->octets_length
-        && tmchan_receiver_push(stream, data->symbols, half, data->octets, data->octets_length, data->reports, data->reports_length) >= 0
-        && tmchan_receiver_push(stream, data->symbols + half, data->symbols_length - half, data->octets, 0, data->reports, 0) <= 0
+        && tmchan_receiver_push(stream, data->symbols, half, data->octets, data->octets_length, data->reports, data->reports_length, &written) >= 0
+        && tmchan_receiver_push(stream, data->symbols + half, data->symbols_length - half, data->octets, 0, data->reports, 0, &written) <= 0
         && tmchan_receiver_phase(stream, &phase) == 0 && tmchan_receiver_slips(stream, &slips) == 0;
 }
 
 static int64_t finish_sender(tmchan_stream *stream, struct data *data) {
+    tmchan_written written;
     (void)data;
-    return tmchan_sender_finish(stream);
+    return tmchan_sender_finish(stream, &written);
 }
 
 static int64_t finish_decoder(tmchan_stream *stream, struct data *data) {
     tmchan_phase phase;
-    return tmchan_decoder_finish(stream, data->octets, data->octets_length, &phase);
+    tmchan_written written;
+    return tmchan_decoder_finish(stream, data->octets, data->octets_length, &phase, &written);
 }
 
 static int64_t finish_receiver(tmchan_stream *stream, struct data *data) {
     tmchan_totals totals;
     tmchan_phase phase;
-    return tmchan_receiver_finish(stream, data->octets, data->octets_length, data->reports, data->reports_length, &totals, &phase);
+    tmchan_written written;
+    return tmchan_receiver_finish(stream, data->octets, data->octets_length, data->reports, data->reports_length, &totals, &phase, &written);
 }
 
 static const struct {
     const char *name;
-    int32_t (*open)(tmchan_stream *, const tmchan_config *);
+    int32_t (*open)(tmchan_stream *, const tmchan_config *, size_t);
     int (*use)(tmchan_stream *, const tmchan_config *, struct data *);
     int64_t (*finish)(tmchan_stream *, struct data *);
 } kinds[] = {
@@ -117,13 +123,13 @@ static void make_streams(int number, const tmchan_config *config, struct data *d
         for (int end = 0; end < ENDS; end++) {
             tmchan_stream stream = {0};
             asked = refused = given_back = 0;
-            expect(kinds[kind].open(&stream, config) == 0, "it does not open", name, number);
+            expect(kinds[kind].open(&stream, config, TMCHAN_CONFIG_LENGTH) == 0, "it does not open", name, number);
             in_open = asked;
             expect(in_open > 0 && held > 0 && held + given_back <= asked, "it takes no memory", name, number);
             given_back = 0;
             long held_open = held;
             if (end != CLOSES_UNUSED) expect(kinds[kind].use(&stream, config, data), "a call has another answer", name, number);
-            expect(kinds[kind].open(&stream, config) == TMCHAN_OPEN, "it opens twice", name, number);
+            expect(kinds[kind].open(&stream, config, TMCHAN_CONFIG_LENGTH) == TMCHAN_OPEN, "it opens twice", name, number);
             expect(asked == in_open && held == held_open && given_back == 0, "a call allocates or frees", name, number);
             expect((end == FINISHES ? kinds[kind].finish(&stream, data) : tmchan_close(&stream)) >= 0, "it does not end", name, number);
             expect(asked == in_open && held == 0, "memory is kept", name, number);
@@ -132,10 +138,10 @@ static void make_streams(int number, const tmchan_config *config, struct data *d
         for (long at = 1; at <= in_open; at++) {
             tmchan_stream stream = {0};
             asked = 0, refused = at;
-            expect(kinds[kind].open(&stream, config) == TMCHAN_MEMORY && asked == at, "an allocation is refused", name, number);
+            expect(kinds[kind].open(&stream, config, TMCHAN_CONFIG_LENGTH) == TMCHAN_MEMORY && asked == at, "an allocation is refused", name, number);
             expect(held == 0 && tmchan_close(&stream) == TMCHAN_CLOSED, "memory is kept, or it is open", name, number);
             refused = 0;
-            expect(kinds[kind].open(&stream, config) == 0 && tmchan_close(&stream) == 0 && held == 0, "it does not open then", name, number);
+            expect(kinds[kind].open(&stream, config, TMCHAN_CONFIG_LENGTH) == 0 && tmchan_close(&stream) == 0 && held == 0, "it does not open then", name, number);
         }
     }
 }
@@ -149,6 +155,8 @@ static void make_plain_calls(void) {
     uint64_t at = 0;
     asked = refused = 0;
     expect(tmchan_version() == TMCHAN_VERSION, "version", name, 0);
+    char text[TMCHAN_TEXT_LENGTH];
+    expect(tmchan_text(TMCHAN_MEMORY, text, sizeof text) == (int32_t)strlen(text), "a text", name, 0);
     expect(tmchan_rs_encode(TMCHAN_RS16, TMCHAN_DUAL, word, 223, checks, 32) == 0, "encode", name, 0);
     expect(tmchan_rs_decode(TMCHAN_RS16, TMCHAN_DUAL, 16, word, 255) == 1, "decode", name, 0);
     word[7] = 9;
@@ -164,9 +172,9 @@ static void make_plain_calls(void) {
 }
 
 int main(void) {
-    static const struct { uint64_t code, depth, inner, phase, polarity, batch, workers, verify, keep, pack; } given[] = {
-        {16, 1, 12, 0, 0, 32, 1, 0, 8192, 1}, {8, 2, 34, 1, 1, 1, 1, 0, 64, 1}, {16, 5, 78, 2, 0, 4, 4, 2, 512, 1},
-        {0, 1, 12, 2, 1, 32, 64, 7, 64, 1},   {8, 1, 0, 0, 1, 2, 1, 1, 64, 1},  {16, 1, 0, 0, 0, 32, 1, 0, 8192, 0},
+    static const struct { uint64_t code, depth, inner, phase, polarity, batch, workers, verify, keep, pack, rescan, bad; } given[] = {
+        {16, 1, 12, 0, 0, 32, 1, 0, 8192, 1, 0, 0}, {8, 2, 34, 1, 1, 1, 1, 0, 64, 1, 1, 0}, {16, 5, 78, 2, 0, 4, 4, 2, 512, 1, 1, 1},
+        {0, 1, 12, 2, 1, 32, 64, 7, 64, 1, 0, 1},   {8, 1, 0, 0, 1, 2, 1, 1, 64, 1, 1, 1},  {16, 1, 0, 0, 0, 32, 1, 0, 8192, 0, 0, 0},
     };
     for (size_t i = 0; i < sizeof given / sizeof *given; i++) {
         tmchan_config config;
@@ -174,7 +182,7 @@ int main(void) {
         tmchan_config_defaults(&config);
         config.code = given[i].code, config.depth = given[i].depth, config.inner = given[i].inner, config.phase = given[i].phase;
         config.polarity = given[i].polarity, config.batch = given[i].batch, config.workers = given[i].workers, config.verify = given[i].verify;
-        config.keep = given[i].keep, config.pack = given[i].pack;
+        config.keep = given[i].keep, config.pack = given[i].pack, config.rescan = given[i].rescan, config.bad = given[i].bad;
         uint64_t octets_length;
         struct data data = {.frames_length = 12 * tmchan_frame_length(&config)};
         data.symbols_length = tmchan_sender_room(&config, data.frames_length);
@@ -186,7 +194,8 @@ int main(void) {
         data.reports = room(data.reports_length * sizeof *data.reports);
         for (size_t k = 0; k < data.frames_length; k++) data.frames[k] = 5 * k + k / 7;
         expect(tmchan_sender_open(&sender, &config) == 0, "it does not open", "sender", i);
-        data.symbols_length = tmchan_sender_push(&sender, data.frames, data.frames_length, data.symbols, data.symbols_length);
+        tmchan_written written;
+        data.symbols_length = tmchan_sender_push(&sender, data.frames, data.frames_length, data.symbols, data.symbols_length, &written);
         tmchan_close(&sender);
         for (size_t k = 0; k < data.symbols_length; k += 400 + k % 77) data.symbols[k] ^= 0xFF;
         make_streams(i, &config, &data);

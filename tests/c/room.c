@@ -34,23 +34,30 @@ static int is_kept(const void *array, size_t from, size_t length) {
 }
 
 /* A push of a sender or a decoder. */
-typedef int64_t (*push_call)(tmchan_stream *, const uint8_t *, size_t, uint8_t *, size_t);
-typedef int32_t (*open_call)(tmchan_stream *, const tmchan_config *);
+typedef int64_t (*push_call)(tmchan_stream *, const uint8_t *, size_t, uint8_t *, size_t, tmchan_written *);
+typedef int32_t (*open_call)(tmchan_stream *, const tmchan_config *, size_t);
+
+/* Whether a call says that it wrote so much. */
+static int is_written(const tmchan_written *written, uint64_t reports, uint64_t octets) {
+    return written->reports == reports && written->octets == octets && written->windows == 0;
+}
 
 static void push_each(open_call open, push_call push, const tmchan_config *config, const uint8_t *given, size_t given_length, size_t needed,
                       const uint8_t *wanted, int64_t count) {
     for (size_t length = 0; length <= needed + 1; length++) {
         tmchan_stream stream = {0};
+        tmchan_written written;
         uint8_t *array = guarded(length), *all = guarded(needed);
-        expect(open(&stream, config) == 0, "a stream does not open", length);
-        int64_t answer = push(&stream, given, given_length, array, length);
+        expect(open(&stream, config, TMCHAN_CONFIG_LENGTH) == 0, "a stream does not open", length);
+        int64_t answer = push(&stream, given, given_length, array, length, &written);
         if (length < needed) {
-            expect(answer == TMCHAN_ROOM && is_kept(array, 0, length), "a push with less room", length);
-            answer = push(&stream, given, given_length, all, needed);
+            expect(answer == TMCHAN_ROOM && is_kept(array, 0, length) && is_written(&written, 0, 0), "a push with less room", length);
+            answer = push(&stream, given, given_length, all, needed, &written);
             expect(answer == count && !memcmp(all, wanted, count) && is_kept(all, needed, needed), "a push after one with less room", length);
         } else {
             expect(answer == count && !memcmp(array, wanted, count) && is_kept(array, length, length), "a push with its room", length);
         }
+        expect(is_written(&written, 0, count), "what was written", length);
         expect(tmchan_close(&stream) == 0, "a stream is closed", length);
         free(array), free(all);
     }
@@ -61,31 +68,34 @@ static void finish_each(const tmchan_config *config, const uint8_t *given, size_
     size_t needed = tmchan_decoder_room(config, 0);
     uint8_t *bits = guarded(most), *wanted = guarded(needed);
     int64_t count = -1;
+    tmchan_written written;
     for (size_t length = needed + 2; length-- > 0;) {
         tmchan_stream decoder = {0};
         tmchan_phase phase;
         uint8_t *array = guarded(length), *all = guarded(needed);
         memset(&phase, KEPT, sizeof phase);
-        expect(tmchan_decoder_open(&decoder, config) == 0 && tmchan_decoder_push(&decoder, given, given_length, bits, most) > 0, "bits", length);
-        int64_t answer = tmchan_decoder_finish(&decoder, array, length, &phase);
+        expect(tmchan_decoder_open(&decoder, config) == 0 && tmchan_decoder_push(&decoder, given, given_length, bits, most, &written) > 0, "bits", length);
+        int64_t answer = tmchan_decoder_finish(&decoder, array, length, &phase, &written);
         if (length > needed) count = answer, memcpy(wanted, array, needed);
         if (length < needed) {
             expect(answer == TMCHAN_ROOM && is_kept(array, 0, length) && phase.cost == 0xA5A5A5A5A5A5A5A5, "a finish with less room", length);
-            answer = tmchan_decoder_finish(&decoder, all, needed, &phase);
+            expect(is_written(&written, 0, 0), "a finish that wrote nothing", length);
+            answer = tmchan_decoder_finish(&decoder, all, needed, &phase, &written);
             expect(answer == count && !memcmp(all, wanted, count) && is_kept(all, needed, needed), "a finish after one with less room", length);
         } else {
             expect(answer > 0 && answer == count && !memcmp(array, wanted, count) && is_kept(array, length, length), "a finish with its room", length);
         }
+        expect(is_written(&written, 0, count), "what a finish wrote", length);
         expect(phase.is_chosen == (config->phase > 0) && tmchan_close(&decoder) == TMCHAN_CLOSED, "a decoder is closed", length);
         free(array), free(all);
     }
     free(bits), free(wanted);
 }
 
-/* A receiver, of whose codeblocks the second is uncorrectable: all are due at its finish, or with the octets where a batch is of one. Of the
- * arrays the header says nothing at TMCHAN_ROOM; what the library does is tested all the same: what fitted stands, and nothing else is written. */
+/* A receiver, of whose codeblocks the second is uncorrectable: all are due at its finish, or with the octets where a batch is of one. At
+ * TMCHAN_ROOM what fitted stands, as much as the call says, and nothing else is written. */
 static void receive_each(const tmchan_config *config, const uint8_t *given, size_t given_length, const uint8_t *sent, int ends) {
-    const size_t size = tmchan_frame_length(config), octets[FRAMES] = {size, 0, size, size}, needed = 3 * size;
+    const size_t size = tmchan_frame_length(config), octets[FRAMES] = {size, config->bad * size, size, size}, needed = (3 + config->bad) * size;
     uint64_t most_octets;
     size_t most = tmchan_receiver_room(config, given_length, &most_octets);
     for (size_t length = 0; length <= FRAMES + 1; length++)
@@ -95,25 +105,28 @@ static void receive_each(const tmchan_config *config, const uint8_t *given, size
             tmchan_phase phase;
             tmchan_report *reports = guarded(length * sizeof *reports), *no_reports = guarded(most * sizeof *reports);
             uint8_t *frames = guarded(frames_length), *no_frames = guarded(most_octets);
+            tmchan_written said, none;
             int64_t wanted = length < FRAMES || frames_length < needed ? TMCHAN_ROOM : FRAMES, answer;
             memset(&phase, KEPT, sizeof phase);
             expect(tmchan_receiver_open(&receiver, config) == 0, "a receiver does not open", length);
             if (ends) {
-                expect(tmchan_receiver_push(&receiver, given, given_length, no_frames, 0, no_reports, 0) == 0, "nothing is due", length);
-                answer = tmchan_receiver_finish(&receiver, frames, frames_length, reports, length, &totals, &phase);
+                expect(tmchan_receiver_push(&receiver, given, given_length, no_frames, 0, no_reports, 0, &none) == 0, "nothing is due", length);
+                answer = tmchan_receiver_finish(&receiver, frames, frames_length, reports, length, &totals, &phase, &said);
             } else {
-                answer = tmchan_receiver_push(&receiver, given, given_length, frames, frames_length, reports, length);
-                expect(tmchan_receiver_finish(&receiver, no_frames, 0, no_reports, 0, &totals, &phase) == 0, "nothing is left", length);
+                answer = tmchan_receiver_push(&receiver, given, given_length, frames, frames_length, reports, length, &said);
+                expect(tmchan_receiver_finish(&receiver, no_frames, 0, no_reports, 0, &totals, &phase, &none) == 0, "nothing is left", length);
             }
-            expect(answer == wanted, "a receiver answers", length);
+            expect(answer == wanted && is_written(&none, 0, 0), "a receiver answers", length);
             expect(totals.bits > 0 && phase.is_chosen == 0, "what all came to is given", length);
             expect(tmchan_close(&receiver) == TMCHAN_CLOSED, "a receiver is closed", length);
             size_t fitting = 0, written = 0;
             while (fitting < FRAMES && fitting < length && written + octets[fitting] <= frames_length) written += octets[fitting++];
+            expect(is_written(&said, fitting, written), "how much fitted", length);
             for (size_t i = 0; i < fitting; i++)
-                expect(reports[i].frame_length == octets[i] && reports[i].place == totals.bits / FRAMES * i, "a report that fitted", length);
+                expect(reports[i].bad == (i == 1) && reports[i].frame_length == octets[i] && reports[i].place == totals.bits / FRAMES * i, "a report that fitted", length);
             expect(!memcmp(frames, sent, written < size ? written : size), "the first frame", length);
-            expect(written <= size || !memcmp(frames + size, sent + 2 * size, written - size), "frames that fitted", length);
+            size_t first = (1 + config->bad) * size; /* where the third frame begins */
+            expect(written <= first || !memcmp(frames + first, sent + 2 * size, written - first), "frames that fitted", length);
             expect(is_kept(reports, fitting * sizeof *reports, length * sizeof *reports), "a report beyond", length);
             expect(is_kept(frames, written, frames_length), "an octet of a frame beyond", frames_length);
             expect(is_kept(no_reports, 0, most * sizeof *reports) && is_kept(no_frames, 0, most_octets), "arrays of no length", length);
@@ -128,12 +141,13 @@ static void go_on(const tmchan_config *config, const uint8_t *given, size_t give
     tmchan_stream receiver = {0};
     tmchan_totals totals;
     tmchan_phase phase;
+    tmchan_written written;
     tmchan_report *reports = guarded(most * sizeof *reports);
     uint8_t *frames = guarded(frames_length);
     expect(tmchan_receiver_open(&receiver, config) == 0, "a receiver does not open", half);
-    expect(tmchan_receiver_push(&receiver, given, half, frames, 0, reports, most) == TMCHAN_ROOM, "a push with less room", half);
-    expect(tmchan_receiver_push(&receiver, given + half, half, frames, frames_length, reports, most) == FRAMES / 2, "a push after it", half);
-    expect(tmchan_receiver_finish(&receiver, frames, frames_length, reports + 2, most - 2, &totals, &phase) == 0, "a finish after it", half);
+    expect(tmchan_receiver_push(&receiver, given, half, frames, 0, reports, most, &written) == TMCHAN_ROOM, "a push with less room", half);
+    expect(tmchan_receiver_push(&receiver, given + half, half, frames, frames_length, reports, most, &written) == FRAMES / 2, "a push after it", half);
+    expect(tmchan_receiver_finish(&receiver, frames, frames_length, reports + 2, most - 2, &totals, &phase, &written) == 0, "a finish after it", half);
     expect(reports[0].place == totals.bits / 2 && reports[1].place == totals.bits / 4 * 3, "its places", half);
     free(reports), free(frames);
 }
@@ -145,16 +159,17 @@ static void make_streams(tmchan_config config) {
     size_t needed = tmchan_sender_room(&config, sent_length);
     uint8_t *symbols = guarded(needed);
     tmchan_stream sender = {0};
+    tmchan_written written;
     expect(tmchan_sender_open(&sender, &config) == 0, "a sender does not open", 0);
-    int64_t count = tmchan_sender_push(&sender, sent, sent_length, symbols, needed);
-    expect(count > 0 && tmchan_sender_finish(&sender) == 0, "frames are sent", 0);
+    int64_t count = tmchan_sender_push(&sender, sent, sent_length, symbols, needed, &written);
+    expect(count > 0 && tmchan_sender_finish(&sender, &written) == 0, "frames are sent", 0);
     push_each(tmchan_sender_open, tmchan_sender_push, &config, sent, sent_length, needed, symbols, count);
     if (config.inner != 0) {
         size_t bits_needed = tmchan_decoder_room(&config, count);
         uint8_t *bits = guarded(bits_needed);
         tmchan_stream decoder = {0};
         expect(tmchan_decoder_open(&decoder, &config) == 0, "a decoder does not open", 0);
-        int64_t bits_count = tmchan_decoder_push(&decoder, symbols, count, bits, bits_needed);
+        int64_t bits_count = tmchan_decoder_push(&decoder, symbols, count, bits, bits_needed, &written);
         expect(bits_count > 0 && tmchan_close(&decoder) == 0, "bits are decoded", 0);
         push_each(tmchan_decoder_open, tmchan_decoder_push, &config, symbols, count, bits_needed, bits, bits_count);
         finish_each(&config, symbols, count, bits_needed);
@@ -162,8 +177,10 @@ static void make_streams(tmchan_config config) {
     } else {
         uint8_t *damaged = symbols + count / FRAMES;
         for (int64_t i = count / FRAMES / 4; i < count / FRAMES; i++) damaged[i] ^= 0xFF;
-        for (config.batch = 1; config.batch <= 32; config.batch += 31)
-            receive_each(&config, symbols, count, sent, config.batch == 32);
+        for (config.bad = TMCHAN_DROP; config.bad <= TMCHAN_PASS; config.bad++)
+            for (config.batch = 1; config.batch <= 32; config.batch += 31)
+                receive_each(&config, symbols, count, sent, config.batch == 32);
+        config.bad = TMCHAN_DROP;
         config.batch = 1;
         go_on(&config, symbols, count);
     }

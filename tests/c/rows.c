@@ -61,6 +61,13 @@ static void compare(long answer, long wanted, struct octets left, struct octets 
     free(right.at);
 }
 
+static void expect(int right, const char *what) {
+    calls++;
+    if (right) return;
+    differing++;
+    fprintf(stderr, "%s\n", what);
+}
+
 static void make_row(const char *call) {
     if (!strcmp(call, "encode")) {
         uint32_t code = number(), basis = number();
@@ -174,6 +181,39 @@ static void make_refusals(void) {
     }
 }
 
+/* The text of each answer, into arrays of each length: none is longer than TMCHAN_TEXT_LENGTH, and each answer of a list has one of its own. */
+static void make_texts(void) {
+    static const int32_t answers[] = {
+        0, TMCHAN_BEYOND, TMCHAN_ROOM, TMCHAN_FLAGS, TMCHAN_COLUMN, TMCHAN_CLOSED, TMCHAN_OPEN, TMCHAN_MEMORY, TMCHAN_BAD_CONFIG, TMCHAN_BAD_CODE,
+        TMCHAN_BAD_DEPTH, TMCHAN_BAD_LENGTH, TMCHAN_BAD_INNER, TMCHAN_BAD_SWITCH, TMCHAN_BAD_BASIS, TMCHAN_BAD_TOLERANCE, TMCHAN_BAD_REPAIR, TMCHAN_BAD_SOFT,
+        TMCHAN_BAD_START, TMCHAN_BAD_SKIP, TMCHAN_BAD_WORKERS, TMCHAN_BAD_LIMIT, TMCHAN_BAD_FLY, TMCHAN_BAD_KEEP, TMCHAN_BAD_AHEAD, TMCHAN_BAD_PHASE,
+        TMCHAN_BAD_POLARITY, TMCHAN_BAD_BATCH, TMCHAN_BAD_PACK, TMCHAN_BAD_VERIFY, TMCHAN_BAD_RESCAN, TMCHAN_BAD_BAD, TMCHAN_BAD_BAD - 1,
+    };
+    enum { COUNT = sizeof answers / sizeof *answers };
+    static char all[COUNT][TMCHAN_TEXT_LENGTH];
+    for (int i = 0; i < COUNT; i++) {
+        int32_t length = tmchan_text(answers[i], all[i], TMCHAN_TEXT_LENGTH);
+        expect(length > 0 && length < TMCHAN_TEXT_LENGTH && (size_t)length == strlen(all[i]), "a text has another length");
+        for (int k = 0; k < i; k++) expect(strcmp(all[k], all[i]) != 0, "two answers have one text");
+        for (int32_t size = 0; size <= length + 2; size++) {
+            struct octets array = zeros(size);
+            memset(array.at, 7, size);
+            int32_t answer = tmchan_text(answers[i], (char *)array.at, size);
+            expect(size > length ? answer == length && !memcmp(array.at, all[i], length + 1) && (size == length + 1 || array.at[length + 1] == 7)
+                                 : answer == TMCHAN_ROOM && (size == 0 || (array.at[0] == 7 && array.at[size - 1] == 7)),
+                   "a text in an array of another length");
+            free(array.at);
+        }
+    }
+    static const int64_t others[] = {INT64_MIN, INT32_MIN, -39, -40, -15, -9};
+    for (size_t i = 0; i < sizeof others / sizeof *others; i++) {
+        char text[TMCHAN_TEXT_LENGTH];
+        expect(tmchan_text(others[i], text, sizeof text) > 0 && !strcmp(text, all[COUNT - 1]), "a text of no answer");
+    }
+    char text[TMCHAN_TEXT_LENGTH];
+    expect(tmchan_text(INT64_MAX, text, sizeof text) == 4 && !strcmp(text, "done") && !strcmp(all[0], "done"), "the text of what is done");
+}
+
 int main(void) {
     static char line[20000];
     while (fgets(line, sizeof line, stdin)) {
@@ -185,6 +225,7 @@ int main(void) {
         differing++;
     }
     make_refusals();
+    make_texts();
     if (tmchan_version() != TMCHAN_VERSION) {
         fprintf(stderr, "the library is of another version\n");
         differing++;

@@ -10,7 +10,7 @@
 
 #include "tmchan.h"
 
-enum { OPTIONS = 22 };
+enum { OPTIONS = TMCHAN_CONFIG_LENGTH };
 
 static long differing, calls;
 static size_t line_number;
@@ -26,6 +26,10 @@ static void *room(size_t size) {
     void *made = calloc(1, size + (size == 0));
     if (!made) exit(2);
     return made;
+}
+
+static int is_written(const tmchan_written *written, uint64_t reports, uint64_t octets) {
+    return written->reports == reports && written->octets == octets && written->windows == 0;
 }
 
 struct octets {
@@ -48,6 +52,7 @@ static struct octets octets(const char *digits) {
 static void send(const tmchan_config *config, const struct octets *fields, size_t piece) {
     const struct octets *given = &fields[0], *wanted = &fields[1];
     tmchan_stream sender = {0};
+    tmchan_written written;
     uint8_t *sent = room(wanted->length);
     size_t count = 0;
     expect(tmchan_sender_open(&sender, config) == 0, "the sender does not open");
@@ -56,7 +61,8 @@ static void send(const tmchan_config *config, const struct octets *fields, size_
         int64_t needed = tmchan_sender_room(config, size);
         uint8_t *octets = room(size), *symbols = room(needed);
         memcpy(octets, given->at + at, size);
-        int64_t answer = tmchan_sender_push(&sender, octets, size, symbols, needed);
+        int64_t answer = tmchan_sender_push(&sender, octets, size, symbols, needed, &written);
+        expect(is_written(&written, 0, answer), "a push wrote another number");
         expect(answer >= 0 && answer < needed && count + answer <= wanted->length, "a push has a wrong answer");
         if (answer > 0 && count + answer <= wanted->length) memcpy(sent + count, symbols, answer);
         count += answer;
@@ -64,7 +70,8 @@ static void send(const tmchan_config *config, const struct octets *fields, size_
     }
     expect(count == wanted->length && !memcmp(sent, wanted->at, count), "other symbols were sent");
     int32_t size = tmchan_frame_length(config);
-    expect(tmchan_sender_finish(&sender) == (int64_t)(given->length % size), "another number is left over");
+    expect(tmchan_sender_finish(&sender, &written) == (int64_t)(given->length % size), "another number is left over");
+    expect(is_written(&written, 0, 0), "a sender's finish wrote");
     expect(tmchan_close(&sender) == TMCHAN_CLOSED, "the sender is open after its finish");
     free(sent);
 }
@@ -106,8 +113,9 @@ static void receive(const tmchan_config *config, const struct octets *fields, si
             uint8_t *frames = room(frames_length);
             tmchan_report *reports = room(most * sizeof *reports);
             if (ending) expect(tmchan_receiver_slips(&receiver, &slips) == 0, "no slips are answered");
-            int64_t answer = ending ? tmchan_receiver_finish(&receiver, frames, frames_length, reports, most, &totals, &phase)
-                                    : tmchan_receiver_push(&receiver, octets, length, frames, frames_length, reports, most);
+            tmchan_written said;
+            int64_t answer = ending ? tmchan_receiver_finish(&receiver, frames, frames_length, reports, most, &totals, &phase, &said)
+                                    : tmchan_receiver_push(&receiver, octets, length, frames, frames_length, reports, most, &said);
             expect(answer >= 0 && answer <= most, "the receiver refuses");
             size_t written = 0;
             for (int64_t i = 0; i < answer; i++) {
@@ -116,12 +124,14 @@ static void receive(const tmchan_config *config, const struct octets *fields, si
                     is_bad |= reports[i].repaired[k] == 255;
                     fixed += reports[i].repaired[k] == 255 ? 0 : reports[i].repaired[k];
                 }
-                expect(reports[i].frame_length == (is_bad ? 0 : (uint64_t)size), "a frame has another length");
+                expect(reports[i].bad == is_bad, "bad or not");
+                expect(reports[i].frame_length == (is_bad && config->bad == TMCHAN_DROP ? 0 : (uint64_t)size), "a frame has another length");
                 expect(reports[i].bridged <= 1 && reports[i].inverted <= 1, "neither 0 nor 1");
                 say_report(items, frames_found + bad, &reports[i]);
                 frames_found += !is_bad, bad += is_bad;
                 written += reports[i].frame_length;
             }
+            expect(is_written(&said, answer, written), "the receiver wrote another number");
             if (wanted->at && count + written <= wanted->length) memcpy(received + count, frames, written);
             count += written;
             free(frames), free(reports);
@@ -158,7 +168,10 @@ static void decode(const tmchan_config *config, const struct octets *fields, siz
         for (int ending = 0; ending <= last; ending++) {
             int64_t needed = tmchan_decoder_room(config, ending ? 0 : length);
             uint8_t *bits = room(needed);
-            int64_t answer = ending ? tmchan_decoder_finish(&decoder, bits, needed, &phase) : tmchan_decoder_push(&decoder, octets, length, bits, needed);
+            tmchan_written written;
+            int64_t answer = ending ? tmchan_decoder_finish(&decoder, bits, needed, &phase, &written)
+                                    : tmchan_decoder_push(&decoder, octets, length, bits, needed, &written);
+            expect(is_written(&written, 0, answer), "the decoder wrote another number");
             expect(answer >= 0 && answer <= needed, "the decoder refuses");
             for (int64_t i = 0; i < answer; i++, count++) {
                 expect(bits[i] <= 1, "no bit");
@@ -177,10 +190,21 @@ static void decode(const tmchan_config *config, const struct octets *fields, siz
     free(decoded), free(lines_at);
 }
 
+static void read_numbers(tmchan_config *config) {
+    for (int k = 0; k < OPTIONS; k++) ((uint64_t *)config)[k] = strtoull(strtok(NULL, " \n"), NULL, 10);
+}
+
 static void make_row(char *line) {
     tmchan_config config;
     const char *call = strtok(line, " \n");
-    for (int k = 0; k < OPTIONS; k++) ((uint64_t *)&config)[k] = strtoull(strtok(NULL, " \n"), NULL, 10);
+    read_numbers(&config);
+    if (!strcmp(call, "recording")) {
+        tmchan_config wanted;
+        read_numbers(&wanted);
+        tmchan_config_recording(&config);
+        expect(!memcmp(&config, &wanted, sizeof config), "other options for a recording");
+        return;
+    }
     if (!strcmp(call, "check")) {
         long wanted = strtol(strtok(NULL, " \n"), NULL, 10);
         tmchan_stream stream = {0};
@@ -214,7 +238,9 @@ static void lose_a_symbol(void) {
     for (size_t i = 0; i < sizeof sent; i++) sent[i] = 7 * (i % 16) + 31 * (i / 16) + i % 16 * (i % 16);
     int64_t needed = tmchan_sender_room(&config, sizeof sent);
     uint8_t *symbols = room(needed);
-    expect(tmchan_sender_open(&s, &config) == 0 && tmchan_sender_push(&s, sent, sizeof sent, symbols, needed) == 3840, "symbols of twelve frames");
+    tmchan_written written;
+    expect(tmchan_sender_open(&s, &config) == 0, "a sender does not open");
+    expect(tmchan_sender_push(&s, sent, sizeof sent, symbols, needed, &written) == 3840, "symbols of twelve frames");
     expect(tmchan_close(&s) == 0, "the sender is closed");
     memmove(symbols + 1500, symbols + 1501, 3840 - 1501);
     for (config.phase = 1; config.phase <= 2; config.phase++) {
@@ -226,9 +252,9 @@ static void lose_a_symbol(void) {
         uint8_t *frames = room(frames_length);
         tmchan_report *reports = room(most * sizeof *reports);
         expect(tmchan_receiver_open(&s, &config) == 0, "the receiver does not open");
-        expect(tmchan_receiver_push(&s, symbols, 3839, frames, frames_length, reports, most) == 0, "no whole batch");
+        expect(tmchan_receiver_push(&s, symbols, 3839, frames, frames_length, reports, most, &written) == 0, "no whole batch");
         expect(tmchan_receiver_slips(&s, &slips) == 0 && slips == (uint64_t)follows, "slips so far");
-        expect(tmchan_receiver_finish(&s, frames, frames_length, reports, most, &totals, &phase) == (follows ? 11 : 5), "codeblocks");
+        expect(tmchan_receiver_finish(&s, frames, frames_length, reports, most, &totals, &phase, &written) == (follows ? 11 : 5), "codeblocks");
         expect(totals.bits == 1919 && totals.slips == (uint64_t)follows, "totals");
         expect(!memcmp(frames, sent, 4 * 16) && (!follows || !memcmp(frames + 5 * 16, sent + 6 * 16, 6 * 16)), "frames before and after");
         free(frames), free(reports);
@@ -257,26 +283,41 @@ static void make_refusals(void) {
     config.workers = 1, config.inner = 0;
     expect(tmchan_receiver_room(&config, 1000, &bits) == 35 && tmchan_receiver_room(&config, 0, &bits) == 32 && bits == 32 * 223, "with no inner code");
     config.inner = 12;
+    config.inner = 0, config.rescan = TMCHAN_ON; /* codeblocks may lie inside others then */
+    expect(tmchan_receiver_room(&config, 1000, &bits) == 42 && bits == 42 * 223, "with rescan");
+    config.inner = 12, config.rescan = TMCHAN_OFF;
+    tmchan_written w;
     for (int round = 0; round < 2; round++) {
-        expect(tmchan_sender_push(&s, some, 1, out, 64) == TMCHAN_CLOSED && tmchan_sender_finish(&s) == TMCHAN_CLOSED, "a closed sender");
-        expect(tmchan_decoder_push(&s, some, 1, out, 64) == TMCHAN_CLOSED && tmchan_decoder_finish(&s, out, 64, &phase) == TMCHAN_CLOSED, "a closed decoder");
+        w.octets = w.reports = w.windows = 9;
+        expect(tmchan_sender_push(&s, some, 1, out, 64, &w) == TMCHAN_CLOSED && is_written(&w, 0, 0), "a closed sender");
+        w.octets = 9;
+        expect(tmchan_sender_finish(&s, &w) == TMCHAN_CLOSED && is_written(&w, 0, 0), "a closed sender's finish");
+        w.octets = 9;
+        expect(tmchan_decoder_push(&s, some, 1, out, 64, &w) == TMCHAN_CLOSED && is_written(&w, 0, 0), "a closed decoder");
+        w.octets = 9;
+        expect(tmchan_decoder_finish(&s, out, 64, &phase, &w) == TMCHAN_CLOSED && is_written(&w, 0, 0), "a closed decoder's finish");
         expect(tmchan_decoder_phase(&s, &phase) == TMCHAN_CLOSED && tmchan_receiver_phase(&s, &phase) == TMCHAN_CLOSED, "a closed phase");
         expect(tmchan_receiver_slips(&s, &bits) == TMCHAN_CLOSED, "closed slips");
-        expect(tmchan_receiver_push(&s, some, 1, out, 64, reports, 1) == TMCHAN_CLOSED, "a closed receiver");
-        expect(tmchan_receiver_finish(&s, out, 64, reports, 1, &totals, &phase) == TMCHAN_CLOSED && tmchan_close(&s) == TMCHAN_CLOSED, "closed");
+        w.octets = 9;
+        expect(tmchan_receiver_push(&s, some, 1, out, 64, reports, 1, &w) == TMCHAN_CLOSED && is_written(&w, 0, 0), "a closed receiver");
+        w.octets = 9;
+        expect(tmchan_receiver_finish(&s, out, 64, reports, 1, &totals, &phase, &w) == TMCHAN_CLOSED && is_written(&w, 0, 0), "a closed receiver's finish");
+        expect(tmchan_close(&s) == TMCHAN_CLOSED, "closed");
         expect(tmchan_sender_open(&s, &config) == 0 && tmchan_receiver_open(&s, &config) == TMCHAN_OPEN, "open");
         expect(tmchan_sender_open(&s, &config) == TMCHAN_OPEN && tmchan_decoder_open(&s, &config) == TMCHAN_OPEN, "open already");
-        expect(tmchan_receiver_push(&s, some, 1, out, 64, reports, 1) == TMCHAN_CLOSED && tmchan_decoder_push(&s, some, 1, out, 64) == TMCHAN_CLOSED, "another kind");
+        expect(tmchan_receiver_push(&s, some, 1, out, 64, reports, 1, &w) == TMCHAN_CLOSED && tmchan_decoder_push(&s, some, 1, out, 64, &w) == TMCHAN_CLOSED,
+               "another kind");
         int64_t needed = tmchan_sender_room(&config, 64);
         uint8_t *symbols = room(needed);
-        expect(tmchan_sender_push(&s, some, 64, symbols, needed - 1) == TMCHAN_ROOM && tmchan_sender_push(&s, some, 0, symbols, 0) == TMCHAN_ROOM, "no room");
-        expect(tmchan_sender_push(&s, some, 64, symbols, needed) == 0, "room");
+        expect(tmchan_sender_push(&s, some, 64, symbols, needed - 1, &w) == TMCHAN_ROOM && tmchan_sender_push(&s, some, 0, symbols, 0, &w) == TMCHAN_ROOM,
+               "no room");
+        expect(tmchan_sender_push(&s, some, 64, symbols, needed, &w) == 0, "room");
         expect(tmchan_sender_room(&config, SIZE_MAX) == TMCHAN_ROOM && tmchan_decoder_room(&config, (size_t)1 << 41) == TMCHAN_ROOM, "too many");
         free(symbols);
         expect(tmchan_close(&s) == 0, "close");
     }
     expect(tmchan_decoder_open(&s, &config) == 0, "open");
-    expect(tmchan_decoder_push(&s, some, 64, out, 64) == TMCHAN_ROOM && tmchan_decoder_finish(&s, out, 64, &phase) == TMCHAN_ROOM, "no room for bits");
+    expect(tmchan_decoder_push(&s, some, 64, out, 64, &w) == TMCHAN_ROOM && tmchan_decoder_finish(&s, out, 64, &phase, &w) == TMCHAN_ROOM, "no room for bits");
     expect(tmchan_decoder_phase(&s, &phase) == 0 && phase.is_chosen == 0 && tmchan_close(&s) == 0, "still open");
     tmchan_search search = {0};
     tmchan_place place;
@@ -291,6 +332,41 @@ static void make_refusals(void) {
     expect(tmchan_search_bits(&search, bits_room, 104, some, 8, &at, &place) == 0 && at == 8, "its room");
     at = 9;
     expect(tmchan_search_bits(&search, bits_room, 104, some, 8, &at, &place) == TMCHAN_ROOM && at == 9, "beyond the array");
+}
+
+/* Configurations of other lengths than the struct's: options that are missing have their defaults, and what stands behind is to be 0. A call
+ * writes no number beyond the length. */
+static void pass_lengths(void) {
+    enum { MOST = OPTIONS + 2 };
+    uint64_t defaults[MOST] = {0};
+    line_number = 0;
+    (tmchan_config_defaults)((tmchan_config *)defaults, MOST);
+    expect(!memcmp(&defaults[OPTIONS], (uint64_t[2]){0}, 2 * sizeof *defaults), "numbers behind the defaults");
+    for (size_t length = 0; length <= MOST; length++) {
+        uint64_t *numbers = room(length * sizeof *numbers), known[MOST];
+        tmchan_config *config = (tmchan_config *)numbers;
+        tmchan_stream stream = {0};
+        (tmchan_config_defaults)(config, length);
+        expect(!memcmp(numbers, defaults, length * sizeof *numbers), "defaults of another length");
+        expect((tmchan_config_check)(config, length) == 0 && (tmchan_frame_length)(config, length) == 223, "a configuration of another length");
+        expect((tmchan_sender_open)(&stream, config, length) == 0 && tmchan_close(&stream) == 0, "a sender of another length");
+        (tmchan_config_recording)(config, length);
+        (tmchan_config_recording)((tmchan_config *)memcpy(known, defaults, sizeof known), MOST);
+        expect(!memcmp(numbers, known, length * sizeof *numbers), "a recording of another length");
+        for (size_t at = 0; at < length; at++) {
+            uint64_t was = numbers[at];
+            numbers[at] = at < OPTIONS ? (uint64_t)1 << 50 : 1;
+            int32_t wanted = at < OPTIONS ? TMCHAN_BAD_CODE - (int32_t)at + (at > 4) : TMCHAN_BAD_CONFIG;
+            uint64_t frames_length = 7;
+            expect((tmchan_config_check)(config, length) == wanted && (tmchan_frame_length)(config, length) == wanted, "a number outside");
+            expect((tmchan_sender_room)(config, length, 1) == wanted && (tmchan_decoder_room)(config, length, 1) == wanted, "a room of a number outside");
+            expect((tmchan_receiver_room)(config, length, 1, &frames_length) == wanted && frames_length == 7, "a receiver's room of a number outside");
+            expect((tmchan_sender_open)(&stream, config, length) == wanted && (tmchan_decoder_open)(&stream, config, length) == wanted
+                   && (tmchan_receiver_open)(&stream, config, length) == wanted, "an open with a number outside");
+            numbers[at] = was;
+        }
+        free(numbers);
+    }
 }
 
 /* Searches with codeblocks of 20 bits, in bits or in octets that are cut at any place, which find these places. */
@@ -352,6 +428,7 @@ int main(void) {
     expect(line_number > 0, "no row");
     lose_a_symbol();
     make_refusals();
+    pass_lengths();
     make_searches();
     printf("%ld tests of streams, %ld fail\n", calls, differing);
     return differing != 0;

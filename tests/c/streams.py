@@ -9,9 +9,10 @@ import ctypes
 import sys
 
 LIBRARY = ctypes.CDLL(sys.argv[1])
-SIZE, NUMBERS, COUNT = ctypes.c_size_t, ctypes.c_uint64 * 22, ctypes.c_uint64
+OPTIONS = 24
+SIZE, NUMBERS, COUNT = ctypes.c_size_t, ctypes.c_uint64 * OPTIONS, ctypes.c_uint64
 PIECE, CLOSED = 3000, -5
-CODE, DEPTH, INNER, TOLERANCE, SOFT, SKIP, FLY, PHASE, POLARITY, PACK, VERIFY = 0, 1, 3, 7, 9, 11, 14, 17, 18, 20, 21
+CODE, DEPTH, INNER, TOLERANCE, SOFT, SKIP, FLY, PHASE, POLARITY, PACK, VERIFY, RESCAN, BAD = 0, 1, 3, 7, 9, 11, 14, 17, 18, 20, 21, 22, 23
 for name in ("sender_room", "sender_push", "sender_finish", "decoder_room", "decoder_push", "decoder_finish", "receiver_room",
              "receiver_push", "receiver_finish"):
     getattr(LIBRARY, "tmchan_" + name).restype = ctypes.c_int64
@@ -21,8 +22,13 @@ def call(name, *arguments):
     return getattr(LIBRARY, "tmchan_" + name)(*arguments)
 
 
+def of(config):
+    """A configuration as a call takes it."""
+    return config, SIZE(len(config))
+
+
 class Report(ctypes.Structure):
-    _fields_ = ([("place", COUNT), ("frame_length", COUNT)] + [(name, ctypes.c_uint8) for name in ("distance", "bridged", "inverted", "columns")]
+    _fields_ = ([("place", COUNT), ("frame_length", COUNT)] + [(name, ctypes.c_uint8) for name in ("distance", "bridged", "inverted", "columns", "bad")]
                 + [("repaired", ctypes.c_uint8 * 8)])
 
     def counts(self):
@@ -45,36 +51,38 @@ def pieces(octets):
 
 
 def send(config, given):
-    stream, sent = NUMBERS(), b""
-    assert call("sender_open", stream, config) == 0
+    stream, sent, written = NUMBERS(), b"", (COUNT * 3)()
+    assert call("sender_open", stream, *of(config)) == 0
     for piece in pieces(given):
-        room = call("sender_room", config, SIZE(len(piece)))
+        room = call("sender_room", *of(config), SIZE(len(piece)))
         symbols = ctypes.create_string_buffer(room)
-        count = call("sender_push", stream, piece, SIZE(len(piece)), symbols, SIZE(room))
+        count = call("sender_push", stream, piece, SIZE(len(piece)), symbols, SIZE(room), written)
+        assert list(written) == [0, count, 0]
         sent += symbols.raw[:count]
-    assert call("sender_finish", stream) == len(given) % call("frame_length", config)
+    assert call("sender_finish", stream, written) == len(given) % call("frame_length", *of(config)) and list(written) == [0, 0, 0]
     return sent
 
 
 def receive(config, given):
     """The frames, the reports, the number of bits, and the lines."""
     stream, received, found, octets, slips, totals, phase = NUMBERS(), b"", [], COUNT(), COUNT(), (COUNT * 2)(), Phase()
-    assert call("receiver_open", stream, config) == 0
+    written = (COUNT * 3)()
+    assert call("receiver_open", stream, *of(config)) == 0
     for piece in pieces(given) + [None]:
-        room = call("receiver_room", config, SIZE(len(piece or b"")), ctypes.byref(octets))
+        room = call("receiver_room", *of(config), SIZE(len(piece or b"")), ctypes.byref(octets))
         frames, reports = ctypes.create_string_buffer(octets.value), (Report * room)()
         arrays = frames, SIZE(octets.value), reports, SIZE(room)
-        count = (call("receiver_push", stream, piece, SIZE(len(piece)), *arrays) if piece is not None
-                 else call("receiver_finish", stream, *arrays, totals, ctypes.byref(phase)))
-        assert count >= 0
-        received += frames.raw[:sum(report.frame_length for report in reports[:count])]
+        count = (call("receiver_push", stream, piece, SIZE(len(piece)), *arrays, written) if piece is not None
+                 else call("receiver_finish", stream, *arrays, totals, ctypes.byref(phase), written))
+        assert list(written) == [count, sum(report.frame_length for report in reports[:count]), 0]
+        received += frames.raw[:written[1]]
         found += reports[:count]
         if piece is not None:
             assert call("receiver_phase", stream, ctypes.byref(phase)) == call("receiver_slips", stream, ctypes.byref(slips)) == 0
     assert slips.value <= totals[1] and (config[PHASE] == 2 or totals[1] == 0)
     assert call("receiver_slips", stream, ctypes.byref(slips)) == CLOSED
     bad = sum("x" in report.counts() for report in found)
-    assert sum(report.frame_length == 0 for report in found) == bad
+    assert sum(report.bad for report in found) == bad and sum(report.frame_length == 0 for report in found) == (0 if config[BAD] else bad)
     fixed = sum(count for report in found for count in report.counts() if count != "x")
     lines = phase.lines() + [report.line(number) for number, report in enumerate(found)] + [f"slips {totals[1]}"] * (config[PHASE] == 2)
     return received, found, totals[0], lines + [f"frames {len(found) - bad} bad {bad} fixed {fixed} bits {totals[0]}"]
@@ -82,14 +90,14 @@ def receive(config, given):
 
 def decode(config, given):
     """The bits, and the lines of the phase."""
-    stream, bits, phase = NUMBERS(), b"", Phase()
-    assert call("decoder_open", stream, config) == 0
+    stream, bits, phase, written = NUMBERS(), b"", Phase(), (COUNT * 3)()
+    assert call("decoder_open", stream, *of(config)) == 0
     for piece in pieces(given) + [None]:
-        room = call("decoder_room", config, SIZE(len(piece or b"")))
+        room = call("decoder_room", *of(config), SIZE(len(piece or b"")))
         made = ctypes.create_string_buffer(room)
-        count = (call("decoder_push", stream, piece, SIZE(len(piece)), made, SIZE(room)) if piece is not None
-                 else call("decoder_finish", stream, made, SIZE(room), ctypes.byref(phase)))
-        assert count >= 0 and (piece is None or call("decoder_phase", stream, ctypes.byref(phase)) == 0)
+        count = (call("decoder_push", stream, piece, SIZE(len(piece)), made, SIZE(room), written) if piece is not None
+                 else call("decoder_finish", stream, made, SIZE(room), ctypes.byref(phase), written))
+        assert list(written) == [0, count, 0] and (piece is None or call("decoder_phase", stream, ctypes.byref(phase)) == 0)
         bits += made.raw[:count]
     return bits, phase.lines()
 
@@ -103,7 +111,7 @@ def plain_bits(config, given):
 def search(config, name, array):
     """The places in bits, or in octets."""
     search, place, at, found = NUMBERS(), NUMBERS(), COUNT(), []
-    size = 8 * (call("cadu_length", *config[CODE:DEPTH + 1], SIZE(call("frame_length", config))) - 4)
+    size = 8 * (call("cadu_length", *config[CODE:DEPTH + 1], SIZE(call("frame_length", *of(config)))) - 4)
     room = ctypes.create_string_buffer(config[VERIFY] * (32 + size))
     assert call("search_open", search, *[config[option] for option in (TOLERANCE, FLY, POLARITY)], size, config[VERIFY]) == 0
     while call(name, search, room, SIZE(len(room)), array, SIZE(len(array)), ctypes.byref(at), place) == 1:
@@ -122,7 +130,7 @@ def receives(config, given, wanted, notes):
     bits = bits if config[INNER] else plain_bits(config, given)
     whole = bits[:len(bits) // 8 * 8]
     return (wanted in (frames, None) and lines == notes and len(bits) == count and phase == [line for line in lines if line.startswith("phase")]
-            and search(config, "search_bits", bits) == places
+            and (config[RESCAN] or search(config, "search_bits", bits) == places)
             and search(config, "search_octets", octets_of(whole)) == search(config, "search_bits", whole))
 
 
@@ -138,21 +146,24 @@ def octets(digits):
 def has_defaults():
     """The version and the defaults; and a handle that is closed answers so."""
     config, stream = NUMBERS(), NUMBERS()
-    call("config_defaults", config)
-    return (call("version") == 0x000200 and call("config_check", config) == 0 and call("frame_length", config) == 223
-            and call("receiver_open", stream, config) == 0 and call("close", stream) == 0 and call("close", stream) == CLOSED)
+    call("config_defaults", *of(config))
+    return (call("version") == 0x000300 and call("config_check", *of(config)) == 0 and call("frame_length", *of(config)) == 223
+            and call("receiver_open", stream, *of(config)) == 0 and call("close", stream) == 0 and call("close", stream) == CLOSED)
 
 
 rows = [line.split() for line in sys.stdin]
 wrong = [] if has_defaults() and rows else [0]
 for number, (kind, *words) in enumerate(rows, 1):
-    config = NUMBERS(*map(int, words[:22]))
+    config, words = NUMBERS(*map(int, words[:OPTIONS])), words[OPTIONS:]
     if kind == "check":
-        right = call("config_check", config) == int(words[22])
+        right = call("config_check", *of(config)) == int(words[0])
+    elif kind == "recording":
+        call("config_recording", *of(config))
+        right = list(config) == list(map(int, words))
     elif kind == "send":
-        right = send(config, octets(words[22])) == octets(words[23])
+        right = send(config, octets(words[0])) == octets(words[1])
     else:
-        given, wanted, notes = map(octets, words[22:])
+        given, wanted, notes = map(octets, words)
         right = (receives if kind == "receive" else decodes)(config, given, wanted, notes.decode().splitlines())
     wrong += [] if right else [number]
 print(f"{len(rows)} rows of streams by ctypes, {len(wrong)} differ", *wrong[:9])

@@ -28,6 +28,7 @@ static long pass(const struct link *link, unsigned round) {
     tmchan_stream stream;
     tmchan_totals totals;
     tmchan_phase phase;
+    tmchan_written written;
     tmchan_search search;
     tmchan_place place;
     uint64_t frames_length, at = 0;
@@ -42,14 +43,14 @@ static long pass(const struct link *link, unsigned round) {
     size_t needed = (size_t)tmchan_sender_room(&config, sent_length);
     uint8_t *symbols = (uint8_t *)room(needed);
     differing += tmchan_sender_open(&stream, &config) != 0;
-    int64_t count = tmchan_sender_push(&stream, sent, sent_length, symbols, needed);
-    differing += count <= 0 || tmchan_sender_finish(&stream) != 0;
+    int64_t count = tmchan_sender_push(&stream, sent, sent_length, symbols, needed, &written);
+    differing += count <= 0 || tmchan_sender_finish(&stream, &written) != 0;
     int64_t most = tmchan_receiver_room(&config, (size_t)count, &frames_length);
     uint8_t *frames = (uint8_t *)room(frames_length);
     tmchan_report *reports = (tmchan_report *)room((size_t)most * sizeof *reports);
     differing += tmchan_receiver_open(&stream, &config) != 0;
-    differing += tmchan_receiver_push(&stream, symbols, (size_t)count, frames, frames_length, reports, (size_t)most) != 0;
-    differing += tmchan_receiver_finish(&stream, frames, frames_length, reports, (size_t)most, &totals, &phase) != FRAMES;
+    differing += tmchan_receiver_push(&stream, symbols, (size_t)count, frames, frames_length, reports, (size_t)most, &written) != 0;
+    differing += tmchan_receiver_finish(&stream, frames, frames_length, reports, (size_t)most, &totals, &phase, &written) != FRAMES;
     differing += memcmp(frames, sent, sent_length) != 0;
     int32_t unit_length = tmchan_cadu_length((uint32_t)link->code, (uint32_t)link->depth, size);
     uint8_t *unit = (uint8_t *)room((size_t)unit_length);
@@ -68,7 +69,7 @@ static void *pass_all(void *given) {
 }
 
 int main(void) {
-    static struct link links[THREADS] = {{TMCHAN_RS16, 5, 12, 0, 0}, {TMCHAN_RS8, 2, 78, 2, 0}};
+    static struct link links[THREADS] = {{TMCHAN_RS16, 5, TMCHAN_RATE_12, TMCHAN_GIVEN, 0}, {TMCHAN_RS8, 2, TMCHAN_RATE_78, TMCHAN_FOLLOW, 0}};
     pthread_t threads[THREADS];
     long differing = 0;
     if (pthread_barrier_init(&begin, NULL, THREADS)) return 2;
