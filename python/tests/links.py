@@ -14,7 +14,7 @@ PROGRAM = next((it for it in (f"{TOP}/out/tmchan", f"{TOP}/crates/tmchan/out/tmc
 
 NAMES = (
     "code depth length inner invert randomize basis tolerance repair soft start skip workers limit fly keep ahead phase polarity batch pack "
-    "verify"
+    "verify rescan bad"
 ).split()
 UNSET = 2**64 - 1
 

@@ -29,6 +29,8 @@ REFUSED = {
     "polarity": "up",
     "batch": 0,
     "verify": 8,
+    "rescan": "once",
+    "bad": "keep",
 }
 
 
@@ -99,7 +101,7 @@ def test_streams_cut_anywhere_are_as_the_program_has_them(number):
     for more in (
         dict(),
         dict(tolerance=2, fly=1, start="any", phase="find", keep=64, ahead=40),
-        dict(tmchan.link.RECORDING, keep=128, ahead=64, batch=1),
+        dict(tmchan.link.recording("1/2"), batch=1),
     ):
         link = tmchan.Link(**options, **more)
         output, notes, status = run_program(["decode", *link.words()], bytes(given))
@@ -200,11 +202,13 @@ def test_what_a_receiver_says():
     assert bad and all(it.frame is None and None in it.repaired for it in bad)
     assert found.frames == b"".join(it.frame for it in found if it.good)
     assert right(found, sent)[1] == 0 and right(found, sent)[0] >= 26
+    passed = list(tmchan.Link(**{**link.options, "bad": "pass"}).receive(bytes(symbols)))
+    assert [(it.place, it.good, it.repaired) for it in passed] == [(it.place, it.good, it.repaired) for it in found]
+    assert all(len(it.frame) == link.frame_length and was.frame in (None, it.frame) for it, was in zip(passed, found))
     numpy = pytest.importorskip("numpy")
     table = found.table
-    assert [it.place for it in found] == table["place"].tolist() and [it.good for it in found] == (
-        table["frame_length"] > 0
-    ).tolist()
+    assert [it.place for it in found] == table["place"].tolist()
+    assert [it.good for it in found] == (table["frame_length"] > 0).tolist() == (table["bad"] == 0).tolist()
     assert table["repaired"].shape == (len(found), 8) and table["distance"].dtype == numpy.uint8
 
 

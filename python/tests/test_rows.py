@@ -62,7 +62,7 @@ def test_words_and_codeblocks():
 def test_streams(most):
     draw, kinds = random.Random(most), {}
     for kind, *fields in rows("stream_rows.py"):
-        numbers, fields = fields[:22], fields[22:]
+        numbers, fields = fields[: len(NAMES)], fields[len(NAMES) :]
         if sum(map(len, fields)) > (2000 if most < 3000 else 10**6):
             continue
         if kind == "check":
@@ -81,7 +81,10 @@ def test_streams(most):
             link = link_of(numbers)
             items, lines = received(link, pieces(octets(fields[0]), draw, most))
             assert lines == octets(fields[2]).decode().splitlines()
-            assert octets(fields[1]) in (None, b"".join(it.frame for it in items if it.good))
+            assert octets(fields[1]) in (None, b"".join(it.frame for it in items if it.frame))
+        elif kind == "recording":
+            made = library.recording(next(word for word, it in library.OPTIONS["inner"].items() if it == int(numbers[3])))
+            assert set(made.items()) <= set(link_of(fields).options.items())
         else:
             with link_of(numbers).decoder() as decoder:
                 bits = b"".join([*map(decoder.push, pieces(octets(fields[0]), draw, most)), decoder.finish()])
@@ -93,4 +96,4 @@ def test_streams(most):
                 bytes(int("".join(map(str, whole[at : at + 8])), 2) for at in range(0, len(whole), 8)),
             )
         kinds[kind] = kinds.get(kind, 0) + 1
-    assert min(kinds[it] for it in ("check", "send", "receive", "bits")) > 5
+    assert min(kinds[it] for it in ("check", "send", "receive", "bits", "recording")) > 5

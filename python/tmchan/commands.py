@@ -11,7 +11,7 @@ import sys
 from typing import Any, BinaryIO, Iterator, Optional
 
 from . import library
-from .link import PIECE, RECORDING, Link, Received
+from .link import DEFAULTS, PIECE, Link, Received, recording
 from .outside import COUNTERS, Counters, frame_check, kiss
 from .reception import Reception
 from .recordings import FORMS, wave_header
@@ -39,6 +39,7 @@ HELP = {
     "polarity": "the polarity: given or find",
     "batch": "how many codeblocks are handed over at once, 1 to 4096",
     "verify": "how many further markers must match, 0 to 7",
+    "rescan": "markers are looked for inside codeblocks too: on or off",
     "skip": "how many symbols are dropped first, 0 to 15",
     "soft": "the octets of a symbol: u8 or i8",
     "pack": "without an inner code, whether eight bits make an octet: on or off",
@@ -213,7 +214,7 @@ class Progress:
 
 # receive
 
-RECEIVING = ("tolerance", "fly", "polarity", "verify", "repair", "start", "skip", "phase", "keep", "ahead", "batch")
+RECEIVING = ("tolerance", "fly", "polarity", "verify", "rescan", "repair", "start", "skip", "phase", "keep", "ahead", "batch")
 
 
 def receive_arguments() -> argparse.ArgumentParser:
@@ -264,7 +265,8 @@ def receive_arguments() -> argparse.ArgumentParser:
         parser,
         RECEIVING,
         "the receiver",
-        "By default --tolerance 2 --fly 1 --start any --phase follow --polarity find.",
+        "By default --tolerance 3 --fly 1 --rescan on --start any --phase follow --polarity find, and at rate 1/2\n"
+        "--keep 128 --ahead 64.",
     )
     group = parser.add_argument_group("of each frame")
     group.add_argument(
@@ -281,18 +283,19 @@ def chosen(arguments: argparse.Namespace, source: Source) -> Found:
     given = given_of(arguments, LINK)
     receiving = given_of(arguments, RECEIVING)
     form = arguments.input or source.form or None
-    Link(**{**RECORDING, **given, **receiving})
+    Link.recording(**given, **receiving)
     if not (form and given):
         found = find(source.view(), form=form, **given)
         if found.link is None:
             return found
         # Recordings may slip, or be inverted, where nothing was looked at.
-        options = {**found.link.options, **RECORDING, **receiving}
+        options = {**found.link.options, **recording(found.link.options["inner"]), **receiving}
         return found._replace(
             link=Link(**options), swap=found.swap or arguments.swap, nrz_m=found.nrz_m or arguments.nrz_m
         )
-    options = {**RECORDING, **given, **receiving}
-    if options.get("inner") == "none":
+    inner = given.get("inner", DEFAULTS["inner"])
+    options = {**recording(inner), **given, **receiving}
+    if inner == "none":
         options["pack"] = "off"
     return Found(Link(**options), form, arguments.swap, arguments.nrz_m)
 

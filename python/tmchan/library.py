@@ -2,19 +2,18 @@
 
 The library is looked for in this order: the file that the environment's LIBTMCHAN names; libtmchan.so beside this file,
 as in a wheel; out/libtmchan.so of the clone, or lib/libtmchan.so of the folder, in whose python/ this file stands; the
-loader's libtmchan.so.0.2. It is loaded with the first call, so that what needs none needs no library.
+loader's libtmchan.so.0.3. It is loaded with the first call, so that what needs none needs no library.
 """
 import contextlib
 import ctypes
 import os
 import struct
-import sys
 import threading
 from ctypes import POINTER, byref, c_int32, c_int64, c_size_t, c_uint8, c_uint32, c_uint64, c_void_p
 
 # The first two numbers of the version: a program is made anew for each second number while the first is 0.
-ABI = 0x0002
-NAME = "libtmchan.so.0.2"
+ABI = 0x0003
+NAME = "libtmchan.so.0.3"
 
 UNSET = 2**64 - 1
 # Outside every list and range: what stands for a word that an option does not have.
@@ -48,35 +47,26 @@ OPTIONS = {
     "batch": None,
     "pack": SWITCH,
     "verify": None,
+    "rescan": SWITCH,
+    "bad": {"drop": 0, "pass": 1},
 }
 
+# The options that tmchan_config_recording sets.
+RECORDED = ("tolerance", "start", "fly", "keep", "ahead", "phase", "polarity", "verify", "rescan")
+
 BEYOND, ROOM, FLAGS, CLOSED, OPEN, MEMORY = -1, -2, -3, -5, -6, -7
-# Of each answer the reason's name, and a sentence.
-REFUSALS = {
-    ROOM: ("room", "an array is too long, or does not fit the others"),
-    FLAGS: ("flags", "there are not as many flags as symbols"),
-    -16: ("code", "the code is none of rs16, rs8 and none"),
-    -17: ("depth", "the depth is none of 1, 2, 3, 4, 5 and 8, or it is not 1 and there is no code"),
-    -18: ("length", "no word, or no frame, of this code and depth is so long"),
-    -19: ("inner", "the rate is none of none, 1/2, 2/3, 3/4, 5/6 and 7/8"),
-    -20: ("switch", "invert or randomize is neither on nor off"),
-    -21: ("basis", "the basis is neither dual nor poly"),
-    -22: ("tolerance", "the tolerance is not from 0 to 8"),
-    -23: ("repair", "the repair bound is not from 0 to the most that the code repairs"),
-    -24: ("soft", "the soft form is neither u8 nor i8"),
-    -25: ("start", "the start is neither zero nor any"),
-    -26: ("skip", "not from 0 to 15 symbols are skipped"),
-    -27: ("workers", "not from 1 to 64 workers"),
-    -28: ("limit", "the limit is not from 1 to 2^40"),
-    -29: ("fly", "not from 0 to 15 markers in a row may be missing"),
-    -30: ("keep", "not from 64 to 65536 steps of a window are kept"),
-    -31: ("ahead", "not from 0 to 4096 steps follow those that are kept"),
-    -32: ("phase", "the phase is none of given, find and follow"),
-    -33: ("polarity", "the polarity is neither given nor find"),
-    -34: ("batch", "not from 1 to 4096 codeblocks are handed over at once"),
-    -35: ("pack", "pack is neither on nor off"),
-    -36: ("verify", "not from 0 to 7 further markers are to match"),
-}
+# Of each answer the reason's name; those of the options are numbered in their order, of which invert and randomize have
+# one together.
+REASONS = {ROOM: "room", FLAGS: "flags", OPEN: "open", -8: "config"}
+REASONS.update((-16 - k, name.replace("invert", "switch")) for k, name in enumerate(it for it in OPTIONS if it != "randomize"))
+# In so many octets each text has room.
+TEXT_LENGTH = 96
+
+
+def text(answer):
+    """What an answer means."""
+    made = bytearray(TEXT_LENGTH)
+    return made[: _LIBRARY.tmchan_text(answer, address(made), len(made))].decode()
 
 
 class Refused(ValueError):
@@ -85,8 +75,8 @@ class Refused(ValueError):
 
     def __init__(self, answer):
         self.answer = answer
-        self.reason, text = REFUSALS.get(answer, (str(answer), "the library refuses this"))
-        super().__init__(f"{self.reason}: {text}")
+        self.reason = REASONS.get(answer, str(answer))
+        super().__init__(f"{self.reason}: {text(answer)}")
 
 
 class Uncorrectable(Exception):
@@ -119,8 +109,12 @@ class TotalsFields(ctypes.Structure):
     _fields_ = [("bits", c_uint64), ("slips", c_uint64)]
 
 
-# tmchan_report: place, frame_length, distance, bridged, inverted, columns, repaired; and the same for numpy.
-REPORT = struct.Struct("=QQBBBB8s4x")
+class Written(ctypes.Structure):
+    _fields_ = [("reports", c_uint64), ("octets", c_uint64), ("windows", c_uint64)]
+
+
+# tmchan_report: place, frame_length, distance, bridged, inverted, columns, bad, repaired; and the same for numpy.
+REPORT = struct.Struct("=QQBBBBB8s3x")
 REPORT_FIELDS = [
     ("place", "u8"),
     ("frame_length", "u8"),
@@ -128,40 +122,42 @@ REPORT_FIELDS = [
     ("bridged", "u1"),
     ("inverted", "u1"),
     ("columns", "u1"),
+    ("bad", "u1"),
     ("repaired", "u1", 8),
 ]
 
-# Of each call what it answers, and what it is passed. An octet array is passed as its address and length.
-_OCTETS, _CONFIG, _HANDLE = (c_void_p, c_size_t), (POINTER(Config),), (POINTER(Handle),)
-_FOUND = (*_OCTETS, c_void_p, c_size_t)
-_PHASE, _TOTALS, _COUNT = (POINTER(PhaseFields),), (POINTER(TotalsFields),), (POINTER(c_uint64),)
+# Of each call what it answers, and what it is passed. An array is passed as its address and length.
+_ARRAY, _CONFIG, _HANDLE = (c_void_p, c_size_t), (POINTER(Config), c_size_t), (POINTER(Handle),)
+_PHASE, _TOTALS, _COUNT, _WRITTEN = (POINTER(PhaseFields),), (POINTER(TotalsFields),), (POINTER(c_uint64),), (POINTER(Written),)
 _CALLS = {
     "version": (c_uint32,),
-    "rs_encode": (c_int32, c_uint32, c_uint32, *_OCTETS, *_OCTETS),
-    "rs_decode": (c_int32, c_uint32, c_uint32, c_uint32, *_OCTETS),
-    "rs_decode_erased": (c_int32, c_uint32, c_uint32, c_uint32, *_OCTETS, *_OCTETS),
-    "randomize": (None, *_OCTETS),
+    "text": (c_int32, c_int64, *_ARRAY),
+    "rs_encode": (c_int32, c_uint32, c_uint32, *_ARRAY, *_ARRAY),
+    "rs_decode": (c_int32, c_uint32, c_uint32, c_uint32, *_ARRAY),
+    "rs_decode_erased": (c_int32, c_uint32, c_uint32, c_uint32, *_ARRAY, *_ARRAY),
+    "randomize": (None, *_ARRAY),
     "cadu_length": (c_int32, c_uint32, c_uint32, c_size_t),
-    "cadu": (c_int32, c_uint32, c_uint32, c_uint32, c_uint32, *_OCTETS, *_OCTETS),
+    "cadu": (c_int32, c_uint32, c_uint32, c_uint32, c_uint32, *_ARRAY, *_ARRAY),
     "config_defaults": (None, *_CONFIG),
+    "config_recording": (None, *_CONFIG),
     "config_check": (c_int32, *_CONFIG),
     "frame_length": (c_int32, *_CONFIG),
     "close": (c_int32, *_HANDLE),
     "sender_room": (c_int64, *_CONFIG, c_size_t),
     "sender_open": (c_int32, *_HANDLE, *_CONFIG),
-    "sender_push": (c_int64, *_HANDLE, *_OCTETS, *_OCTETS),
-    "sender_finish": (c_int64, *_HANDLE),
+    "sender_push": (c_int64, *_HANDLE, *_ARRAY, *_ARRAY, *_WRITTEN),
+    "sender_finish": (c_int64, *_HANDLE, *_WRITTEN),
     "decoder_room": (c_int64, *_CONFIG, c_size_t),
     "decoder_open": (c_int32, *_HANDLE, *_CONFIG),
-    "decoder_push": (c_int64, *_HANDLE, *_OCTETS, *_OCTETS),
+    "decoder_push": (c_int64, *_HANDLE, *_ARRAY, *_ARRAY, *_WRITTEN),
     "decoder_phase": (c_int32, *_HANDLE, *_PHASE),
-    "decoder_finish": (c_int64, *_HANDLE, *_OCTETS, *_PHASE),
+    "decoder_finish": (c_int64, *_HANDLE, *_ARRAY, *_PHASE, *_WRITTEN),
     "receiver_room": (c_int64, *_CONFIG, c_size_t, *_COUNT),
     "receiver_open": (c_int32, *_HANDLE, *_CONFIG),
-    "receiver_push": (c_int64, *_HANDLE, *_OCTETS, *_FOUND),
+    "receiver_push": (c_int64, *_HANDLE, *_ARRAY, *_ARRAY, *_ARRAY, *_WRITTEN),
     "receiver_phase": (c_int32, *_HANDLE, *_PHASE),
     "receiver_slips": (c_int32, *_HANDLE, *_COUNT),
-    "receiver_finish": (c_int64, *_HANDLE, *_FOUND, *_TOTALS, *_PHASE),
+    "receiver_finish": (c_int64, *_HANDLE, *_ARRAY, *_ARRAY, *_TOTALS, *_PHASE, *_WRITTEN),
 }
 
 
@@ -203,7 +199,7 @@ _LIBRARY = _Calls()
 
 
 def version():
-    """The version of the library that is loaded, as "0.2.0"."""
+    """The version of the library that is loaded, as "0.3.0"."""
     return _text(_LIBRARY.tmchan_version())
 
 
@@ -244,15 +240,32 @@ def number(name, value):
 def configuration(options):
     """The tmchan_config of options by their names. Raises Refused for the first that is outside."""
     config = Config()
-    _LIBRARY.tmchan_config_defaults(byref(config))
+    _LIBRARY.tmchan_config_defaults(*numbers(config))
     for name, value in options.items():
         setattr(config, name, number(name, value))
-    call("config_check", byref(config))
+    call("config_check", *numbers(config))
     return config
 
 
+def recording(inner):
+    """The options that a link of this inner code has for a recording, by their names."""
+    config = configuration({"inner": inner})
+    _LIBRARY.tmchan_config_recording(*numbers(config))
+    return {name: _word(name, getattr(config, name)) for name in RECORDED}
+
+
+def _word(name, value):
+    words = OPTIONS[name]
+    return value if words is None else next(word for word, number in words.items() if number == value)
+
+
+def numbers(config):
+    """A configuration as a call takes it: its address, and how many numbers it has."""
+    return byref(config), len(OPTIONS)
+
+
 def frame_length(config):
-    return call("frame_length", byref(config))
+    return call("frame_length", *numbers(config))
 
 
 def cadu(config, frame):
@@ -273,8 +286,8 @@ class Stream:
     KIND = ""
 
     def __init__(self, config):
-        self._config, self._handle, self._lock = config, Handle(), threading.Lock()
-        call(self.KIND + "_open", byref(self._handle), byref(config))
+        self._config, self._handle, self._lock, self._wrote = config, Handle(), threading.Lock(), Written()
+        call(self.KIND + "_open", byref(self._handle), *numbers(config))
 
     @contextlib.contextmanager
     def _alone(self):
@@ -308,32 +321,32 @@ class SenderStream(Stream):
 
     def push(self, octets):
         with self._alone():
-            symbols = bytearray(call("sender_room", byref(self._config), len(octets)))
-            count = self._call("push", octets, len(octets), address(symbols), len(symbols))
+            symbols = bytearray(call("sender_room", *numbers(self._config), len(octets)))
+            count = self._call("push", octets, len(octets), address(symbols), len(symbols), byref(self._wrote))
             return bytes(memoryview(symbols)[:count])
 
     def finish(self):
         with self._alone():
-            return self._call("finish")
+            return self._call("finish", byref(self._wrote))
 
 
 class DecoderStream(Stream):
     KIND = "decoder"
 
     def _room(self, length):
-        return bytearray(call("decoder_room", byref(self._config), length))
+        return bytearray(call("decoder_room", *numbers(self._config), length))
 
     def push(self, octets):
         with self._alone():
             bits = self._room(len(octets))
-            count = self._call("push", octets, len(octets), address(bits), len(bits))
+            count = self._call("push", octets, len(octets), address(bits), len(bits), byref(self._wrote))
             return bytes(memoryview(bits)[:count])
 
     def finish(self):
         """The bits that are left, and the phase."""
         with self._alone():
             bits, phase = self._room(0), PhaseFields()
-            count = self._call("finish", address(bits), len(bits), byref(phase))
+            count = self._call("finish", address(bits), len(bits), byref(phase), byref(self._wrote))
             return bytes(memoryview(bits)[:count]), phase
 
     def phase(self):
@@ -352,28 +365,26 @@ class ReceiverStream(Stream):
     def __init__(self, config, most):
         super().__init__(config)
         frames = c_uint64()
-        reports = call("receiver_room", byref(config), most, byref(frames))
+        reports = call("receiver_room", *numbers(config), most, byref(frames))
         self._frames, self._reports = bytearray(frames.value), bytearray(REPORT.size * reports)
         self._arrays = address(self._frames), len(self._frames), address(self._reports), reports
-        self._length = frame_length(config)
 
-    def _written(self, count):
-        reports = bytes(memoryview(self._reports)[: REPORT.size * count])
-        # Each report has the link's frame length, or 0. The octet of it that is not 0 is counted, since that is quick.
-        octet, place = max((octet, place) for place, octet in enumerate(self._length.to_bytes(8, sys.byteorder)))
-        good = reports[8 + place :: REPORT.size].count(octet)
-        return bytes(memoryview(self._frames)[: self._length * good]), reports
+    def _written(self):
+        """What the last call has written to both arrays."""
+        octets, size = self._wrote.octets, REPORT.size * self._wrote.reports
+        return bytes(memoryview(self._frames)[:octets]), bytes(memoryview(self._reports)[:size])
 
     def push(self, octets):
         with self._alone():
-            return self._written(self._call("push", octets, len(octets), *self._arrays))
+            self._call("push", octets, len(octets), *self._arrays, byref(self._wrote))
+            return self._written()
 
     def finish(self):
         """What is left, the totals and the phase."""
         with self._alone():
             totals, phase = TotalsFields(), PhaseFields()
-            count = self._call("finish", *self._arrays, byref(totals), byref(phase))
-            return (*self._written(count), totals, phase)
+            self._call("finish", *self._arrays, byref(totals), byref(phase), byref(self._wrote))
+            return (*self._written(), totals, phase)
 
     def phase(self):
         phase = PhaseFields()

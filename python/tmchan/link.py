@@ -19,7 +19,7 @@ class Item(NamedTuple):
     """A codeblock that the receiver found."""
 
     place: int  #: how many received bits stand before its marker
-    frame: Optional[bytes]  #: its transfer frame; None where a column is uncorrectable
+    frame: Optional[bytes]  #: its transfer frame; None where a column is uncorrectable, but with bad="pass"
     distance: int  #: how many of the marker's 32 bits are wrong, in the codeblock's polarity
     bridged: bool  #: no marker stands there: its place was taken since it directly follows a codeblock
     inverted: bool  #: it was received inverted
@@ -28,7 +28,7 @@ class Item(NamedTuple):
     @property
     def good(self) -> bool:
         """Whether each column was repaired. Without an outer code that says nothing of the frame."""
-        return self.frame is not None
+        return None not in self.repaired
 
     @property
     def fixed(self) -> int:
@@ -53,7 +53,7 @@ class Totals(NamedTuple):
 class Received(Sequence):
     """What came out of a piece: a sequence of Item, each made when it is asked for.
 
-    `frames` has the frames of the good ones, one after the other, as bytes: all are of the link's frame length. What is
+    `frames` has the frames that there are, one after the other, as bytes: all are of the link's frame length. What is
     done with frames alone needs no items, and is faster so."""
 
     def __init__(self, frames: bytes = b"", reports: bytes = b"") -> None:
@@ -66,13 +66,13 @@ class Received(Sequence):
     def __iter__(self) -> Iterator[Item]:
         # (what NamedTuple's own call does besides takes as long as all the rest)
         at, frames, make = 0, self.frames, tuple.__new__
-        for place, length, distance, bridged, inverted, columns, repaired in library.REPORT.iter_unpack(self._reports):
+        reports = library.REPORT.iter_unpack(self._reports)
+        for place, length, distance, bridged, inverted, columns, bad, repaired in reports:
             counts = tuple(repaired[:columns])
-            if length:
-                frame: Optional[bytes] = frames[at : at + length]
-                at += length
-            else:
-                frame, counts = None, tuple(None if count == 255 else count for count in counts)
+            frame: Optional[bytes] = frames[at : at + length] if length else None
+            at += length
+            if bad:
+                counts = tuple(None if count == 255 else count for count in counts)
             yield make(Item, (place, frame, distance, bridged == 1, inverted == 1, counts))
 
     def __add__(self, other: "Received") -> "Received":
@@ -92,7 +92,8 @@ class Received(Sequence):
     @property
     def table(self):
         """The reports as a structured array of numpy, with the fields of the header's tmchan_report: place,
-        frame_length (0: uncorrectable), distance, bridged, inverted, columns, repaired (255: uncorrectable)."""
+        frame_length (0: it has no frame), distance, bridged, inverted, columns, bad (1: a column is uncorrectable),
+        repaired (255: uncorrectable)."""
         import numpy
 
         return numpy.frombuffer(self._reports, numpy.dtype(library.REPORT_FIELDS, align=True))
@@ -255,6 +256,8 @@ class Link:
         batch: int = 32,
         pack: Switch = "on",
         verify: int = 0,
+        rescan: Switch = "off",
+        bad: str = "drop",
     ) -> None:
         given = dict(
             code=code,
@@ -277,6 +280,8 @@ class Link:
             batch=batch,
             pack=pack,
             verify=verify,
+            rescan=rescan,
+            bad=bad,
         )
         self._config = library.configuration({name: value for name, value in given.items() if value is not None})
         #: the options that were given, or have a default, by name; None where the library chooses it
@@ -287,8 +292,9 @@ class Link:
     @classmethod
     def recording(cls, **options: Any) -> "Link":
         """A link with the settings for a recording, which begins anywhere, has noise before it and may slip or be
-        inverted: tolerance 2, fly 1, start any, phase follow, polarity find. What is given besides comes first."""
-        return cls(**{**RECORDING, **options})
+        inverted: tolerance 3, fly 1, start any, phase follow, polarity find, rescan on, and at rate 1/2 keep 128 and
+        ahead 64. What is given besides comes first."""
+        return cls(**{**recording(options.get("inner", DEFAULTS["inner"])), **options})
 
     def __repr__(self) -> str:
         return (
@@ -356,4 +362,4 @@ class Link:
 
 
 DEFAULTS = dict(Link.__init__.__kwdefaults__)  # type: ignore[arg-type]
-RECORDING = dict(tolerance=2, fly=1, start="any", phase="follow", polarity="find")
+recording = library.recording

@@ -7,7 +7,8 @@ import random
 import struct
 from typing import Any, Callable, Iterator, NamedTuple, Optional, Union
 
-from .link import RECORDING, Item, Link, buffers
+from . import library
+from .link import Item, Link, buffers
 from .outside import BITS, HARD, Differential
 from .reception import Reception
 from .recordings import FORMS, Symbols
@@ -29,6 +30,8 @@ NOISY = 0.005
 TYPED = {"b": "i8", "h": "i16", "f": "f32", "d": "f64"}
 # What may be known of a link.
 LINK = ("code", "depth", "length", "inner", "invert", "randomize", "basis")
+# The receiver with which a part is looked at.
+LOOKING = dict(tolerance=2, fly=1, start="any", phase="follow", polarity="find")
 # Steps of the decoder's window, by default.
 WINDOW = 8192 + 256
 # Symbols of a period of each rate's puncture pattern.
@@ -78,7 +81,7 @@ class Found(NamedTuple):
         if self.link is None:
             return []
         words = ["--input", self.form] + ["--swap"] * self.swap + ["--nrz-m"] * self.nrz_m
-        options = {name: value for name, value in self.link.options.items() if name not in RECORDING and name != "pack"}
+        options = {name: value for name, value in self.link.options.items() if name not in library.RECORDED and name != "pack"}
         # (an option of the link has tmchan-receive look for nothing)
         return words + (Link(**options).words() or ["--code", "rs16"])
 
@@ -407,7 +410,7 @@ def _way(
     if number < FEW:
         rank = int(way.inner != "none")
         return _Reason(rank, f"there is a code ({way}), and no sync markers stand at even distances")
-    receiving = {**RECORDING, "inner": way.inner}
+    receiving = {**LOOKING, "inner": way.inner}
     if way.inner == "none":
         receiving.update(start="zero", phase="given", pack="off")
     else:

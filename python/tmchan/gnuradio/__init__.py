@@ -12,7 +12,7 @@ import numpy
 import pmt
 from gnuradio import gr
 
-from ..link import RECORDING, Link
+from ..link import Link
 from ..reception import Reception
 
 TYPES = {"float": numpy.float32, "i8": numpy.int8, "u8": numpy.uint8}
@@ -71,8 +71,8 @@ class receiver(gr.basic_block):
 
     def __init__(self, input="float", scale=64.0, every=0, swap=False, nrz_m=False, **options):
         gr.basic_block.__init__(self, "tmchan receiver", [TYPES[input]], [numpy.float32] * (2 if every else 0))
-        options = {**RECORDING, "batch": 1, "pack": "off", **_options(options)}
-        self.link = Link(soft="u8", **options)
+        options = {"batch": 1, "pack": "off", **_options(options)}
+        self.link = Link.recording(soft="u8", **options)
         if _is_packed(self.link) and (input != "u8" or swap or nrz_m):
             raise ValueError("pack: octets of eight bits are of the input u8, without swap and nrz_m")
         if every < 0:
@@ -112,7 +112,7 @@ class receiver(gr.basic_block):
     def _publish(self, items):
         for it in items:
             self._rate, self._until = self._rate_of(it), self._taken + self._next
-            if it.frame is None:
+            if it.frame is None or not it.good:
                 continue
             fields = {
                 "place": pmt.from_uint64(it.place),
