@@ -7,6 +7,7 @@
 #   make uninstall PREFIX=/usr/local   removes what these put there; so `uninstall-program` and `uninstall-lib`
 #   make dist                      what is published, in dist/ (tools/dist)
 #   make wheel                     the Python package with the library in it, in dist/ (tools/wheel)
+#   make web                       the page, its modules for WebAssembly, and the program for Node, in out/web/ (docs/WEB.md)
 #
 # Each takes TARGET, x86_64-unknown-linux-gnu (the default) or aarch64-unknown-linux-gnu, and CPU, one of `rattle build --help`. For x86-64
 # with no CPU all runs on x86-64-v2, and the decoding of the inner code is there for x86-64-v3 too, which is chosen where it pays. What is
@@ -47,7 +48,7 @@ BASH_COMPLETIONS = share/bash-completion/completions
 ZSH_COMPLETIONS = share/zsh/site-functions
 FISH_COMPLETIONS = share/fish/vendor_completions.d
 
-.PHONY: lib program rows install install-program install-lib uninstall uninstall-program uninstall-lib dist wheel version
+.PHONY: lib program rows install install-program install-lib uninstall uninstall-program uninstall-lib dist wheel web version
 .DELETE_ON_ERROR:
 .SECONDARY:
 .NOTPARALLEL:
@@ -184,3 +185,44 @@ uninstall-lib:
 # It needs Debian's python3-setuptools and python3-wheel.
 wheel: lib
 	tools/wheel $(OUT)/libtmchan.so
+
+# For WebAssembly: the library with vectors and 64-bit memory, without either, and the program. The compiler is the kit's, and so is its
+# linker; the memory's addresses are cut to 32 bits by Debian's binaryen.
+WEB = out/web
+WEB_OBJECTS = out/objects/web
+WEB_FILES = $(wildcard web/*.mjs web/*.ts web/*.html web/*.css web/*.svg)
+WASM_CLANG = $(dir $(shell rt doc))toolchain/bin/clang
+WASM_CC = $(WASM_CLANG) --target=wasm64-unknown-unknown --no-default-config -O2 -ffreestanding -fno-builtin -mbulk-memory \
+    -mmutable-globals -Wall -Wextra
+WASM_LD = $(WEB_OBJECTS)/wasm-ld -m wasm64 --no-entry --stack-first --strip-debug
+WASM_CALLS = -z stack-size=1048576 --max-memory=4294967296 $(addprefix --export=,$(CALLS) tmchan_alloc tmchan_free)
+LOWER = wasm-opt -O2 --enable-memory64 --enable-bulk-memory --enable-sign-ext --enable-mutable-globals --enable-nontrapping-float-to-int
+
+web: $(addprefix $(WEB)/,tmchan.wasm tmchan32.wasm program.wasm layout.mjs) $(addprefix $(WEB)/,$(notdir $(WEB_FILES)))
+
+$(WEB) $(WEB_OBJECTS):
+	mkdir -p $@
+
+$(WEB_OBJECTS)/library-%.o: out/tmchan_c.below web/compile | $(WEB_OBJECTS)
+	web/compile tmchan_c $* $@
+$(WEB_OBJECTS)/program-%.o: out/tmchan.below web/compile | $(WEB_OBJECTS)
+	web/compile tmchan $* $@
+$(WEB_OBJECTS)/%.o: web/%.c | $(WEB_OBJECTS)
+	$(WASM_CC) -c -o $@ $<
+$(WEB_OBJECTS)/wasm-ld: | $(WEB_OBJECTS)
+	ln -sfn $(WASM_CLANG) $@
+
+$(WEB_OBJECTS)/library-%.wasm: $(WEB_OBJECTS)/library-%.o $(WEB_OBJECTS)/heap.o $(WEB_OBJECTS)/wasm-ld
+	$(WASM_LD) $(WASM_CALLS) -o $@ $(filter %.o,$^)
+$(WEB)/tmchan.wasm: $(WEB_OBJECTS)/library-vectors.wasm | $(WEB)
+	install -m 644 $< $@
+$(WEB)/tmchan32.wasm: $(WEB_OBJECTS)/library-plain.wasm | $(WEB)
+	$(LOWER) --memory64-lowering $< -o $@
+$(WEB)/program.wasm: $(WEB_OBJECTS)/program-vectors.o $(addprefix $(WEB_OBJECTS)/,host.o heap.o wasm-ld) web/table32 | $(WEB)
+	$(WASM_LD) -z stack-size=4194304 --export=main -o $(WEB_OBJECTS)/program.wasm $(filter %.o,$^)
+	web/table32 $(WEB_OBJECTS)/program.wasm $@
+
+$(WEB)/layout.mjs: include/tmchan.h web/layout | $(WEB)
+	web/layout <$< >$@
+$(WEB)/%: web/% | $(WEB)
+	cp $< $@
