@@ -1,0 +1,166 @@
+// What the page asks of the library, away from it, so that the page never hangs. A message has a number, and so has its answer.
+import { example, learn, optionsOf, windowOf } from "./learn.mjs";
+import { Pass, sentences } from "./pass.mjs";
+import { runOn } from "./program.mjs";
+import { Symbols } from "./recordings.mjs";
+import { hasMemory64, line, load, octetsOf } from "./tmchan.mjs";
+
+const SLICE = 1 << 20; // octets of a file that are read at once
+const FEW = 1 << 16; // symbols that the receiver takes at once: the place of a slip is known to as many
+const LINES = 4096; // of a report that are made at once
+const PAUSE = 200; // milliseconds between two reports of progress, since to show one takes longer than to decode a megabyte
+const MOST_WITHOUT = 10_000_000; // octets of a file that is taken without 64-bit memory, where the decoder is slow
+
+const asked = new URL(self.location.href).searchParams;
+const isWide = hasMemory64() && asked.get("module") !== "32";
+const beside = (name) => new URL(name, import.meta.url);
+let library, loading, program, pass, stopped;
+
+function loaded() {
+    loading ??= octetsOf(beside(isWide ? "tmchan.wasm" : "tmchan32.wasm")).then(load).then((it) => (library = it));
+    return loading;
+}
+
+const tasks = {
+    async load() {
+        const { version } = await loaded();
+        return { version, isWide };
+    },
+
+    async learn(given) {
+        return learn(await loaded(), given);
+    },
+
+    /** A window of the certificate that the program writes of these symbols. */
+    async metrics({ soft, link, window }) {
+        if (!isWide) throw new Error("The program's module needs memory of 64-bit addresses, which this browser lacks");
+        program ??= await WebAssembly.compile(await octetsOf(beside("program.wasm")));
+        const { words } = (await loaded()).recording(optionsOf(link));
+        const { status, output, notes } = await runOn(program, ["certify", ...words], soft);
+        if (status) throw new Error(`certify ended with ${status}: ${notes}`);
+        return windowOf(output, link, window);
+    },
+
+    /** A recording to try the page with. */
+    async example({ options }) {
+        return example(await loaded(), options);
+    },
+
+    /** The words of options, or why they are refused. */
+    async words({ options }) {
+        try {
+            return { words: (await loaded()).link(options).words };
+        } catch (error) {
+            if (error.name !== "Refused") throw error;
+            return { refused: error.message };
+        }
+    },
+
+    /** Receives a file. Progress is posted; frames go to the output, or to parts of a megabyte. */
+    async receive({ file, start, length, form, swap, options, output }, say) {
+        stopped = false;
+        const { size } = file, end = Math.min(size, start + (length ?? Infinity));
+        if (!isWide && end - start > MOST_WITHOUT)
+            throw new Error(`Without memory of 64-bit addresses this page takes files up to ${MOST_WITHOUT / 1e6} MB`);
+        const link = (await loaded()).link(options), receiver = link.receiver(), symbols = new Symbols(form, swap);
+        const frames = await outputOf(output), began = performance.now();
+        let at = start, bits = 0, slips = 0, next = 0;
+        const { words, blockLength, frameLength } = link;
+        pass = new Pass({ name: file.name, words, options: link.options, blockLength, frameLength });
+        const take = async (received) => {
+            pass.push(received);
+            await frames.write(received.frames);
+        };
+        const give = async (given) => {
+            for (let from = 0; from < given.length; from += FEW) {
+                const piece = given.subarray(from, from + FEW), received = receiver.push(piece);
+                bits += piece.length * rateOf(link.options);
+                await take(received);
+                for (; slips < receiver.slips; slips++) if (pass.slips.length < 1000) pass.slips.push(bits);
+            }
+        };
+        const told = () => {
+            const seconds = (performance.now() - began) / 1000;
+            return { done: at - start, all: end - start, good: pass.good, bad: pass.bad, seconds };
+        };
+        try {
+            while (at < end && !stopped) {
+                const piece = new Uint8Array(await file.slice(at, Math.min(end, at + SLICE)).arrayBuffer());
+                at += piece.length;
+                await give(symbols.push(piece));
+                if (performance.now() < next) continue;
+                next = performance.now() + PAUSE;
+                say(told());
+            }
+            await give(symbols.finish());
+            await take(receiver.finish());
+            pass.totals = receiver.totals;
+            pass.phase = receiver.phase;
+        } finally {
+            receiver.close();
+            await frames.close();
+        }
+        const shown = { summary: pass.summary(), said: sentences(pass), count: pass.length, columns: pass.columns };
+        return { ...told(), ...shown, stopped: stopped && at < end, parts: frames.parts, pages: library.pages };
+    },
+
+    stop() {
+        stopped = true;
+    },
+
+    rows({ from, count }) {
+        const to = Math.min(pass.length, from + count);
+        return Array.from({ length: Math.max(0, to - from) }, (_, k) => pass.item(from + k));
+    },
+
+    /** The report as the program writes it, or lines of JSON as tmchan-receive does: parts of a file. */
+    report({ isJson }) {
+        const parts = [], text = (index) => (isJson ? pass.json(index) : line(pass.item(index), index));
+        for (let from = 0; from < pass.length; from += LINES) {
+            const count = Math.min(LINES, pass.length - from);
+            parts.push(new Blob([Array.from({ length: count }, (_, k) => `${text(from + k)}\n`).join("")]));
+        }
+        return isJson ? [...parts, `${pass.lastJson}\n`] : [pass.firstLines, ...parts, pass.lastLines];
+    },
+};
+
+function rateOf({ inner }) {
+    if (inner === "none") return 1;
+    const [bits, symbols] = inner.split("/");
+    return bits / symbols;
+}
+
+/** Where frames go: to a file as they come, or to parts of a megabyte, which the browser may keep on its disk. */
+async function outputOf(handle) {
+    if (handle) {
+        const file = await handle.createWritable();
+        return { parts: null, write: (octets) => octets.length && file.write(octets), close: () => file.close() };
+    }
+    const parts = [];
+    let waiting = [], size = 0;
+    const flush = () => {
+        if (size) parts.push(new Blob(waiting));
+        waiting = [];
+        size = 0;
+    };
+    return {
+        parts,
+        write(octets) {
+            if (!octets.length) return;
+            waiting.push(octets);
+            size += octets.length;
+            if (size >= SLICE) flush();
+        },
+        close: flush,
+    };
+}
+
+self.addEventListener("message", async ({ data: { number, task, given } }) => {
+    try {
+        const made = await tasks[task](given, (said) => self.postMessage({ number, progress: said }));
+        self.postMessage({ number, made });
+    } catch (error) {
+        const trapped = library?.hasTrapped || error instanceof WebAssembly.RuntimeError;
+        self.postMessage({ number, error: { name: error.name, message: error.message, trapped } });
+    }
+});
