@@ -93,7 +93,9 @@ pub extern "C" fn tmchan_receiver_push(
         return Refusal::Closed.long_answer();
     };
     let answer = match &mut *stream {
-        Stream::Receiver(receiver) => number_answer(receiver.feed(octets, frames, reports, written)),
+        Stream::Receiver(receiver) => number_answer(receiver.feed(
+            octets, frames, reports, written,
+        )),
         _ => Refusal::Closed.long_answer(),
     };
     put(handle, stream, answer)

@@ -76,7 +76,11 @@ pub extern "C" fn tmchan_sender_push(
 /// Answers how many octets follow the last whole frame, and closes the sender; or why it is refused. It writes nothing,
 /// as `written` says.
 #[unsafe(no_mangle)]
-pub extern "C" fn tmchan_sender_finish(alloc: Global, handle: &mut Handle, written: &mut Written) -> i64
+pub extern "C" fn tmchan_sender_finish(
+    alloc: Global,
+    handle: &mut Handle,
+    written: &mut Written,
+) -> i64
     ensures refused { Refuses (closed_refusal (sender_in handle.old.kept.value)) result
         (handle.new.kept.value ≡ handle.old.kept.value) }
     ensures finished { (c : Configuration) (given : List ℕ) → IsSender handle.old.kept.value c given

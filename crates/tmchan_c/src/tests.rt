@@ -13,8 +13,8 @@ use crate::reed_solomon::{tmchan_rs_decode, tmchan_rs_decode_erased, tmchan_rs_e
 use crate::sender::{
     tmchan_sender_finish, tmchan_sender_open, tmchan_sender_push, tmchan_sender_room,
 };
-use crate::totals::TotalsState;
 use crate::text::tmchan_text;
+use crate::totals::TotalsState;
 use crate::unit::{tmchan_cadu, tmchan_cadu_length};
 use crate::version::tmchan_version;
 use crate::written::NOTHING;

@@ -11,5 +11,5 @@ returns-clause-text c = λ room.
     search rules in (
       count ∙ ap (λ (t : List ℕ). pos (length t)) is,
       ended c.args.text.now _ (text_of c.args.answer) _
-      (c.copy_from_slice.ensures.after ∙ c.as_bytes.ensures.value ∙ is) (ap length is) room,
+          (c.copy_from_slice.ensures.after ∙ c.as_bytes.ensures.value ∙ is) (ap length is) room,
     )
