@@ -45,7 +45,7 @@ refusal_texts =
     ∷ codes "not from 0 to 4096 steps follow those that are kept"
     ∷ codes "the phase is none of given, find and follow"
     ∷ codes "the polarity is neither given nor find"
-    ∷ codes "so many codeblocks are not handed over at once"
+    ∷ codes "not from 1 to 4096 codeblocks are handed over at once"
     ∷ codes "pack is neither on nor off"
     ∷ codes "not from 0 to 7 further markers are to match"
     ∷ codes "rescan is neither on nor off"

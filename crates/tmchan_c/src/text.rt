@@ -42,7 +42,7 @@ static TEXTS: [&str; 38] = [
     "not from 0 to 4096 steps follow those that are kept",
     "the phase is none of given, find and follow",
     "the polarity is neither given nor find",
-    "so many codeblocks are not handed over at once",
+    "not from 1 to 4096 codeblocks are handed over at once",
     "pack is neither on nor off",
     "not from 0 to 7 further markers are to match",
     "rescan is neither on nor off",
