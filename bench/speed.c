@@ -17,6 +17,7 @@ static uint8_t symbols[2 * UNIT + 1], soft[UNIT], bits[MOST], frames[ITEMS * FRA
 static tmchan_report reports[ITEMS];
 static tmchan_stream sender, decoder, receiver, plain;
 static tmchan_search search;
+static tmchan_written written;
 static int bad; /* answers that were not the wanted ones */
 
 static double seconds(void) {
@@ -53,15 +54,15 @@ static void open_streams(void) {
     config.depth = 5;
     bad += tmchan_sender_open(&sender, &config) + tmchan_decoder_open(&decoder, &config) + tmchan_receiver_open(&receiver, &config) != 0;
     bad += tmchan_search_open(&search, 0, 0, 0, 8 * 1275, 0) != 0;
-    bad += tmchan_sender_push(&sender, block, FRAMES, symbols, sizeof symbols) != UNIT;
+    bad += tmchan_sender_push(&sender, block, FRAMES, symbols, sizeof symbols, &written) != UNIT;
     memcpy(soft, symbols, UNIT);
     config.inner = 0;
     bad += tmchan_receiver_open(&plain, &config) != 0;
 }
-static void send_frame(void) { bad += tmchan_sender_push(&sender, block, FRAMES, symbols, sizeof symbols) != UNIT; }
-static void decode_soft(void) { bad += tmchan_decoder_push(&decoder, soft, UNIT, bits, sizeof bits) < 0; }
-static void receive(void) { bad += tmchan_receiver_push(&receiver, soft, UNIT, frames, sizeof frames, reports, ITEMS) < 0; }
-static void receive_octets(void) { bad += tmchan_receiver_push(&plain, unit, 1279, frames, sizeof frames, reports, ITEMS) < 0; }
+static void send_frame(void) { bad += tmchan_sender_push(&sender, block, FRAMES, symbols, sizeof symbols, &written) != UNIT; }
+static void decode_soft(void) { bad += tmchan_decoder_push(&decoder, soft, UNIT, bits, sizeof bits, &written) < 0; }
+static void receive(void) { bad += tmchan_receiver_push(&receiver, soft, UNIT, frames, sizeof frames, reports, ITEMS, &written) < 0; }
+static void receive_octets(void) { bad += tmchan_receiver_push(&plain, unit, 1279, frames, sizeof frames, reports, ITEMS, &written) < 0; }
 static void find(void) {
     tmchan_place place;
     uint64_t at = 0;
