@@ -145,7 +145,8 @@ async function show(output) {
     const lines = [...said];
     if (result.stopped) lines.unshift(`Stopped after ${megabytes(done)} of ${megabytes(all)} MB.`);
     const megabits = (8 * summary.good * summary.frameLength) / 1e6;
-    if (megabits && seconds > 0) lines.push(`${(megabits / seconds).toFixed(1)} Mbit/s of frames.`);
+    // (of a short recording it would be that of the beginning)
+    if (seconds > 5) lines.push(`${(megabits / seconds).toFixed(1)} Mbit/s of frames.`);
     find("use-said").replaceChildren(...lines.map((it) => Object.assign(document.createElement("p"), { textContent: it })));
     const report = (isJson) => () => asked.ask("report", { isJson });
     const page = async () => [pageOf(summary, lines, await (await fetch(new URL("page.css", import.meta.url))).text())];
