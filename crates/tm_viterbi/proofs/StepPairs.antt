@@ -1,5 +1,5 @@
 -- Two steps' branch metrics are taken in the same way at each period of the puncture pattern.
-use Rattle.std.proofs.Common.{◌≡◌, ℕ, ◌+◌, ◌%◌, ◌∙◌, ap, arith, get_or, eqb, cond, Bool, List}
+use Rattle.std.proofs.Common.{◌≡◌, ℕ, ◌+◌, ◌%◌, ◌∙◌, ap, arith, get_or, eqb, cond, Bool, List, ◌<◌}
 use Rattle.tm_conv.specs.declared.rates.Rate.{Rate}
 use Rattle.tm_conv.specs.declared.rates.Rate.TheVariants.{R12, R23, R34, R56, R78}
 use Rattle.tm_conv.specs.Path.{c1_pattern, c2_pattern, keeps_c1, keeps_c2, period}
@@ -35,6 +35,13 @@ same_position R23 t = let goal : t % 2 % 2 ≡ t % 2 = omega arith in goal
 same_position R34 t = let goal : t % 3 % 3 ≡ t % 3 = omega arith in goal
 same_position R56 t = let goal : t % 5 % 5 ≡ t % 5 = omega arith in goal
 same_position R78 t = let goal : t % 7 % 7 ≡ t % 7 = omega arith in goal
+
+pub position_small : (rate : Rate) (t : ℕ) → (t % period rate < period rate) × (t % period rate < 7)
+position_small R12 t = let goal : (t % 1 < 1) × (t % 1 < 7) = (omega arith, omega arith) in goal
+position_small R23 t = let goal : (t % 2 < 2) × (t % 2 < 7) = (omega arith, omega arith) in goal
+position_small R34 t = let goal : (t % 3 < 3) × (t % 3 < 7) = (omega arith, omega arith) in goal
+position_small R56 t = let goal : (t % 5 < 5) × (t % 5 < 7) = (omega arith, omega arith) in goal
+position_small R78 t = let goal : (t % 7 < 7) × (t % 7 < 7) = (omega arith, omega arith) in goal
 
 abbrev places_by : Bool → Bool → Bool → List ℕ
 places_by a b c =

@@ -1,6 +1,6 @@
 // Steps of the forward pass in sixteen bits.
-ghost use Rattle.std.specs.Prelude.{◌≡◌, ◌++◌, ℕ, ◌+◌, ◌-◌, ◌*◌, ◌^◌, ◌<◌, ◌≤◌, [], ◌∷◌, take, length};
-ghost use Rattle.tm_conv.specs.Path.{step_size, steps_size};
+ghost use Rattle.std.specs.Prelude.{◌≡◌, ◌++◌, ℕ, ◌+◌, ◌-◌, ◌*◌, ◌%◌, ◌^◌, ◌<◌, ◌≤◌, [], ◌∷◌, take, length};
+ghost use Rattle.tm_conv.specs.Path.{most_period, period, step_size, steps_size};
 ghost use Rattle.tm_conv.specs.Cost.{most_branch_metric};
 ghost use Rattle.tm_viterbi.specs.AddCompareSelect.{AreSortedPlaces};
 ghost use Rattle.tm_viterbi.specs.Totals.{StepsTo, AreAtMost, most_spread, most_narrow, narrow_bound};
@@ -120,6 +120,7 @@ fn four_steps(
     invert: bool,
     t: u64,
     pairs: &[StepPair; 9],
+    position: usize,
     octets: &[u8],
     low: Simd<u16, 32>,
     high: Simd<u16, 32>,
@@ -127,6 +128,8 @@ fn four_steps(
     survivors: &mut [u64],
 ) -> (Simd<u16, 32>, Simd<u16, 32>, usize)
     requires pairs { AreStepPairs rate invert pairs.now }
+    requires position { position ≡ t % period rate }
+    requires small { position < most_period }
     requires size { length octets.now ≡ 8 }
     requires survivors { length survivors.old ≡ 4 }
     requires first { t + 4 < narrow_bound }
@@ -139,7 +142,6 @@ fn four_steps(
         → AreAtMost (m + 4 * most_branch_metric) (result.0 ++ result.1) }
     ensures long { (length result.0 ≡ 32) × (length result.1 ≡ 32) }
 {
-    let position = (t % u64::from(period(rate))) as usize;
     let before = &pairs[position];
     let after = &pairs[position + 2];
     let (low_between, high_between, first, second) = two_steps(
@@ -169,6 +171,18 @@ fn four_steps(
     (next_low, next_high, before.size + after.size)
 }
 
+// The position in the puncture pattern four steps later.
+#[inline(always)]
+fn next_position(rate: Rate, position: usize) -> usize
+    requires { position < period rate }
+    ensures next { result ≡ (position + 4) % period rate }
+    ensures small { result < most_period }
+{
+    let steps = usize::from(period(rate));
+    let next = position + 4 % steps;
+    if next < steps { next } else { next - steps }
+}
+
 // `narrow_run` four steps at a time, as long as there are octets for the most that these send: so the path metrics need
 // not be moved between registers after each step.
 #[inline(always)]
@@ -194,6 +208,7 @@ fn narrow_fours(
 {
     let pairs = step_pairs(rate, invert);
     let places = sorted_places((t >> 63) as u16);
+    let mut position = (t % u64::from(period(rate))) as usize;
     let mut low = first_low;
     let mut high = first_high;
     let mut i = 0usize;
@@ -204,6 +219,7 @@ fn narrow_fours(
             invert,
             t + i as u64,
             &pairs,
+            position,
             &soft[at..at + 8],
             low,
             high,
@@ -212,6 +228,7 @@ fn narrow_fours(
         );
         low = next_low;
         high = next_high;
+        position = next_position(rate, position);
         at += taken;
         i += 4;
     }

@@ -2,7 +2,6 @@ use Rattle.std.proofs.Common.{◌≡◌, ◌+◌, ◌-◌, ◌^◌, ◌%◌, ◌
 use Rattle.std.proofs.Math.Seq.{take-add}
 use Rattle.std.proofs.lemmas.List.{take-take}
 use Rattle.tm_conv.specs.declared.rates.Rate.{Rate}
-use Rattle.tm_conv.specs.declared.rates.Rate.TheVariants.{R12, R23, R34, R56, R78}
 use Rattle.tm_conv.specs.Path.{period, step_size, steps_size}
 use Rattle.tm_conv.proofs.Paths.{steps_size-more}
 use Rattle.tm_conv.proofs.Sizes.{step_size-is}
@@ -10,40 +9,30 @@ use Rattle.tm_viterbi.specs.Carries.{Carries, lifted}
 use Rattle.tm_viterbi.specs.StepPairs.{IsStepPair, AreStepPairs}
 use Rattle.tm_viterbi.specs.declared.step_pairs.StepPair.{StepPair}
 use Rattle.tm_viterbi.proofs.Carrying.{Carries-append, four_set, one_step}
-use Rattle.tm_viterbi.proofs.StepPairs.{IsStepPair-at, same_later, same_position}
+use Rattle.tm_viterbi.proofs.StepPairs.{IsStepPair-at, same_later, same_position, position_small}
 use Rattle.tm_viterbi.proofs.narrow_steps.four_steps.Goals as goal
 
-position_small : (rate : Rate) (t : ℕ) → t % period rate < 7
-position_small R12 t = let goal : t % 1 < 7 = omega arith in goal
-position_small R23 t = let goal : t % 2 < 7 = omega arith in goal
-position_small R34 t = let goal : t % 3 < 7 = omega arith in goal
-position_small R56 t = let goal : t % 5 < 7 = omega arith in goal
-position_small R78 t = let goal : t % 7 < 7 = omega arith in goal
-
 -- the pairs at the steps' position in the pattern are theirs
-at_position : (rate : Rate) (invert : Bool) (t n : ℕ) (pairs : List StepPair) (d : StepPair) → n ≡ period rate
+at_position : (rate : Rate) (invert : Bool) (t q : ℕ) (pairs : List StepPair) (d : StepPair) → q ≡ t % period rate
     → AreStepPairs rate invert pairs
-    → IsStepPair rate invert t (get_or pairs (t % n) d) × IsStepPair rate invert (t + 2) (get_or pairs (t % n + 2) d)
-at_position rate invert t n pairs d e h =
-    let position = t % period rate in
-    subst (λ (v : ℕ). IsStepPair rate invert t (get_or pairs (t % v) d)
-    × IsStepPair rate invert (t + 2) (get_or pairs (t % v + 2) d)) (sym e) (
-      IsStepPair-at rate invert position t (get_or pairs position d) (same_position rate t)
-          (h position d (omega (arith, position_small rate t))),
-      IsStepPair-at rate invert (position + 2) (t + 2) (get_or pairs (position + 2) d)
-          (same_later rate position t 2 (same_position rate t))
-          (h (position + 2) d (omega (arith, position_small rate t))),
+    → IsStepPair rate invert t (get_or pairs q d) × IsStepPair rate invert (t + 2) (get_or pairs (q + 2) d)
+at_position rate invert t q pairs d e h =
+    let same = ap (λ (v : ℕ). v % period rate) e ∙ same_position rate t in
+    let small : q < 7 = omega (arith, e, (position_small rate t).1) in (
+      IsStepPair-at rate invert q t (get_or pairs q d) same (h q d (omega arith)),
+      IsStepPair-at rate invert (q + 2) (t + 2) (get_or pairs (q + 2) d) (same_later rate q t 2 same)
+          (h (q + 2) d (omega arith)),
     )
 
 pub two_steps-first-requires-clause-pair : goal.two_steps-first-requires-clause-pair
 two_steps-first-requires-clause-pair c =
-    (at_position c.args.rate c.args.invert c.args.t c.from.result c.args.pairs.now _
-    (c.from.ensures ∙ c.period.ensures.period) c.requires.pairs).0
+    (at_position c.args.rate c.args.invert c.args.t c.args.position c.args.pairs.now _
+    c.requires.position c.requires.pairs).0
 
 pub two_steps-third-requires-clause-pair : goal.two_steps-third-requires-clause-pair
 two_steps-third-requires-clause-pair c =
-    (at_position c.args.rate c.args.invert c.args.t c.from.result c.args.pairs.now _
-    (c.from.ensures ∙ c.period.ensures.period) c.requires.pairs).1
+    (at_position c.args.rate c.args.invert c.args.t c.args.position c.args.pairs.now _
+    c.requires.position c.requires.pairs).1
 
 pub two_steps-third-requires-clause-room : goal.two_steps-third-requires-clause-room
 two_steps-third-requires-clause-room c s lt =
@@ -59,10 +48,10 @@ overflow_add-result c =
     let t = c.args.t in
     let d : StepPair = record { places = []; masks = []; sent = []; size = 0 } in
     let pairs = c.args.pairs.now in
-    let both = at_position rate c.args.invert t c.from.result pairs d
-    (c.from.ensures ∙ c.period.ensures.period) c.requires.pairs in
-    let one : (get_or pairs (t % c.from.result) d).size ≤ 4 = omega (arith, both.0.size, few rate t) in
-    let other : (get_or pairs (t % c.from.result + 2) d).size ≤ 4 = omega (arith, both.1.size, few rate (t + 2)) in
+    let both = at_position rate c.args.invert t c.args.position pairs d
+    c.requires.position c.requires.pairs in
+    let one : (get_or pairs c.args.position d).size ≤ 4 = omega (arith, both.0.size, few rate t) in
+    let other : (get_or pairs (c.args.position + 2) d).size ≤ 4 = omega (arith, both.1.size, few rate (t + 2)) in
     search rules
 
 pub returns-clause-taken : goal.returns-clause-taken
@@ -70,8 +59,8 @@ returns-clause-taken c =
     let rate = c.args.rate in
     let t = c.args.t in
     let d : StepPair = record { places = []; masks = []; sent = []; size = 0 } in
-    let both = at_position rate c.args.invert t c.from.result c.args.pairs.now d
-    (c.from.ensures ∙ c.period.ensures.period) c.requires.pairs in
+    let both = at_position rate c.args.invert t c.args.position c.args.pairs.now d
+    c.requires.position c.requires.pairs in
     let two : steps_size rate t 2 ≡ steps_size rate t 1 + step_size rate (t + 1) = steps_size-more rate t 1 in
     let three : steps_size rate t 3 ≡ steps_size rate t 2 + step_size rate (t + 2) = steps_size-more rate t 2 in
     let four : steps_size rate t 4 ≡ steps_size rate t 3 + step_size rate (t + 3) = steps_size-more rate t 3 in
@@ -96,10 +85,10 @@ returns-clause-carries c base =
     let t = c.args.t in
     let octets = c.args.octets.now in
     let d : StepPair = record { places = []; masks = []; sent = []; size = 0 } in
-    let both = at_position rate invert t c.from.result c.args.pairs.now d
-    (c.from.ensures ∙ c.period.ensures.period) c.requires.pairs in
-    let n = (get_or c.args.pairs.now (t % c.from.result) d).size in
-    let m = (get_or c.args.pairs.now (t % c.from.result + 2) d).size in
+    let both = at_position rate invert t c.args.position c.args.pairs.now d
+    c.requires.position c.requires.pairs in
+    let n = (get_or c.args.pairs.now c.args.position d).size in
+    let m = (get_or c.args.pairs.now (c.args.position + 2) d).size in
     let nl : n ≤ 4 = omega (arith, both.0.size, few rate t) in
     let ml : m ≤ 4 = omega (arith, both.1.size, few rate (t + 2)) in
     let first = lifted base (c.args.low ++ c.args.high) in

@@ -1,18 +1,30 @@
-use Rattle.std.proofs.Common.{refl, sym, ap, subst, ◌≡◌, ◌+◌, ◌*◌, ◌≤◌, ◌-◌, ◌^◌, ◌++◌, ◌∙◌, arith, rules, length, length-drop, take, drop, ℕ, List}
+use Rattle.std.proofs.Common.{refl, sym, ap, subst, ◌≡◌, ◌+◌, ◌*◌, ◌≤◌, ◌-◌, ◌%◌, ◌^◌, ◌++◌, ◌∙◌, arith, rules, length, length-drop, take, drop, ℕ, List}
 use Rattle.std.proofs.lemmas.List.{take_all, take-take, length-take-le}
 use borrow.Rule.Slice.PartMut.{put_mid}
 use Rattle.tm_conv.specs.declared.rates.Rate.{Rate}
-use Rattle.tm_conv.specs.Path.{steps_size}
+use Rattle.tm_conv.specs.Path.{period, steps_size}
 use Rattle.tm_conv.proofs.Paths.{steps_size-zero}
 use Rattle.tm_conv.proofs.Sizes.{steps_size-add, steps_size-most}
 use Rattle.tm_viterbi.specs.Carries.{Carries, lifted}
 use Rattle.tm_viterbi.proofs.Carrying.{Carries-none, blocks_on, length-mid}
+use Rattle.tm_viterbi.proofs.StepPairs.{same_later, same_position, position_small}
 use Rattle.tm_viterbi.proofs.narrow_steps.narrow_fours.Goals as goal
+
+first_position : (rate : Rate) (t n : ℕ) → n ≡ period rate → t % n ≡ (t + 0) % period rate
+first_position rate t n e =
+    let none : t ≡ t + 0 = omega arith in
+    ap (λ (v : ℕ). t % v) e ∙ ap (λ (v : ℕ). v % period rate) none
 
 pub loop-i-init : goal.loop-i-init
 loop-i-init c = record {
   within = omega arith;
   place = sym (steps_size-zero c.args.rate c.args.t);
+  position = first_position c.args.rate c.args.t _ (c.from.ensures ∙ c.period.ensures.period);
+  small = omega (
+    arith,
+    first_position c.args.rate c.args.t _ (c.from.ensures ∙ c.period.ensures.period),
+    (position_small c.args.rate (c.args.t + 0)).1,
+  );
   bounded = λ m h s lt. omega (arith, h s lt);
   long_low = c.fits-first_low.0;
   long_high = c.fits-first_high.0;
@@ -23,6 +35,10 @@ loop-i-init c = record {
 pub four_steps-taken-requires-clause-room : goal.four_steps-taken-requires-clause-room
 four_steps-taken-requires-clause-room c s lt =
     omega (arith, c.loop-i.invariant.bounded (2 ^ 16 - 1 - 510 * length c.args.survivors.now) c.requires.room s lt)
+
+pub next_position-position-requires : goal.next_position-position-requires
+next_position-position-requires c =
+    omega (arith, c.loop-i.invariant.position, (position_small c.args.rate (c.args.t + c.loop-i.i)).0)
 
 -- the octets of the next four steps, out of eight and out of all that are left
 four_of : (n at : ℕ) (soft : List ℕ) → n ≤ 8 → at + 8 ≤ length soft
@@ -48,7 +64,13 @@ loop-i-preserved c =
     ∙ length-take-le (i + 4 - i) (drop i survivors) (omega (arith, length-drop i survivors)) ∙ omega arith in
     let next_low = c.four_steps-taken.result.0 in
     let next_high = c.four_steps-taken.result.1 in
+    let later : t + i + 4 ≡ t + (i + 4) = omega arith in
+    let same : c.loop-i.position % period rate ≡ (t + i) % period rate =
+    ap (λ (v : ℕ). v % period rate) c.loop-i.invariant.position ∙ same_position rate (t + i) in
     record {
+      position = c.next_position-position.ensures.next ∙ same_later rate c.loop-i.position (t + i) 4 same
+          ∙ ap (λ (v : ℕ). v % period rate) later;
+      small = c.next_position-position.ensures.small;
       within = omega (arith, length-mid i (i + 4 - i) survivors piece (omega arith) (omega arith));
       place = omega (
         arith,

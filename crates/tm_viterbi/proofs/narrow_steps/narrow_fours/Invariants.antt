@@ -1,5 +1,5 @@
-use Rattle.std.proofs.Common.{◌≡◌, ◌≤◌, ◌+◌, ◌*◌, ◌-◌, ◌++◌, ℕ, length, take}
-use Rattle.tm_conv.specs.Path.{steps_size}
+use Rattle.std.proofs.Common.{◌≡◌, ◌<◌, ◌≤◌, ◌%◌, ◌+◌, ◌*◌, ◌-◌, ◌++◌, ℕ, length, take}
+use Rattle.tm_conv.specs.Path.{period, steps_size}
 use Rattle.tm_viterbi.specs.Totals.{AreAtMost}
 use Rattle.tm_viterbi.specs.Carries.{Carries, lifted}
 use Rattle.tm_viterbi.proofs.narrow_steps.narrow_fours.Given as goal
@@ -8,6 +8,8 @@ abbrev pub invariant-loop-i : goal.invariant-loop-i
 invariant-loop-i l = record {
   within : l.i ≤ length l.survivors;
   place : l.at ≡ steps_size l.rate l.t l.i;
+  position : l.position ≡ (l.t + l.i) % period l.rate;
+  small : l.position < 7;
   bounded : (m : ℕ) → AreAtMost m (l.fn.first_low ++ l.fn.first_high) → AreAtMost (m + 510 * l.i) (l.low ++ l.high);
   long_low : length l.low ≡ 32;
   long_high : length l.high ≡ 32;
