@@ -1,9 +1,11 @@
 -- The four branch metrics of a step.
-use Rattle.std.proofs.Common.{◌∙◌, sym, ap, eqb, ◌≡◌, ℕ, ◌+◌, ◌-◌, ◌*◌, ◌<◌, cond, arith, length, List, [], ◌∷◌, ◌++◌, zero, suc, refl, Bool, true, false, get_or, take}
+use Rattle.std.proofs.Common.{◌∙◌, sym, ap, eqb, ◌≡◌, ℕ, ◌+◌, ◌-◌, ◌*◌, ◌<◌, cond, arith, length, List, [], ◌∷◌, ◌++◌, zero, suc, refl, Bool, true, false, get_or, take, ◌%◌}
 use Rattle.std.specs.Prelude.{bit_and, bit_xor}
 use Rattle.std.specs.Int.Bits.{and_zero_r}
 use Rattle.std.proofs.lemmas.Bool.{eqb-true, agree_below, agree_below_at}
-use Rattle.tm_conv.specs.Path.{sent_c2}
+use Rattle.tm_conv.specs.declared.rates.Rate.TheVariants.{R12}
+use Rattle.tm_viterbi.specs.Totals.{AreBranchMetrics}
+use Rattle.tm_conv.specs.Path.{sent_c2, keeps_c1, keeps_c2, c1_pattern, c2_pattern, sent}
 use Rattle.tm_conv.specs.Cost.{distance, cost}
 
 pub cost_of_pair : (k l : Bool) (c d : ℕ) (octets : List ℕ) → length octets ≡ cond k 1 0 + cond l 1 0
@@ -53,6 +55,30 @@ near_second false y lt = xor_none y lt
 far_second : (invert : Bool) (y : ℕ) → y < 256 → bit_xor y (cond invert 0 255) ≡ distance (sent_c2 invert 1) y
 far_second true y lt = xor_none y lt
 far_second false y lt = xor_all y lt
+
+-- both sums are sent at rate 1/2
+half_keeps : (t : ℕ) → (keeps_c1 R12 t ≡ true) × (keeps_c2 R12 t ≡ true)
+half_keeps t =
+    let e : t % 1 ≡ 0 = omega arith in
+    (ap (λ k. eqb (get_or (c1_pattern R12) k 0) 1) e, ap (λ k. eqb (get_or (c2_pattern R12) k 0) 1) e)
+
+half_cost : (invert : Bool) (t c d x y : ℕ)
+    → cost (sent R12 invert t c d) (x ∷ y ∷ []) ≡ distance c x + distance (sent_c2 invert d) y
+half_cost invert t c d x y =
+    ap (λ k. cost (cond k (c ∷ []) [] ++ cond (keeps_c2 R12 t) (sent_c2 invert d ∷ []) []) (x ∷ y ∷ []))
+    (half_keeps t).0
+    ∙ ap (λ k. cost ((c ∷ []) ++ cond k (sent_c2 invert d ∷ []) []) (x ∷ y ∷ [])) (half_keeps t).1
+    ∙ omega arith
+
+pub xored_metrics : (invert : Bool) (t x y : ℕ) → x < 256 → y < 256
+    → AreBranchMetrics R12 invert t (x ∷ y ∷ [])
+    ((bit_xor x 0 + bit_xor y (cond invert 255 0)) ∷ (bit_xor x 0 + bit_xor y
+    (cond invert 0 255)) ∷ (bit_xor x 255 + bit_xor y (cond invert 255 0)) ∷ (bit_xor x 255 + bit_xor y
+    (cond invert 0 255)) ∷ [])
+xored_metrics invert t x y xl yl c d cl dl =
+    at_pair (λ c. distance c x) (λ d. distance (sent_c2 invert d) y) _ _ _ _ (xor_none x xl) (xor_all x xl)
+    (near_second invert y yl) (far_second invert y yl) c d cl dl
+    ∙ sym (half_cost invert t c d x y)
 
 -- ---- a lane of a step's first sum, of which x is the octet, and of its second, of which z is, where they are sent
 

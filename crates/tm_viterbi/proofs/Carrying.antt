@@ -1,12 +1,13 @@
 -- Steps one after the other, and sums less a base.
 use Rattle.std.proofs.Common.{◌≡◌, ℕ, zero, suc, ◌+◌, ◌-◌, ◌*◌, ◌/◌, ◌%◌, ◌<◌, ◌≤◌, ◌∙◌, sym, ap, subst, refl, arith, length, get_or, List, [], ◌∷◌, ◌++◌, min, cond, ltb, Bool, append_assoc, length-append, length-drop, take, drop, set}
-use Rattle.std.proofs.lemmas.List.{reverse-append, append-nil, length-take-le, take_more_set, ext_get_or, take_all}
+use Rattle.std.proofs.lemmas.List.{reverse-append, append-nil, length-take-le, take_more_set, ext_get_or, take_all, take-append-drop}
 use Rattle.std.proofs.lemmas.Slice.{take-put_mid}
 use borrow.Rule.Slice.PartMut.{put_mid, same_len_mid}
 use Rattle.std.proofs.Math.Seq.{take-add}
 use Rattle.std.proofs.lemmas.Bool.Decides.{nat_tests}
 use mathlib.Core.List.{reverse}
 use Rattle.tm_conv.specs.declared.rates.Rate.{Rate}
+use Rattle.tm_conv.specs.declared.rates.Rate.TheVariants.{R12}
 use Rattle.tm_conv.specs.Path.{c1, c2, step_size, steps_size}
 use Rattle.tm_viterbi.specs.Walk.{AreBest}
 use Rattle.tm_viterbi.specs.AddCompareSelect.{IsNextSums, first_metric, second_metric}
@@ -15,7 +16,7 @@ use Rattle.tm_viterbi.proofs.Walk.{AreBest-more}
 use Rattle.tm_viterbi.proofs.Totals.{Grows-total_of}
 use Rattle.tm_conv.proofs.Paths.{steps_size-more, steps_size-zero}
 use Rattle.tm_viterbi.specs.Carries.{Carries, lifted}
-use Rattle.tm_conv.proofs.Sizes.{steps_size-add, steps_size-le}
+use Rattle.tm_conv.proofs.Sizes.{steps_size-add, steps_size-le, step_size-is}
 
 pub Carries-none : (rate : Rate) (invert : Bool) (t : ℕ) (sums : List ℕ) → Carries rate invert t [] sums sums []
 Carries-none rate invert t sums = record {
@@ -260,3 +261,28 @@ Carries-two rate invert t one two octets sums between next fits a b =
     subst (λ (v : List ℕ). Carries rate invert t v sums next (one ∷ two ∷ [])) (sym (take-add n m octets))
     (Carries-more rate invert t two (take n octets) (take m (drop n octets)) sums between next (one ∷ [])
     (Carries-one rate invert t one (take n octets) sums between first a) second b)
+
+-- ---- rate 1/2
+
+pub half_step : (t : ℕ) → step_size R12 t ≡ 2
+half_step t = let e : t % 1 ≡ 0 = omega arith in step_size-is R12 t ∙ ap (λ k. 2 - min 1 k) e
+
+pub half_steps : (t n : ℕ) → steps_size R12 t n ≡ 2 * n
+half_steps t zero = steps_size-zero R12 t
+half_steps t (suc n) =
+    let e : n + 1 ≡ suc n = omega arith in
+    ap (steps_size R12 t) (sym e) ∙ steps_size-more R12 t n ∙ omega (arith, half_steps t n, half_step (t + n))
+
+-- two steps from the octets of both
+pub half_rate_pair : (invert : Bool) (t one two : ℕ) (octets sums between next : List ℕ) → length octets ≡ 4
+    → StepsTo R12 invert t (take 2 octets) sums between one
+    → StepsTo R12 invert (t + 1) (drop 2 octets) between next two
+    → Carries R12 invert t octets sums next (one ∷ two ∷ [])
+half_rate_pair invert t one two octets sums between next long a b =
+    let first : length (take 2 octets) ≡ step_size R12 t =
+    length-take-le 2 octets (omega arith) ∙ sym (half_step t) in
+    let second : length (drop 2 octets) ≡ step_size R12 (t + 1) =
+    length-drop 2 octets ∙ omega arith ∙ sym (half_step (t + 1)) in
+    subst (λ (v : List ℕ). Carries R12 invert t v sums next (one ∷ two ∷ [])) (take-append-drop 2 octets)
+    (Carries-more R12 invert t two (take 2 octets) (drop 2 octets) sums between next (one ∷ [])
+    (Carries-one R12 invert t one (take 2 octets) sums between first a) second b)

@@ -3,7 +3,9 @@ ghost use Rattle.std.specs.Prelude.{◌≡◌, IsTrue, Bool, ℕ, ◌+◌, ◌-�
 ghost use Rattle.tm_conv.specs.Path.{sent_c2, step_size};
 ghost use Rattle.tm_conv.specs.Cost.{distance, greatest_octet, most_branch_metric};
 ghost use Rattle.tm_viterbi.specs.Totals.{AreBranchMetrics};
+ghost use Rattle.tm_viterbi.specs.StepPairs.{two_step_masks};
 
+use crate::step_pairs::FOUR_TIMES;
 use std::simd::prelude::*;
 use tm_conv::{Rate, kept};
 
@@ -66,4 +68,21 @@ pub(crate) fn wide_metrics(metrics: Simd<u16, 4>) -> [u32; 4]
         u32::from(each[2]),
         u32::from(each[3]),
     ]
+}
+
+// The branch metrics of two steps at rate 1/2, where each sends both sums.
+pub(crate) fn two_step_metrics(masks: Simd<u8, 16>, octets: &[u8]) -> (Simd<u16, 4>, Simd<u16, 4>)
+    requires { length octets.now ≡ 4 }
+    ensures first { (invert : Bool) (t : ℕ) → masks ≡ two_step_masks invert
+        → AreBranchMetrics Rate.R12 invert t (take 2 octets.now) result.0 }
+    ensures second { (invert : Bool) (t : ℕ) → masks ≡ two_step_masks invert
+        → AreBranchMetrics Rate.R12 invert t (drop 2 octets.now) result.1 }
+    ensures first_small { (k : ℕ) → k < 4 → slice_index result.0 k ≤ most_branch_metric }
+    ensures second_small { (k : ℕ) → k < 4 → slice_index result.1 k ≤ most_branch_metric }
+{
+    let each = u8x4::from_slice(octets).swizzle(FOUR_TIMES) ^ masks;
+    let firsts = each.extract::<0, 8>().cast::<u16>();
+    let seconds = each.extract::<8, 8>().cast::<u16>();
+    let metrics = firsts.strict_add(seconds);
+    (metrics.extract::<0, 4>(), metrics.extract::<4, 4>())
 }

@@ -20,7 +20,7 @@ pub(crate) struct StepPair {
 }
 
 // An octet is its own distance from a 0, and complemented its distance from a 1; c2 may be sent inverted.
-fn two_step_masks(invert: bool) -> Simd<u8, 16>
+pub(crate) fn two_step_masks(invert: bool) -> Simd<u8, 16>
     ensures { result ≡ two_step_masks invert }
 {
     if invert {
@@ -36,7 +36,7 @@ fn two_step_masks(invert: bool) -> Simd<u8, 16>
 
 // Of four sums in the order in which they are sent: c1 of both steps, and then c2, each once for each of its step's
 // four pairs.
-const FOUR_TIMES: [usize; 16] = [0, 0, 0, 0, 2, 2, 2, 2, 1, 1, 1, 1, 3, 3, 3, 3];
+pub(crate) const FOUR_TIMES: [usize; 16] = [0, 0, 0, 0, 2, 2, 2, 2, 1, 1, 1, 1, 3, 3, 3, 3];
 
 // All bits, or none.
 fn all_bits(is_sent: bool) -> u8

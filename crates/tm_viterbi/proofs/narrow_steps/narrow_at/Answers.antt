@@ -9,10 +9,10 @@ at_rate rate other invert t octets sums next survivors e h =
     subst (λ (v : Rate). Carries v invert t octets sums next survivors) (sym e) h
 
 pub returns-in-R12-clause-carries : goal.returns-in-R12-clause-carries
-returns-in-R12-clause-carries c base = at_rate _ _ _ _ _ _ _ _ c.in-R12.is (c.narrow_fours.ensures.carries base)
+returns-in-R12-clause-carries c base = at_rate _ _ _ _ _ _ _ _ c.in-R12.is (c.narrow_half_rate.ensures.carries base)
 
 pub returns-in-R23-clause-carries : goal.returns-in-R23-clause-carries
-returns-in-R23-clause-carries c base = at_rate _ _ _ _ _ _ _ _ c.in-R23.is (c.narrow_fours-in-R23.ensures.carries base)
+returns-in-R23-clause-carries c base = at_rate _ _ _ _ _ _ _ _ c.in-R23.is (c.narrow_fours.ensures.carries base)
 
 pub returns-in-R34-clause-carries : goal.returns-in-R34-clause-carries
 returns-in-R34-clause-carries c base = at_rate _ _ _ _ _ _ _ _ c.in-R34.is (c.narrow_fours-in-R34.ensures.carries base)
