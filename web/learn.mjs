@@ -8,8 +8,8 @@ const EXAMPLE_HEAD = 20_001; // symbols before the first
 
 /** The options of the link. The receiver's are those for a recording, with short windows, since what is sent here is short. */
 export function optionsOf({ code, depth, length, inner }) {
-    const windows = inner === "1/2" ? { keep: 128, ahead: 64 } : { keep: 1024, ahead: 128 };
-    return { code, depth, length: depth * length, inner, tolerance: 3, ...windows };
+    const windows = inner === "1/2" ? {} : { keep: 1024, ahead: 128 };
+    return { code, depth, length: depth * length, inner, ...windows };
 }
 
 /** The frames of a text, and of each how many octets stand before its part of the text: its number. */

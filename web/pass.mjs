@@ -73,7 +73,8 @@ export class Pass {
         const flags = this.#flags.at(index);
         const counts = Array.from({ length: this.columns }, (_, k) => this.#repaired.at(this.columns * index + k));
         const repaired = counts.map((it) => (it === 255 ? null : it)), fixed = repaired.reduce((sum, it) => sum + (it ?? 0), 0);
-        return { number: index, place: this.#place.at(index), good: !(flags & 1), length: flags & 1 ? 0 : this.frameLength, fixed, repaired,
+        const good = !(flags & 1), length = good || this.options.bad === "pass" ? this.frameLength : 0;
+        return { number: index, place: this.#place.at(index), good, length, fixed, repaired,
             distance: this.#distance.at(index), bridged: (flags & 2) !== 0, inverted: (flags & 4) !== 0 };
     }
 

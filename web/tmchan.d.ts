@@ -36,6 +36,10 @@ export interface Options {
     pack?: Switch;
     /** How many further markers must match, 0 to 7. */
     verify?: number;
+    /** Whether markers are looked for inside codeblocks too, where a column is uncorrectable or no marker follows. */
+    rescan?: Switch;
+    /** What becomes of a frame with an uncorrectable column. */
+    bad?: "drop" | "pass";
 }
 
 /** A codeblock that the receiver found. */
@@ -46,7 +50,7 @@ export interface Item {
     good: boolean;
     /** How many symbols were repaired. */
     fixed: number;
-    /** Its transfer frame; null where a column is uncorrectable. */
+    /** Its transfer frame; null where a column is uncorrectable, but with `bad: "pass"`. */
     frame: Uint8Array | null;
     /** How many of the marker's 32 bits are wrong, in the codeblock's polarity. */
     distance: number;
@@ -93,8 +97,8 @@ export class Trapped extends Error {}
 /** Of each option its words, or null where it is a number. */
 export const OPTIONS: Readonly<Record<string, string[] | null>>;
 export const DEFAULTS: Readonly<Required<Options>>;
-/** The settings for a recording. */
-export const RECORDING: Readonly<Options>;
+/** The settings for a recording at a rate of the convolutional code. */
+export function recordingSettings(inner?: Options["inner"]): Options;
 
 /** Whether this host has memory of 64-bit addresses, and vectors. */
 export function hasMemory64(): boolean;
@@ -106,7 +110,7 @@ export function load(octets?: BufferSource): Promise<Library>;
 export function line(item: Item, index: number): string;
 
 export class Library {
-    /** The version, as "0.2.0". */
+    /** The version, as "0.3.0". */
     readonly version: string;
     readonly hasTrapped: boolean;
     /** How many pages of 65,536 octets the module's memory has. */
@@ -207,7 +211,7 @@ export class Receiver implements Stream {
     readonly totals: Totals | null;
 }
 
-/** What came out of a piece: the frames of the good codeblocks one after the other, and an item of each. */
+/** What came out of a piece: the frames that are given, one after the other, and an item of each codeblock. */
 export class Received implements Iterable<Item> {
     private constructor();
     readonly frames: Uint8Array;

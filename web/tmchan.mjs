@@ -6,22 +6,33 @@ import { joined } from "./octets.mjs";
 const UNSET = 2n ** 64n - 1n;
 // Outside of every list and range: what stands for a word that an option does not have.
 const OUTSIDE = 2n ** 63n;
+// How many numbers of options are passed.
+const OPTION_COUNT = BigInt(STRUCTS.config.size / 8);
 // So many octets go to the library at once, and the memory of a stream is for as many.
 const PIECE = 1 << 18;
 
-const SWITCH = { on: 1, off: 0 };
+const SWITCH = { on: NUMBERS.ON, off: NUMBERS.OFF };
 // The numbers of the words of options; the others are numbers themselves.
 const WORDS = {
     code: { rs16: NUMBERS.RS16, rs8: NUMBERS.RS8, none: NUMBERS.NO_CODE },
-    inner: { none: 0, "1/2": 12, "2/3": 23, "3/4": 34, "5/6": 56, "7/8": 78 },
+    inner: {
+        none: NUMBERS.NO_INNER,
+        "1/2": NUMBERS.RATE_12,
+        "2/3": NUMBERS.RATE_23,
+        "3/4": NUMBERS.RATE_34,
+        "5/6": NUMBERS.RATE_56,
+        "7/8": NUMBERS.RATE_78,
+    },
     invert: SWITCH,
     randomize: SWITCH,
     basis: { dual: NUMBERS.DUAL, poly: NUMBERS.POLYNOMIAL },
-    soft: { u8: 0, i8: 1 },
-    start: { zero: 0, any: 1 },
-    phase: { given: 0, find: 1, follow: 2 },
-    polarity: { given: 0, find: 1 },
+    soft: { u8: NUMBERS.U8, i8: NUMBERS.I8 },
+    start: { zero: NUMBERS.ZERO, any: NUMBERS.ANY },
+    phase: { given: NUMBERS.GIVEN, find: NUMBERS.FIND, follow: NUMBERS.FOLLOW },
+    polarity: { given: NUMBERS.GIVEN, find: NUMBERS.FIND },
     pack: SWITCH,
+    rescan: SWITCH,
+    bad: { drop: NUMBERS.DROP, pass: NUMBERS.PASS },
 };
 const WITHOUT_EFFECT = ["workers", "limit"];
 
@@ -50,42 +61,22 @@ export const DEFAULTS = {
     polarity: "given",
     batch: 32,
     pack: "on",
+    rescan: "off",
+    bad: "drop",
 };
-/** The settings for a recording, which begins anywhere, has noise before it and may slip or be inverted. */
-export const RECORDING = { tolerance: 2, fly: 1, start: "any", phase: "follow", polarity: "find" };
-
-const SENTENCES = {
-    room: "an array is too long, or does not fit the others",
-    flags: "there are not as many flags as symbols",
-    column: "the index of the column is not below the depth",
-    open: "the stream is open already",
-    code: "the code is none of rs16, rs8 and none",
-    depth: "the depth is none of 1, 2, 3, 4, 5 and 8, or it is not 1 and there is no code",
-    length: "no word, or no frame, of this code and depth is so long",
-    inner: "the rate is none of none, 1/2, 2/3, 3/4, 5/6 and 7/8",
-    switch: "invert or randomize is neither on nor off",
-    basis: "the basis is neither dual nor poly",
-    tolerance: "the tolerance is not from 0 to 8",
-    repair: "the repair bound is not from 0 to the most that the code repairs",
-    soft: "the soft form is neither u8 nor i8",
-    start: "the start is neither zero nor any",
-    skip: "not from 0 to 15 symbols are skipped",
-    fly: "not from 0 to 15 markers in a row may be missing",
-    keep: "not from 64 to 65536 steps of a window are kept",
-    ahead: "not from 0 to 4096 steps follow those that are kept",
-    phase: "the phase is none of given, find and follow",
-    polarity: "the polarity is neither given nor find",
-    batch: "not from 1 to 4,096 codeblocks are handed over at once",
-    pack: "pack is neither on nor off",
-    verify: "not from 0 to 7 further markers are to match",
-};
+/** The settings for a recording, which begins anywhere, has noise before it and may slip or be inverted: those that
+ * tmchan_config_recording makes, without a library. */
+export function recordingSettings(inner = DEFAULTS.inner) {
+    const windows = inner === "1/2" ? { keep: 128, ahead: 64 } : { keep: DEFAULTS.keep, ahead: DEFAULTS.ahead };
+    return { tolerance: 3, fly: 1, start: "any", phase: "follow", polarity: "find", verify: 0, rescan: "on", ...windows };
+}
 
 /** The library refuses what it was given: `reason` is the name in the program's line `refused: depth`. */
 export class Refused extends RangeError {
-    constructor(answer) {
+    constructor(answer, text) {
         const name = Object.keys(NUMBERS).find((it) => NUMBERS[it] === answer && answer < 0) ?? String(answer);
         const reason = name.replace(/^BAD_/, "").toLowerCase();
-        super(`${reason}: ${SENTENCES[reason] ?? "the library refuses this"}`);
+        super(`${reason}: ${text}`);
         Object.assign(this, { name: "Refused", reason, answer });
     }
 }
@@ -122,15 +113,6 @@ export class Trapped extends Error {
     }
 }
 
-function checked(answer) {
-    if (answer >= 0) return answer;
-    const number = Number(answer);
-    if (number === NUMBERS.BEYOND) throw new Uncorrectable();
-    if (number === NUMBERS.CLOSED) throw new Closed();
-    if (number === NUMBERS.MEMORY) throw new NoMemory();
-    throw new Refused(number);
-}
-
 /** Whether this host has memory of 64-bit addresses, and vectors, which the faster of the two modules needs. */
 export function hasMemory64() {
     const memory = [0, 97, 115, 109, 1, 0, 0, 0, 5, 3, 1, 4, 1];
@@ -164,7 +146,7 @@ export class Library {
         if (missing.length) throw new Error(`the module has no call ${missing.join(", ")}`);
         const found = this.call("version");
         if (found >> 8 !== VERSION >> 8) throw new Error(`the module is of another version: ${versionText(found)}`);
-        /** The version of the library, as "0.2.0". */
+        /** The version of the library, as "0.3.0". */
         this.version = versionText(found);
     }
 
@@ -193,7 +175,20 @@ export class Library {
 
     /** The same, where what is below 0 is thrown as what it stands for. */
     ask(name, ...given) {
-        return checked(this.call(name, ...given));
+        const answer = this.call(name, ...given), number = Number(answer);
+        if (number >= 0) return answer;
+        if (number === NUMBERS.BEYOND) throw new Uncorrectable();
+        if (number === NUMBERS.CLOSED) throw new Closed();
+        if (number === NUMBERS.MEMORY) throw new NoMemory();
+        throw this.refusal(number);
+    }
+
+    /** What is thrown for a number below 0. */
+    refusal(number) {
+        const size = NUMBERS.TEXT_LENGTH, at = this.room(size), length = this.call("text", BigInt(number), at, BigInt(size));
+        const text = new TextDecoder().decode(this.octets(at, length));
+        this.free(at);
+        return new Refused(number, text);
     }
 
     /** Room for `size` octets in the module's memory, zeros. It is to be given back. */
@@ -255,7 +250,7 @@ export class Library {
         const e = number("code", code), numbers = [e, number("basis", basis), repair === null ? e : number("repair", repair)].map(u32);
         const flags = new Uint8Array(word.length);
         for (const place of erased ?? []) {
-            if (!(Number.isInteger(place) && place >= 0 && place < word.length)) throw new Refused(NUMBERS.FLAGS);
+            if (!(Number.isInteger(place) && place >= 0 && place < word.length)) throw this.refusal(NUMBERS.FLAGS);
             flags[place] = 1;
         }
         return this.#within([word, flags], (at, flagged) => {
@@ -302,7 +297,7 @@ export class Library {
 
     /** A link with the settings for a recording; what is given besides comes first. */
     recording(options = {}) {
-        return new Link(this, { ...RECORDING, ...defined(options) });
+        return new Link(this, { ...recordingSettings(options.inner), ...defined(options) });
     }
 }
 
@@ -344,12 +339,12 @@ export class Link {
         this.options = Object.freeze({ ...DEFAULTS, ...defined(options) });
         const { size, fields } = STRUCTS.config, at = library.room(size);
         try {
-            library.call("config_defaults", at);
+            library.call("config_defaults", at, OPTION_COUNT);
             for (const [name, value] of Object.entries(this.options))
                 if (value !== null) library.view(at, size).setBigUint64(fields[name][0], number(name, value), true);
-            library.ask("config_check", at);
+            library.ask("config_check", at, OPTION_COUNT);
             /** The octets of a transfer frame. */
-            this.frameLength = library.ask("frame_length", at);
+            this.frameLength = library.ask("frame_length", at, OPTION_COUNT);
             this.#config = library.octets(at, size).slice();
         } finally {
             library.free(at);
@@ -429,7 +424,7 @@ export class Link {
         const library = this.#library, { code, depth, basis, randomize } = this.options, size = this.blockLength + 4;
         const given = library.put(frame), made = library.room(size);
         try {
-            if (frame.length !== this.frameLength) throw new Refused(NUMBERS.BAD_LENGTH);
+            if (frame.length !== this.frameLength) throw library.refusal(NUMBERS.BAD_LENGTH);
             const numbers = Object.entries({ code, depth, basis, randomize }).map(([name, value]) => u32(number(name, value)));
             library.ask("cadu", ...numbers, given, BigInt(frame.length), made, BigInt(size));
             return library.octets(made, size).slice();
@@ -475,8 +470,9 @@ class Stream {
         this.config = this.rooms(config);
         this.handle = this.rooms(STRUCTS.stream.size);
         this.given = this.rooms(PIECE);
+        this.written = this.rooms(STRUCTS.written.size);
         try {
-            library.ask(`${kind}_open`, this.handle, this.config);
+            library.ask(`${kind}_open`, this.handle, this.config, OPTION_COUNT);
         } catch (error) {
             this.release();
             throw error;
@@ -533,20 +529,20 @@ class Stream {
 export class Sender extends Stream {
     constructor(library, config) {
         super("sender", library, config);
-        this.length = library.ask("sender_room", this.config, BigInt(PIECE));
+        this.length = library.ask("sender_room", this.config, OPTION_COUNT, BigInt(PIECE));
         this.symbols = this.rooms(Number(this.length));
     }
 
     push(octets) {
         return joined(this.pieces(octets, (size) => {
-            const count = this.ask("push", this.given, size, this.symbols, this.length);
+            const count = this.ask("push", this.given, size, this.symbols, this.length, this.written);
             return this.library.octets(this.symbols, Number(count)).slice();
         }));
     }
 
     /** Closes it. Returns how many octets follow the last whole frame; they were not sent. */
     finish() {
-        const left = Number(this.ask("finish"));
+        const left = Number(this.ask("finish", this.written));
         this.release();
         return left;
     }
@@ -556,14 +552,15 @@ export class Sender extends Stream {
 export class Decoder extends Stream {
     constructor(library, config) {
         super("decoder", library, config);
-        this.length = library.ask("decoder_room", this.config, BigInt(PIECE));
+        this.length = library.ask("decoder_room", this.config, OPTION_COUNT, BigInt(PIECE));
         this.bits = this.rooms(Number(this.length));
         this.small = this.rooms(STRUCTS.phase.size);
         this.last = null;
     }
 
     push(symbols) {
-        return joined(this.pieces(symbols, (size) => this.#written(this.ask("push", this.given, size, this.bits, this.length))));
+        const push = (size) => this.#written(this.ask("push", this.given, size, this.bits, this.length, this.written));
+        return joined(this.pieces(symbols, push));
     }
 
     #written(count) {
@@ -572,7 +569,7 @@ export class Decoder extends Stream {
 
     /** Closes it. Returns the bits that are left. */
     finish() {
-        const bits = this.#written(this.ask("finish", this.bits, this.length, this.small));
+        const bits = this.#written(this.ask("finish", this.bits, this.length, this.small, this.written));
         this.last = phaseOf(this.library, this.small);
         this.release();
         return bits;
@@ -596,7 +593,7 @@ export class Receiver extends Stream {
         super("receiver", library, config);
         this.frameLength = frameLength;
         this.small = this.rooms(STRUCTS.totals.size + STRUCTS.phase.size);
-        this.items = library.ask("receiver_room", this.config, BigInt(PIECE), this.small);
+        this.items = library.ask("receiver_room", this.config, OPTION_COUNT, BigInt(PIECE), this.small);
         this.length = library.view(this.small, 8).getBigUint64(0, true);
         this.frames = this.rooms(Number(this.length));
         this.reports = this.rooms(STRUCTS.report.size * Number(this.items));
@@ -606,7 +603,10 @@ export class Receiver extends Stream {
     }
 
     push(symbols) {
-        const made = this.pieces(symbols, (size) => this.#written(this.ask("push", this.given, size, ...this.#arrays())));
+        const made = this.pieces(symbols, (size) => {
+            this.ask("push", this.given, size, ...this.#arrays(), this.written);
+            return this.#made();
+        });
         return received(made, this.frameLength);
     }
 
@@ -614,18 +614,20 @@ export class Receiver extends Stream {
         return [this.frames, this.length, this.reports, this.items];
     }
 
-    #written(count) {
-        const { size, fields } = STRUCTS.report, reports = this.library.octets(this.reports, size * Number(count)).slice();
-        const view = new DataView(reports.buffer);
-        let octets = 0;
-        for (let at = 0; at < reports.length; at += size) octets += Number(view.getBigUint64(at + fields.frame_length[0], true));
-        return { frames: this.library.octets(this.frames, octets).slice(), reports };
+    /** What the last push or finish wrote. */
+    #made() {
+        const { reports, octets } = this.library.fields("written", this.written);
+        return {
+            frames: this.library.octets(this.frames, octets).slice(),
+            reports: this.library.octets(this.reports, STRUCTS.report.size * reports).slice(),
+        };
     }
 
     /** Closes it. Returns the codeblocks that are left. */
     finish() {
         const phase = this.small + BigInt(STRUCTS.totals.size);
-        const made = this.#written(this.ask("finish", ...this.#arrays(), this.small, phase));
+        this.ask("finish", ...this.#arrays(), this.small, phase, this.written);
+        const made = this.#made();
         this.totals = this.library.fields("totals", this.small);
         this.last = phaseOf(this.library, phase);
         this.release();
@@ -650,7 +652,7 @@ function received(made, frameLength) {
         : new Received(joined(made.map((it) => it.frames)), joined(made.map((it) => it.reports)), frameLength);
 }
 
-/** What came out of a piece: the frames of the good codeblocks one after the other, and an item of each, made when it is asked for. */
+/** What came out of a piece: the frames that are given, one after the other, and an item of each codeblock, made when it is asked for. */
 export class Received {
     #reports;
 
@@ -670,7 +672,7 @@ export class Received {
             const repaired = get(fields.repaired).slice(0, columns).map((it) => (it === 255 ? null : it));
             yield {
                 place: get(fields.place),
-                good: !repaired.includes(null),
+                good: !get(fields.bad),
                 fixed: repaired.reduce((sum, it) => sum + (it ?? 0), 0),
                 frame: length ? this.frames.slice(frame, frame + length) : null,
                 distance: get(fields.distance),

@@ -2,7 +2,7 @@
 import { figuresOf, pageOf } from "./figures.mjs";
 import { FORMS, formOfName, waveHeader } from "./recordings.mjs";
 import { counted, escaped } from "./text.mjs";
-import { DEFAULTS, OPTIONS, RECORDING } from "./tmchan.mjs";
+import { DEFAULTS, OPTIONS, recordingSettings } from "./tmchan.mjs";
 
 const find = (id) => document.getElementById(id);
 
@@ -22,12 +22,14 @@ const RECEIVER = {
     start: "the encoder's first register",
     phase: "which symbols belong together",
     polarity: "whether all may be inverted",
+    rescan: "look inside uncorrectable codeblocks",
     keep: "steps of a window that are kept",
     ahead: "steps after these",
     verify: "further markers that must match",
     repair: "symbols repaired in a codeword, empty for all that can be",
     skip: "symbols dropped first",
     batch: "codeblocks handed over at once",
+    bad: "frames with an uncorrectable column",
 };
 const NAMES = Object.keys({ ...LINK, ...RECEIVER });
 const ROWS = 100;
@@ -212,11 +214,17 @@ export function startUsing(it) {
     find("form").append(...Object.entries(FORMS).map(([name, { text }]) => new Option(`${name}: ${text}`, name)));
     const controls = (rows) => rows.map(([name, about]) => control(name, about)).join(""), receiver = Object.entries(RECEIVER);
     find("link-options").innerHTML = controls(Object.entries(LINK));
-    find("recording-options").innerHTML = controls(receiver.filter(([name]) => name in RECORDING));
-    find("receiver-options").innerHTML = controls(receiver.filter(([name]) => !(name in RECORDING)));
-    set({ ...DEFAULTS, ...RECORDING });
+    const recording = () => recordingSettings(find("option-inner").value);
+    find("recording-options").innerHTML = controls(receiver.filter(([name]) => name in recordingSettings()));
+    find("receiver-options").innerHTML = controls(receiver.filter(([name]) => !(name in recordingSettings())));
+    set({ ...DEFAULTS, ...recordingSettings() });
     const strict = Object.fromEntries(receiver.map(([name]) => [name, DEFAULTS[name]]));
-    find("recording").addEventListener("click", () => (set({ ...strict, ...RECORDING }), sayWords()));
+    find("recording").addEventListener("click", () => (set({ ...strict, ...recording() }), sayWords()));
+    // The windows for a recording are others at another rate.
+    find("option-inner").addEventListener("change", () => {
+        const { keep, ahead } = recording();
+        if (find("option-phase").value === "follow") set({ keep, ahead });
+    });
     find("strict").addEventListener("click", () => (set(strict), sayWords()));
     find("use-form").addEventListener("change", sayWords);
     window.addEventListener("hashchange", () => location.hash === "#use" && sayWords());

@@ -4,8 +4,9 @@ import json
 import pathlib
 import os
 
-# The words of the program for the page's settings for a recording
-SETTINGS = ["--tolerance", "2", "--fly", "1", "--start", "any", "--phase", "follow", "--polarity", "find"]
+# The words of the program for the page's settings for a recording, at rate 1/2 and at others
+SETTINGS = "--tolerance 3 --fly 1 --start any --phase follow --polarity find --rescan on".split()
+HALF = [*SETTINGS, "--keep", "128", "--ahead", "64"]
 # The first view shows what was asked for last.
 DRAWN = (
     "document.querySelector('#stage-received .frames li')"

@@ -11,6 +11,7 @@ import time
 
 from drive import (
     DRAWN,
+    HALF,
     SETTINGS,
     count,
     frames_of,
@@ -61,7 +62,9 @@ def compared(room, browser, path, words, octets=None):
     """Receives what is chosen, and compares the frames by SHA-256, and the last line, with those of the program.
     Returns what the page says."""
     said = received(browser)
-    _, frames, notes = program(["decode", *SETTINGS, *words], path.read_bytes() if octets is None else octets)
+    _, frames, notes = program(
+        ["decode", *(SETTINGS if "--inner" in words else HALF), *words], path.read_bytes() if octets is None else octets
+    )
     mine = frames_of(browser)
     assert digest(mine) == digest(frames), (path.name, len(mine), len(frames), said)
     report = browser.run(
@@ -149,7 +152,7 @@ def downloads(room):
     take(browser, path)
     received(browser)
     browser.until("!document.getElementById('results').hidden")
-    _, frames, notes = program(["decode", *SETTINGS], path.read_bytes())
+    _, frames, notes = program(["decode", *HALF], path.read_bytes())
     assert digest(downloaded(room, browser, ".frames")) == digest(frames)
     lines = notes.decode().splitlines()
     assert downloaded(room, browser, ".report.txt").decode().splitlines() == lines
@@ -192,7 +195,7 @@ def forms(room):
     """Recordings of the other forms come to the frames of the one in u8, where the form holds it."""
     browser, path = opened(room, "use"), room.recording("forms.u8", decibels=5.0, frames=100)
     octets = path.read_bytes()
-    _, sent, _ = program(["decode", *SETTINGS], octets)
+    _, sent, _ = program(["decode", *HALF], octets)
     assert len(sent) == 100 * 223
     floats = [(it - 127.5) / 50 for it in octets]
     hard, numbers, size = [it >> 7 for it in octets], [round(9000 * it) for it in floats], len(octets)
@@ -266,7 +269,7 @@ def sliders(room):
     slide(browser, "noise", 6)
     slipped = slide(browser, "slips", 2)
     assert int(re.search(r"(\d+) slips?", slipped)[1]) >= 1, slipped
-    assert whole() < frames or "; 0 octets" not in slipped, slipped
+    assert whole() >= frames - 2, slipped
     assert text(browser, "slips-said") == "2"
     slide(browser, "slips", 0)
     slide(browser, "flip", 50)
@@ -431,7 +434,7 @@ def stops(room):
     assert said.startswith("Stopped after"), said
     done = browser.run("(async () => (await import('/use-view.mjs')).last().done)()")
     assert 0 < done < len(octets)
-    _, frames, _ = program(["decode", *SETTINGS], octets[:done])
+    _, frames, _ = program(["decode", *HALF], octets[:done])
     assert digest(frames_of(browser)) == digest(frames)
     path = room.recording("plain.u8")
     take(browser, path)
@@ -543,7 +546,7 @@ def to_a_file(room):
             return [...new Uint8Array(digest)].map((it) => it.toString(16).padStart(2, '0')).join('');
         })()"""
     )
-    _, frames, _ = program(["decode", *SETTINGS], path.read_bytes())
+    _, frames, _ = program(["decode", *HALF], path.read_bytes())
     # There is no button for the frames.
     assert got == digest(frames) and count(browser, "#downloads button") == 3, got
     return f"{len(frames):,} octets"

@@ -26,14 +26,8 @@ def refusals():
     """The tables of refusals of tests/c/rows.c, as lists of numbers."""
     text = (TOP / "tests/c/rows.c").read_text()
     header = (TOP / "include/tmchan.h").read_text()
-    values = {
-        "UINT32_MAX": 2**32 - 1,
-        **{
-            name: int(value, 0)
-            for name, value in re.findall(r"#define (TMCHAN_\w+) \(?(-?\w+)\)?", header)
-            if not value.startswith("UINT")
-        },
-    }
+    numbers = re.findall(r"#define (TMCHAN_\w+) \(?(-?\d\w*)\)?$", re.sub(r" */\*.*", "", header), re.M)
+    values = {"UINT32_MAX": 2**32 - 1, **{name: int(value, 0) for name, value in numbers}}
     found = {}
     for name, body in re.findall(r"\} (\w+)\[\] = \{(.*?)\n    \};", text, re.S):
         body = re.sub(r"[A-Z_][A-Z_0-9]{3,}", lambda it: str(values[it[0]]), body).replace("{", "[").replace("}", "]")
