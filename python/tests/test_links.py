@@ -65,14 +65,17 @@ def test_the_first_reason_comes_first():
 
 def test_the_struct_is_the_header():
     assert list(library.OPTIONS) == NAMES
-    assert ctypes.sizeof(library.Config) == 8 * 22 and library.REPORT.size == 32
+    assert ctypes.sizeof(library.Config) == 8 * 24 and library.REPORT.size == 32
 
 
 def test_words_and_repr():
     link = tmchan.Link.recording(depth=5, randomize=False)
     assert (
         link.words()
-        == "--depth 5 --randomize off --tolerance 2 --start any --fly 1 --phase follow --polarity find".split()
+        == (
+            "--depth 5 --randomize off --tolerance 3 --start any --fly 1 --keep 128 --ahead 64 --phase follow "
+            "--polarity find --rescan on"
+        ).split()
     )
     assert eval(repr(link), {"Link": tmchan.Link}).words() == link.words()
     assert tmchan.Link().words() == [] and repr(tmchan.Link()) == "Link()"

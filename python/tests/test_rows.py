@@ -83,7 +83,9 @@ def test_streams(most):
             assert lines == octets(fields[2]).decode().splitlines()
             assert octets(fields[1]) in (None, b"".join(it.frame for it in items if it.frame))
         elif kind == "recording":
-            made = library.recording(next(word for word, it in library.OPTIONS["inner"].items() if it == int(numbers[3])))
+            made = library.recording(
+                next(word for word, it in library.OPTIONS["inner"].items() if it == int(numbers[3]))
+            )
             assert set(made.items()) <= set(link_of(fields).options.items())
         else:
             with link_of(numbers).decoder() as decoder:

@@ -214,7 +214,20 @@ class Progress:
 
 # receive
 
-RECEIVING = ("tolerance", "fly", "polarity", "verify", "rescan", "repair", "start", "skip", "phase", "keep", "ahead", "batch")
+RECEIVING = (
+    "tolerance",
+    "fly",
+    "polarity",
+    "verify",
+    "rescan",
+    "repair",
+    "start",
+    "skip",
+    "phase",
+    "keep",
+    "ahead",
+    "batch",
+)
 
 
 def receive_arguments() -> argparse.ArgumentParser:

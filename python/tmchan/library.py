@@ -58,7 +58,9 @@ BEYOND, ROOM, FLAGS, CLOSED, OPEN, MEMORY = -1, -2, -3, -5, -6, -7
 # Of each answer the reason's name; those of the options are numbered in their order, of which invert and randomize have
 # one together.
 REASONS = {ROOM: "room", FLAGS: "flags", OPEN: "open", -8: "config"}
-REASONS.update((-16 - k, name.replace("invert", "switch")) for k, name in enumerate(it for it in OPTIONS if it != "randomize"))
+REASONS.update(
+    (-16 - k, name.replace("invert", "switch")) for k, name in enumerate(it for it in OPTIONS if it != "randomize")
+)
 # In so many octets each text has room.
 TEXT_LENGTH = 96
 
@@ -128,7 +130,12 @@ REPORT_FIELDS = [
 
 # Of each call what it answers, and what it is passed. An array is passed as its address and length.
 _ARRAY, _CONFIG, _HANDLE = (c_void_p, c_size_t), (POINTER(Config), c_size_t), (POINTER(Handle),)
-_PHASE, _TOTALS, _COUNT, _WRITTEN = (POINTER(PhaseFields),), (POINTER(TotalsFields),), (POINTER(c_uint64),), (POINTER(Written),)
+_PHASE, _TOTALS, _COUNT, _WRITTEN = (
+    (POINTER(PhaseFields),),
+    (POINTER(TotalsFields),),
+    (POINTER(c_uint64),),
+    (POINTER(Written),),
+)
 _CALLS = {
     "version": (c_uint32,),
     "text": (c_int32, c_int64, *_ARRAY),

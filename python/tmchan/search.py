@@ -81,7 +81,9 @@ class Found(NamedTuple):
         if self.link is None:
             return []
         words = ["--input", self.form] + ["--swap"] * self.swap + ["--nrz-m"] * self.nrz_m
-        options = {name: value for name, value in self.link.options.items() if name not in library.RECORDED and name != "pack"}
+        options = {
+            name: value for name, value in self.link.options.items() if name not in library.RECORDED and name != "pack"
+        }
         # (an option of the link has tmchan-receive look for nothing)
         return words + (Link(**options).words() or ["--code", "rs16"])
 
