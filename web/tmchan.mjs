@@ -8,7 +8,7 @@ const UNSET = 2n ** 64n - 1n;
 const OUTSIDE = 2n ** 63n;
 // How many numbers of options are passed.
 const OPTION_COUNT = BigInt(STRUCTS.config.size / 8);
-// So many octets go to the library at once, and the memory of a stream is for as many.
+// Octets that go to the library at once; the memory of a stream is for as many.
 const PIECE = 1 << 18;
 
 const SWITCH = { on: NUMBERS.ON, off: NUMBERS.OFF };
