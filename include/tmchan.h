@@ -132,11 +132,11 @@ extern "C" {
 /* The version of the library that is linked. */
 uint32_t tmchan_version(void);
 
-/* In so many octets the text of each answer has room, and the 0 after it. */
+/* The octets in which the text of each answer has room, with the 0 after it. */
 #define TMCHAN_TEXT_LENGTH 96
 
-/* Writes what an answer means to text: a sentence in ASCII without a full stop, and a 0 after it. Answers the sentence's
- * length; TMCHAN_ROOM, where text is too short: never with TMCHAN_TEXT_LENGTH. */
+/* Writes what an answer means to text: a sentence in ASCII without a full stop, and a 0 after it. Answers the length of
+ * the sentence; TMCHAN_ROOM, where text is too short: never with TMCHAN_TEXT_LENGTH. */
 int32_t tmchan_text(int64_t answer, char *text, size_t text_length);
 
 /* Reed-Solomon codes */
@@ -155,14 +155,14 @@ int32_t tmchan_rs_encode(uint32_t code, uint32_t basis, const uint8_t *data, siz
  * TMCHAN_BAD_CODE, TMCHAN_BAD_LENGTH (of the word), TMCHAN_BAD_BASIS, TMCHAN_BAD_REPAIR. */
 int32_t tmchan_rs_decode(uint32_t code, uint32_t basis, uint32_t repair, uint8_t *word, size_t word_length);
 
-/* The same where some octets are known to be lost. erased has a flag for each octet of the word: 0 where it is good,
- * any other number where it is erased; what stands at an erased octet does not matter. The word becomes the codeword
- * that differs from it in at most `repair` octets that are not erased, where twice their number and the number of
- * erased octets are at most 2E together. There is at most one.
+/* Decodes a word of which some octets are known to be lost. erased has a flag for each octet of the word: 0 where it is
+ * good, any other number where it is erased; what stands at an erased octet does not matter. The word becomes the
+ * codeword that differs from it in at most `repair` octets that are not erased, where twice their number and the number
+ * of erased octets are at most 2E together. There is at most one.
  *
- * Answers the number of octets that were wrong, erased or not (an erased octet that was right is not counted), 0 to
- * 2E; TMCHAN_BEYOND where there is no such codeword; TMCHAN_BAD_CODE, TMCHAN_BAD_LENGTH (of the word),
- * TMCHAN_BAD_BASIS, TMCHAN_BAD_REPAIR, TMCHAN_FLAGS. */
+ * Answers the number of octets that were wrong, erased or not (an erased octet that was right is not counted), 0 to 2E;
+ * TMCHAN_BEYOND where there is no such codeword; TMCHAN_BAD_CODE, TMCHAN_BAD_LENGTH (of the word), TMCHAN_BAD_BASIS,
+ * TMCHAN_BAD_REPAIR, TMCHAN_FLAGS. */
 int32_t tmchan_rs_decode_erased(uint32_t code, uint32_t basis, uint32_t repair, uint8_t *word, size_t word_length,
                                 const uint8_t *erased, size_t erased_length);
 
@@ -315,7 +315,8 @@ int32_t tmchan_close(tmchan_stream *stream);
  * it is whole: with an inner code an octet for each symbol, 00 and FF (or 80 and 7F in the signed form), and else the
  * octets of the CADU, or with pack = 0 such an octet for each of its bits. */
 
-/* For how many symbols a push of so many octets needs room: more than it writes. Answers TMCHAN_BAD_.., TMCHAN_ROOM. */
+/* For how many symbols a push of octets_length octets needs room: more than it writes. Answers TMCHAN_BAD_..,
+ * TMCHAN_ROOM. */
 int64_t tmchan_sender_room(const tmchan_config *config, size_t config_length, size_t octets_length);
 
 /* Opens a sender. Answers 0; TMCHAN_OPEN, TMCHAN_BAD_.., TMCHAN_MEMORY. */
@@ -337,7 +338,8 @@ int64_t tmchan_sender_finish(tmchan_stream *stream, tmchan_written *written);
  * each, 0 or 1. With inner = 0 no bit comes. Bits come a window at a time: keep bits once more than keep + ahead
  * steps are there. */
 
-/* For how many bits a push of so many octets needs room, or with 0 the finish. Answers TMCHAN_BAD_.., TMCHAN_ROOM. */
+/* For how many bits a push of octets_length octets needs room, or with 0 the finish. Answers TMCHAN_BAD_..,
+ * TMCHAN_ROOM. */
 int64_t tmchan_decoder_room(const tmchan_config *config, size_t config_length, size_t octets_length);
 
 /* Opens a decoder. Answers 0; TMCHAN_OPEN, TMCHAN_BAD_.., TMCHAN_MEMORY. */
@@ -377,7 +379,7 @@ typedef struct {
                               nothing is said */
 } tmchan_report;
 
-/* For how many reports a push of so many octets, or of fewer, and the finish need room: enough for any receiver of
+/* For how many reports a push of octets_length octets, or fewer, and the finish need room: enough for any receiver of
  * this configuration, whatever was pushed before, and so mostly more than are written; with rescan nearly twice as many
  * as without, since codeblocks may lie inside others then. For how many octets of frames, as many frames, it writes to
  * *frames_length.
@@ -463,7 +465,7 @@ int32_t tmchan_search_open(tmchan_search *search, uint32_t tolerance, uint32_t f
 int32_t tmchan_search_bits(tmchan_search *search, uint8_t *room, size_t room_length, const uint8_t *bits,
                            size_t bits_length, uint64_t *at, tmchan_place *place);
 
-/* The same of the bits of octets: *at is a number of bits. */
+/* Searches the bits of octets; *at is a number of bits. */
 int32_t tmchan_search_octets(tmchan_search *search, uint8_t *room, size_t room_length, const uint8_t *octets,
                              size_t octets_length, uint64_t *at, tmchan_place *place);
 

@@ -68,7 +68,7 @@ def received(link, chunks, **words):
 
 
 def frames(count, size, seed=1):
-    """So many frames, whose octets are not equally often."""
+    """Frames whose octets are not equally often."""
     draw = random.Random(seed)
     return [
         number.to_bytes(4, "big")[-min(4, size) :]
@@ -88,7 +88,7 @@ def coded(bits, is_inverted=True):
 
 
 def levels(symbols, decibels, seed=1):
-    """Symbols as floats, -1 and 1 without noise, at so many decibels of Es/N0."""
+    """Symbols as floats, -1 and 1 without noise, at an Es/N0 in decibels."""
     numpy = pytest.importorskip("numpy")
     sent = numpy.frombuffer(symbols, numpy.uint8).astype(numpy.float32) / numpy.float32(127.5) - 1
     deviation = (10 ** (-decibels / 10) / 2) ** 0.5

@@ -19,7 +19,7 @@ from .search import LINK, Found, find
 
 # The version of the lines that --json writes.
 JSON = 1
-# Of a pipe so many octets are looked at for its options, before any of them is received.
+# How many octets of a pipe are looked at for its options, before any of them is received.
 HEAD = 4_000_000
 HELP = {
     "code": "the outer code: rs16 (255,223), rs8 (255,239) or none",
@@ -115,7 +115,7 @@ class Source:
         return Fault(3, f"{self.name} can't be read: {error.strerror}")
 
     def _read(self, most: int) -> bytes:
-        """What there is, at most so many octets; nothing at the end."""
+        """What there is, at most `most` octets; nothing at the end."""
         try:
             return self._file.read(most) or b""
         except OSError as error:

@@ -61,7 +61,7 @@ REASONS = {ROOM: "room", FLAGS: "flags", OPEN: "open", -8: "config"}
 REASONS.update(
     (-16 - k, name.replace("invert", "switch")) for k, name in enumerate(it for it in OPTIONS if it != "randomize")
 )
-# In so many octets each text has room.
+# The octets in which each text has room.
 TEXT_LENGTH = 96
 
 
@@ -364,7 +364,7 @@ class DecoderStream(Stream):
 
 
 class ReceiverStream(Stream):
-    """Takes at most so many octets at a push. That and the finish give the octets of the frames, one after the other,
+    """Takes at most `most` octets at a push. That and the finish give the octets of the frames, one after the other,
     and those of the reports."""
 
     KIND = "receiver"

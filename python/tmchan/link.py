@@ -11,7 +11,7 @@ Switch = Union[bool, str]
 # is younger than what this runs on.
 Buffer = Any
 
-# So many octets go to the library at once, and the memory of a stream is for as many.
+# How many octets go to the library at once; the memory of a stream is for as many.
 PIECE = 1 << 20
 
 

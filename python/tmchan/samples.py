@@ -10,9 +10,9 @@ except ImportError:
 
 # What is multiplied by, before 127.5 is added: floats are -1 and 1 without noise, and integers use their range.
 SCALES = {"b": 1, "h": 1 / 256, "f": 64, "d": 64}
-# Scaled by their own mean, so many samples at a time have this size in the mean.
+# Scaled by their own mean, BLOCK samples at a time have the size LEVEL in the mean.
 BLOCK, LEVEL = 65536, 64
-# So many are turned into octets at a time, while they are in the processor's cache.
+# How many are turned into octets at a time, while they are in the processor's cache.
 CACHED = 32768
 SIGNED = bytes(octet ^ 128 for octet in range(256))
 

@@ -14,7 +14,7 @@ from .reception import Reception
 from .recordings import FORMS, Symbols
 from .samples import numpy, view_of
 
-# So many symbols tell the inner code. They are one window of the soft decoder.
+# How many symbols tell the inner code. They are one window of the soft decoder.
 SAMPLE = 40_000
 # Above this share of what drawn symbols cost there is no code.
 NO_CODE = 0.75
@@ -22,9 +22,9 @@ NO_CODE = 0.75
 FEW = 2
 # How many inner codes of a place are looked at further, those that fit best.
 MOST = 4
-# At so many places a code may be seen that leads no further.
+# At how many places a code may be seen that leads no further.
 PLACES = 3
-# With so many wrong bits behind the soft decoder a Reed-Solomon code may fail; below, it would not.
+# The share of wrong bits behind the soft decoder with which a Reed-Solomon code may fail; below, it would not.
 NOISY = 0.005
 # A form for each letter of a buffer's elements.
 TYPED = {"b": "i8", "h": "i16", "f": "f32", "d": "f64"}
@@ -127,7 +127,7 @@ class _Recording:
         return elements * each if self.letter != "B" else elements // FORMS[form].size * each
 
     def symbols(self, form: _Form, first: int, count: int) -> bytes:
-        """So many soft octets from symbol `first` on, or those that there are; `first` is a multiple of 16."""
+        """`count` soft octets from symbol `first` on, or those that there are; `first` is a multiple of 16."""
         kind = FORMS[form.name]
         turn = Symbols(form.name, "mean" if kind.size > 1 else None, form.swap)
         if self.letter != "B":
@@ -240,7 +240,7 @@ def _entropy(octets: bytes) -> float:
 
 
 def _outer_codes(octets: int, given: dict[str, Any]) -> tuple[list[dict[str, Any]], list[dict[str, Any]]]:
-    """The options of each Reed-Solomon code whose codeblock has so many octets, and then those of none."""
+    """The options of each Reed-Solomon code whose codeblock has that many octets, and then those of none."""
     coded = [
         dict(code=code, depth=depth, length=octets - checks * depth, basis=basis, randomize=randomize)
         for code, checks in (("rs16", 32), ("rs8", 16))
@@ -330,7 +330,7 @@ def find(
     `samples` is a buffer: octets as they stand in a file, or an array of int8, int16, float32 or float64. `form` is a
     word of tmchan.recordings.FORMS where it is known, and what is known of the link's options may be given by their
     names. It looks at the head, from element `start` on, and then at up to `places` places along the whole, each of
-    40,000 symbols; and where a code is seen, or where there may be none, at up to so many `symbols`. `say` is called
+    40,000 symbols; and where a code is seen, or where there may be none, at up to `symbols` symbols. `say` is called
     with a line of text for each thing that was tried.
 
     It tries the forms, the five rates, both inversions, either order of a pair, NRZ-M behind the inner code, every

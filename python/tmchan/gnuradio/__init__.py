@@ -56,7 +56,7 @@ class receiver(gr.basic_block):
     place (received bits before its marker), fixed (symbols that were repaired), distance (wrong bits of the marker),
     bridged and inverted.
 
-    With `every` above 0 it has two outputs besides, of one float each for so many input items: `rate`, the share of
+    With `every` above 0 it has two outputs besides, of one float for each `every` input items: `rate`, the share of
     wrong symbols in the codewords of the last codeblock, where an uncorrectable one counts with one more than is
     repaired; it is no number before the first codeblock, and without an outer code. And `lock`, 1 from a codeblock on
     until the next would have come, were it to follow directly, and else 0.
@@ -144,7 +144,7 @@ class sender(gr.basic_block):
     Its options are those of tmchan.Link that a sender has. With pack="off" and no inner code each bit is a symbol;
     floats are symbols always."""
 
-    # So many octets are taken at a time, so that a short flowgraph does not wait for a long one's memory.
+    # How many octets are taken at a time: few, so that a short flowgraph does not wait for a long one's memory.
     MOST = 4096
 
     def __init__(self, source="bytes", output="float", **options):
