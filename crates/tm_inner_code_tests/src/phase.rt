@@ -13,9 +13,9 @@ use tm_windows::{
 const MARKER_SYMBOLS: u64 = 0x56081C971AA73D3E;
 
 // The octets that cases are prefixes of: the high octet of each next number of a sequence.
-fn drawn(seed: u64) -> [u8; 48] {
+fn drawn(seed: u64) -> [u8; 320] {
     let mut now = seed;
-    let mut octets = [0; 48];
+    let mut octets = [0; 320];
     for octet in octets.iter_mut() {
         now = now
             .wrapping_mul(6364136223846793005)
@@ -104,8 +104,9 @@ fn octets_for_a_window(rt: HostRuntime) {
 }
 
 // Noise over so few steps that some of it passes for a slip: costs that tie, and an excess that is three quarters of
-// that of octet 0, or a little more or less.
-static SLIPS: [(Rate, bool, u64, usize, u64, u8); 15] = [
+// that of octet 0, or a little more or less. The last rows are of as many octets as there are, nearly: an excess a
+// little less than three quarters, and then a little more, with others that are settled before the last step.
+static SLIPS: [(Rate, bool, u64, usize, u64, u8); 25] = [
     (Rate::R12, true, 3, 20, 147, 0),
     (Rate::R12, true, 3, 20, 368, 0),
     (Rate::R12, true, 3, 20, 1422, 1),
@@ -121,6 +122,16 @@ static SLIPS: [(Rate, bool, u64, usize, u64, u8); 15] = [
     (Rate::R34, true, 3, 20, 22, 1),
     (Rate::R56, true, 3, 20, 3, 0),
     (Rate::R78, false, 0, 12, 1, 0),
+    (Rate::R12, true, 3, 150, 13_429, 1),
+    (Rate::R12, true, 3, 150, 118_906, 0),
+    (Rate::R23, false, 4, 150, 3, 1),
+    (Rate::R23, false, 4, 150, 645, 0),
+    (Rate::R34, true, 5, 150, 2, 2),
+    (Rate::R34, true, 5, 150, 17, 0),
+    (Rate::R56, true, 6, 220, 3, 5),
+    (Rate::R56, true, 6, 220, 35, 0),
+    (Rate::R78, true, 1_000_000_007, 260, 7, 1),
+    (Rate::R78, true, 1_000_000_007, 260, 1, 0),
 ];
 
 #[test]
