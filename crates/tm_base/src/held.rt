@@ -6,14 +6,14 @@ use crate::soft_form::to_unsigned;
 use std::alloc::{AllocError, Global};
 use std::marker::Model;
 
-/// So many octets. It fails only where there isn't enough memory.
+/// `count` octets. It fails only where there isn't enough memory.
 pub fn zeros(alloc: Global, count: usize) -> Result<Vec<u8>, AllocError>
     ensures { IfOk result (λ v. vec_len v ≡ count) }
 {
     vec![in alloc; 0u8; count]
 }
 
-/// Octets in room for so many. It takes all its memory at `open`.
+/// Octets in a buffer of fixed size. It takes all its memory at `open`.
 #[derive(Drop)]
 pub struct Held {
     octets: Vec<u8>,
@@ -32,7 +32,7 @@ impl Model for Held {
 }
 
 impl Held {
-    /// Room for so many octets, with none in it. It fails only where there isn't enough memory.
+    /// Room for `room` octets, with none in it. It fails only where there isn't enough memory.
     pub fn open(alloc: Global, room: usize) -> Result<Held, AllocError>
         ensures { IfOk result (λ held. (held.octets ≡ []) × (held.room ≡ room)) }
     {

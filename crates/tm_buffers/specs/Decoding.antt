@@ -9,9 +9,9 @@ use Rattle.tm_viterbi.specs.Clean.{kept_bits}
 use Rattle.tm_viterbi.specs.WindowBlock.{WindowBlock}
 use Rattle.tm_buffers.specs.Buffer.{Fills, most_taken}
 
--- For how many bits there has to be room where so many more octets are given, or with none at the
--- end: for those of a window, of the octets that wait for the phase, and of these. No more than
--- 2^40 octets are taken at a time.
+-- For how many bits there has to be room where `count` more octets are given, or at the end, with a
+-- `count` of 0: for those of a window, of the octets buffered until the phase is chosen, and of
+-- these. No more than 2^40 octets are taken at a time.
 abbrev pub bits_room : Configuration → ℕ → Option ℕ
 bits_room c count = if nat_le count most_taken then Some (held_bits c + count)
     else None

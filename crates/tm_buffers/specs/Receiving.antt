@@ -13,18 +13,18 @@ use Rattle.tm_buffers.specs.Buffer.{most_taken}
 use Rattle.tm_buffers.specs.declared.items.Report.{Report}
 use Rattle.tm_buffers.specs.declared.items.Written.{Written}
 
--- For how many items there has to be room where so many more octets are given, or fewer, and at the
--- end, whatever was given before. It is said for no more than 2^40 octets at a time.
+-- For how many items there has to be room where at most `count` more octets are given, and at the
+-- end, whatever was given before. None where `count` is above 2^40.
 abbrev pub items_room : Configuration → ℕ → Option ℕ
 items_room c count = if nat_le count most_taken then Some (most_items c count) else None
 
--- there is room for a report and a frame of each of so many items
+-- there is room for a report and a frame of each of `items` items
 abbrev pub HasRoom : Configuration → Option ℕ → List ℕ → List Report → Type 0
 HasRoom c None frames reports = ⊥
 HasRoom c (Some items) frames reports =
     (items ≤ length reports) × (items * c.frame_length ≤ length frames)
 
--- where there is the room that is said for so many octets or for more, all items were written
+-- where there is the room of `items_room` for `octets` octets or more, all items were written
 abbrev pub IsEnough : Configuration → ℕ → Option ℕ → List ℕ → List Report → Type 0
 IsEnough c octets count frames reports = (most : ℕ) → octets ≤ most
     → HasRoom c (items_room c most) frames reports → IsSome count

@@ -13,7 +13,7 @@ use Rattle.tm_buffers.specs.Buffer.{most_taken}
 abbrev pub most_symbols : Configuration → ℕ
 most_symbols c = if is_some c.inner then most_octet_symbols else if c.pack then 1 else 8
 
--- For how many symbols there has to be room where so many more octets are given: for those of a
+-- For how many symbols there has to be room where `count` more octets are given: for those of a
 -- unit for each frame that may become whole, and one more. No more than 2^40 octets are taken at a
 -- time.
 abbrev pub symbols_room : Configuration → ℕ → Option ℕ

@@ -36,7 +36,7 @@ impl Model for BufferDecoder {
 }
 
 impl BufferDecoder {
-    /// A decoder that was given nothing yet. It takes all its memory here, and fails only where there isn't enough.
+    /// A new decoder. It takes all its memory here, and fails only where there isn't enough.
     pub fn open(alloc: Global, config: Config) -> Result<BufferDecoder, NoMemory>
         ensures config { IfOk result (λ decoder. decoder.config ≡ config) }
         ensures fresh { IfOk result (λ decoder. IsDecoding decoder [] []) }
@@ -108,8 +108,8 @@ impl BufferDecoder {
     }
 }
 
-/// For how many bits a buffer has to have room where so many more soft octets are given, or with none at the end. None
-/// where they are more than 2^40, which are not taken at a time.
+/// For how many bits a buffer has to have room where `count` more soft octets are given, or at the end, with a
+/// `count` of 0. None where `count` is above 2^40: more octets are not taken at a time.
 pub fn bits_room(config: &Config, count: usize) -> Option<usize>
     ensures value { result ≡ bits_room config.now count }
     ensures most { IfSome result (λ room. room ≤ 2 ^ 56) }

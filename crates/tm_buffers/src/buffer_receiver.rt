@@ -38,8 +38,8 @@ impl Model for BufferReceiver {
 }
 
 impl BufferReceiver {
-    /// A receiver that was given nothing yet. It takes all its memory here, that of one window of the inner code at a
-    /// time whatever the workers are, and fails only where there isn't enough.
+    /// A new receiver. It takes all its memory here, that of one window of the inner code at a time whatever the
+    /// workers are, and fails only where there isn't enough.
     pub fn open(alloc: Global, config: Config) -> Result<BufferReceiver, NoMemory>
         ensures config { IfOk result (λ receiver. receiver.config ≡ config) }
         ensures fresh { IfOk result (λ receiver. IsReceiving receiver [] []) }
@@ -156,8 +156,8 @@ fn counted(count: usize, is_short: bool) -> Option<usize>
     if is_short { None } else { Some(count) }
 }
 
-/// For how many items buffers have to have room where so many more octets are given, or fewer, and at the end, whatever
-/// was given before: as many reports, and as many frames. None where the octets are more than 2^40.
+/// For how many items buffers have to have room where at most `count` more octets are given, and at the end, whatever
+/// was given before: as many reports, and as many frames. None where `count` is above 2^40.
 pub fn items_room(config: &Config, count: usize) -> Option<usize>
     ensures value { result ≡ items_room config.now count }
     ensures most { IfSome result (λ items. items ≤ 2 ^ 45) }
@@ -170,7 +170,7 @@ pub fn items_room(config: &Config, count: usize) -> Option<usize>
     Some((most_found(config, most_bits(config, count as u64)) + batch) as usize)
 }
 
-// How many codeblocks come with so many bits at most, but for the one under way.
+// How many codeblocks come with `bits` bits at most, but for the one under way.
 fn most_found(config: &Config, bits: u64) -> u64
     requires { bits ≤ 2 ^ 44 }
     ensures value { result ≡ most_found config.now bits }
@@ -187,7 +187,7 @@ fn most_found(config: &Config, bits: u64) -> u64
     }
 }
 
-// How many bits come of so many octets at most.
+// How many bits come of `count` octets at most.
 fn most_bits(config: &Config, count: u64) -> u64
     requires { count ≤ most_taken }
     ensures value { result ≡ most_bits config.now count }

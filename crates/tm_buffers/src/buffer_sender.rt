@@ -34,7 +34,7 @@ impl Model for BufferSender {
 }
 
 impl BufferSender {
-    /// A sender that was given nothing yet.
+    /// A new sender.
     pub fn new(config: Config) -> BufferSender
         ensures config { result.config ≡ config }
         ensures fresh { IsSending result [] }
@@ -88,8 +88,8 @@ impl BufferSender {
     }
 }
 
-/// For how many symbols a buffer has to have room where so many more octets are given: one more than come of them at
-/// most. None where they are more than 2^40, which are not taken at a time.
+/// For how many symbols a buffer has to have room where `count` more octets are given: one more than come of them at
+/// most. None where `count` is above 2^40: more octets are not taken at a time.
 pub fn symbols_room(config: &Config, count: usize) -> Option<usize>
     ensures value { result ≡ symbols_room config.now count }
     ensures most { IfSome result (λ room. room ≤ 2 ^ 56) }

@@ -1,5 +1,5 @@
 //! The streams of the codec over buffers: what comes of octets that are given in pieces is written to the start of a
-//! buffer that the caller lends, and how large that has to be is said before. No call here fails but for want of room;
+//! buffer that the caller lends, and how large that has to be is said before. No call here fails but for lack of room;
 //! what takes memory is opened.
 #![tactic(auto)]
 

@@ -40,7 +40,8 @@ pub fn find_in_bits(
     (end, search.next(room))
 }
 
-/// The same of the bits of octets, the most significant bit of each octet first: from bit `from` on.
+/// Takes the bits of octets, the most significant bit of each octet first, from bit `from` on; all else is as for
+/// `find_in_bits`.
 pub fn find_in_octets(
     search: &mut Search,
     room: &mut [u8],
@@ -96,7 +97,7 @@ fn take_some(search: &mut Search, room: &mut [u8], block_bits: u32, octets: &[u8
     1
 }
 
-// How many whole octets may be taken at a time, where so many bits of a codeblock were taken, and so many of an octet.
+// How many whole octets may be taken at a time, where `inside` bits of a codeblock were taken, and `odd` of an octet.
 fn whole_octets(inside: Option<u64>, block_bits: u32, odd: u64) -> usize
     ensures { 0 < result → IsSome inside × (unwrap_or inside 0 + 8 * result ≤ block_bits) × (odd ≡ 0) }
 {

@@ -229,7 +229,7 @@ next_is rules steps kept most keeps = elim (cases_lt kept steps) [
     last : Next
     last = cond (ltb steps (rules.keep + rules.ahead) || ltb 0 rules.ahead) Never May
 
--- a window and those after it keep so many steps that it is the one that is due there, and its
+-- a window is the one that is due where as many steps remain as it and those after it keep, and its
 -- octets come first among those that are kept
 record Leads (rules : Rules) (t : ℕ) (w : Window) (windows : List Window) : Type 0 where
   steps : w.steps ≡ window_steps rules.keep rules.ahead (w.kept + steps_kept windows)

@@ -79,7 +79,8 @@ judged rules before all w back whole over shape bits joined verdict =
 
 -- ---- the parts
 
--- a window may come where so many steps remain: none after the last, and more than those ahead where some were not kept
+-- `remaining` steps may be left: none after the last window, and more than `ahead` after one with
+-- steps that were not kept
 abbrev pub MayCome : ℕ → Next → ℕ → Type 0
 MayCome ahead May remaining = Unit {0}
 MayCome ahead Must remaining = ahead < remaining
@@ -162,8 +163,8 @@ prefix_right octets prefix n m is le fits =
 
 -- ---- the window of a block
 
--- the next window that is due, where so many steps remain and these are their octets: it begins
--- where and as the one before says
+-- the next window that is due, where `remaining` steps remain and these are their octets: it
+-- begins where and as the one before says
 pub record IsDue (rules : Rules) (before : Before) (starts : Option ℕ) (remaining : ℕ) (octets : List ℕ) : Type 0 where
   pub begins : before.starts ≡ starts_of starts
   pub whole : steps_size rules.rate before.t remaining ≤ length octets

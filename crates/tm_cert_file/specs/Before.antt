@@ -29,9 +29,9 @@ pub record Before : Type 0 where
 abbrev pub at_first : Rules → Before
 at_first rules = record { t = 0; starts = rules.starts; octets = []; next = May }
 
--- whether a window comes after one of so many steps, of which so many are kept: where some are not
--- kept; a window of fewer steps than there may be, or with all of its steps kept, is the last;
--- where no steps follow the kept ones nothing says so
+-- whether a window comes after one of `steps` steps, of which `kept` are kept: it must where some
+-- are not kept; where all are, none comes after fewer steps than a window may have, or where
+-- windows have steps ahead; otherwise it may
 abbrev pub next_after : Rules → (steps kept : ℕ) → Next
 next_after rules steps kept =
     if nat_lt kept steps then Must

@@ -9,7 +9,7 @@ use Rattle.tm_viterbi.specs.Settings.{Settings}
 use Rattle.tm_viterbi.specs.WindowBlock.{WindowBlock}
 use Rattle.tm_cert_file.specs.Window.{window_octets}
 
--- the columns for the octets of so many steps from step t: of each register the least cost of a
+-- the columns for the octets of `steps` steps from step t: of each register the least cost of a
 -- path to it, which costs 2^30 more where the path may not start where it does
 pub record AreColumns (rate : Rate) (invert : Bool) (starts : Option ℕ) (t steps : ℕ)
     (octets : List ℕ) (columns : List (List ℕ)) : Type 0 where

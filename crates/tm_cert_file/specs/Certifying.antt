@@ -13,7 +13,7 @@ use Rattle.tm_cert_file.specs.Certificate.{IsCertified, AreCertified}
 abbrev pub most_given : ℕ
 most_given = 256
 
--- how many octets there is room for where windows have so many steps: those of a window; eight, as
+-- how many octets there is room for where windows have `steps` steps: those of a window; eight, as
 -- many as the longest period sends, more than a step after the window sends, and more than stand
 -- before its first step where the symbol phase is sought; and those of a piece
 abbrev pub soft_room : ℕ → ℕ

@@ -10,8 +10,8 @@ use Rattle.tm_viterbi.specs.Blocks.{AreSteps, window_steps, kept_steps}
 use Rattle.tm_cert_file.specs.Window.{Window}
 use Rattle.tm_cert_file.specs.Before.{Rules}
 
--- The window that begins at step t with these octets, where so many steps remain. Its path is a
--- candidate that costs the metric, and no candidate costs less.
+-- The window that begins at step t with these octets, where `remaining` steps remain. Its path
+-- is a candidate that costs the metric, and no candidate costs less.
 pub record IsShown (rules : Rules) (starts : Starts) (t remaining : ℕ) (octets : List ℕ)
     (w : Window) : Type 0 where
   pub steps : w.steps ≡ window_steps rules.keep rules.ahead remaining

@@ -49,8 +49,8 @@ start_in octets = slice_index octets 8
 abbrev pub metric_in : List ℕ → ℕ
 metric_in octets = from_be_bytes w64 (drop 9 octets)
 
--- how many octets come before the soft octets, and before the columns, of a window of so many steps
--- from step t
+-- how many octets come before the soft octets, and before the columns, of a window of `steps`
+-- steps from step t
 abbrev pub bits_end : ℕ → ℕ
 bits_end steps = header_size + steps
 
@@ -61,7 +61,7 @@ soft_end rate t steps = bits_end steps + steps_size rate t steps
 abbrev pub window_size : Rate → ℕ → ℕ → ℕ
 window_size rate t steps = soft_end rate t steps + column_size * (steps + 1)
 
--- the most octets of a window of so many steps, of which each sends at most two symbols
+-- the most octets of a window of `steps` steps, of which each sends at most two symbols
 abbrev pub window_room : ℕ → ℕ
 window_room steps = bits_end steps + 2 * steps + column_size * (steps + 1)
 

@@ -23,7 +23,7 @@ const MOST_WINDOW: u32 = 69_632;
 // The last step of a certificate.
 const LAST_CERTIFIED: u64 = 1 << 44;
 
-// How many symbols so many steps from step t on send.
+// How many symbols `steps` steps from step `t` on send.
 pub(crate) fn span(rate: Rate, t: u64, steps: u64) -> usize
     requires { t + steps ≤ last_certified }
     ensures { result ≡ steps_size rate t steps }

@@ -52,7 +52,7 @@ pub(crate) fn is_joined(starts: Starts, start: u8, octets: &[u8], tail: &[u8]) -
     is_start(starts, start) && octets.starts_with(tail)
 }
 
-/// Whether a window comes after one of so many steps, of which so many are kept.
+/// Whether a window comes after one of `steps` steps, of which `kept` are kept.
 pub(crate) fn next_after(keep: u32, ahead: u32, steps: u32, kept: u32) -> Next
     requires { (keep ≤ most_keep) × (ahead ≤ most_ahead) }
     ensures { (rules : before.Rules) → rules.keep ≡ keep → rules.ahead ≡ ahead

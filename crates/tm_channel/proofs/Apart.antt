@@ -111,7 +111,7 @@ least-more (Some columns) unit count more less =
 
 -- ---- how many places more bits bring
 
--- a place that is searched for is settled by so many bits
+-- the bits of `verify` + 1 codeblocks with their markers settle a place that is searched for
 settled-most : (verify size : ℕ) → settled_by verify size ≤ verify * (32 + size) + (32 + size)
 settled-most zero size = omega arith
 settled-most (suc verify) size = omega arith
@@ -186,7 +186,7 @@ few-at c (Some columns) bits piece most on few =
         ≡ places_with (rules_of c) (Some columns) sound all
     there all = ap (λ k. places_with (rules_of c) k sound all) on
 
--- so many bits more bring so many places, and one more at most
+-- `most` bits more bring at most `most_found c most` + 1 places more
 pub few-found : (c : Configuration) (bits piece : List Bool) (most : ℕ) → length piece ≤ most
     → length (places_in c (bits ++ piece)) ≤ length (places_in c bits) + most_found c most + 1
 few-found c bits piece most few = few-at c (columns_of c) bits piece most refl few

@@ -136,7 +136,7 @@ is-frame = (refl, All-cons (λ octet. octet < 256) 0 [] (omega arith) (All-nil (
 
 -- ---- no marker stands inside a unit
 
--- at none of so many bits 32 bits match
+-- at none of the first `n` bits 32 bits match
 none_match : ℕ → List Bool → Bool
 none_match zero bits = true
 none_match (suc n) [] = false

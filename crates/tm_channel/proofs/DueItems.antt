@@ -14,7 +14,7 @@ use Rattle.tm_channel.specs.Receive.{Receive, ReceiveDue}
 use Rattle.tm_channel.proofs.OnlyItems.{items-same}
 use Rattle.tm_codeblock.proofs.PlacesIn.{places_in-append, places_in-end}
 
--- the places end within so many bits
+-- the codeblocks of these places end within the first `bound` bits
 abbrev pub EndWithin : Configuration → ℕ → List Found → Type 0
 EndWithin c bound fs = AllByRecursion (λ f. f.place + 32 + 8 * codeblock_length c ≤ bound) fs
 

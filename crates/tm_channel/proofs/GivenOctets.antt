@@ -405,13 +405,13 @@ stages-due took s now middle taker_now octets phase piece of grows drained p giv
       refl,
     )
 
--- the octets wait in the first stage
+-- the octets are buffered in the first stage
 kept-coded : (rate : Option Rate) (c : Configuration) (given octets : List ℕ) (blocks : List WindowBlock)
     → is_some rate ≡ true → bits_at rate c (given ++ octets) blocks ≡ bits_at rate c given blocks
 kept-coded None c given octets blocks coded = absurd cc
 kept-coded (Some rate) c given octets blocks coded = refl
 
--- the bits of blocks that wait too
+-- the bits of buffered blocks too
 with-waiting : (rate : Option Rate) (c : Configuration) (given : List ℕ) (blocks waiting : List WindowBlock)
     → (more : List Bool) × (bits_at rate c given (blocks ++ waiting) ≡ bits_at rate c given blocks ++ more)
     × (length more ≤ length (kept_bits waiting))
@@ -422,7 +422,7 @@ with-waiting (Some rate) c given blocks waiting = (
   omega (arith, length-map (kept_bits waiting) (λ bit. bit == 1)),
 )
 
--- the phase is settled, and the blocks that are due and wait keep at most so many bits
+-- the phase is settled, and the blocks that are due and buffered keep at most `spare` bits
 abbrev pub IsWaiting : InnerDecoding → ℕ → Type 0
 IsWaiting d spare = d.has_ended ≡ false → (given : List ℕ) (blocks : List WindowBlock)
     → InnerDecoderStandsFor d given blocks
@@ -430,7 +430,7 @@ IsWaiting d spare = d.has_ended ≡ false → (given : List ℕ) (blocks : List 
     × ((more : List WindowBlock) × (length (kept_bits more) ≤ spare)
     × AreInnerDue d.config (skip_of d.chosen) given (blocks ++ more))
 
--- octets were put in, and wait
+-- octets were put in, and are buffered
 pub record Waits (inner now : InnerDecoding) (octets : List ℕ) (spare : ℕ) : Type 0 where
   pub fills : Fills inner now octets
   pub coded : is_some inner.config.inner ≡ true

@@ -14,7 +14,7 @@ use Rattle.tm_codeblock.proofs.PlacesIn.{sound_in-more, sound_in-rest}
 use Rattle.tm_channel.specs.Receiving.{Agree, AreWritten, Batching, Holding, Holds, HoldsMore, IsReady, StoredCodeblock, stored_at, stored_of}
 use Rattle.tm_channel.proofs.Streaming.{drop-all, found-end, stored-same}
 
--- so many bits are not passed
+-- `recent` has as many bits as are not passed
 pub recent-count : (c : Configuration) (s : Finding) (recent : List Bool) (stored : List StoredCodeblock) (handed : ℕ)
     (bits : List Bool) (found : List Found) → Holding c s recent stored handed bits found
     → s.passed + length recent ≡ length bits

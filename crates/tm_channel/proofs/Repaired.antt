@@ -274,7 +274,7 @@ kept-more f count slots filled now below =
     ∙ ap (λ l. l ++ now ∷ []) (take-set slots count filled))
     ∙ map-append f (take count slots) (now ∷ [])
 
--- the codeblock in the slot after so many, which was filled
+-- the codeblock in the next slot, which was filled
 pub filled-is : (b : Batching) (c : Configuration) (f : Found) (rest : List Bool) (size : ℕ) (filled slot : Slot)
     → size ≡ codeblock_length c → c ≡ b.config → stored_in size filled ≡ stored_of c f (take (8 * size) rest)
     → slot ≡ filled

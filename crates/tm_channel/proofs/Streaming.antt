@@ -173,7 +173,7 @@ due-split c reported fs count least =
     ap (drop count) split ∙ drop-append-le count (due_of c reported) (drop (due_count_of c reported) now)
     (omega (arith, long, least))
 
--- the items handed over are those of the places reported that are due, but for so many of the first
+-- the items handed over are those of the places reported that are due, but for the first `count`
 pub batch-items : (c : Configuration) (s : Finding) (recent : List Bool) (stored stored' : List StoredCodeblock)
     (reported fs : List Found) (bits : List Bool) (count : ℕ) (items others : List ItemValue)
     → Holding c s recent stored (due_count_of c reported) bits (reported ++ fs)

@@ -4,7 +4,7 @@ use Rattle.tm_config.specs.Configuration.{Configuration}
 use Rattle.tm_sync.specs.declared.found.Found.{Found}
 use Rattle.tm_codeblock.specs.ReceivedCodeblock.{places_in}
 
--- of so many items, those that are in whole batches of this size
+-- how many of `count` items are in whole batches of `size` items
 abbrev pub in_batches : ℕ → ℕ → ℕ
 in_batches size count = size * (count / size)
 

@@ -11,9 +11,9 @@ use Rattle.tm_codeblock.specs.ReceivedCodeblock.{rules_of, columns_of}
 use Rattle.tm_channel.specs.Items.{ItemValue, frames_of}
 use Rattle.tm_channel.specs.Receiving.{waiting_bits}
 
--- how many bits come of so many octets, or of none at the end: those of the blocks that wait, of
--- the octets that wait for the phase, of a window and of these octets; with no inner code those
--- that the octets hold
+-- how many bits come of `octets` octets, or of none at the end: those of the buffered blocks, of
+-- the octets buffered until the phase is chosen, of a window and of these octets; with no inner
+-- code those that the octets hold
 abbrev pub most_bits_at : Option Rate → Configuration → ℕ → ℕ
 most_bits_at None c octets = plain_count c octets
 most_bits_at (Some rate) c octets = waiting_bits c c.batch + held_bits c + octets
@@ -21,7 +21,7 @@ most_bits_at (Some rate) c octets = waiting_bits c c.batch + held_bits c + octet
 abbrev pub most_bits : Configuration → ℕ → ℕ
 most_bits c = most_bits_at c.inner c
 
--- how many codeblocks come with so many bits, but for the one under way: as many as there is room
+-- how many codeblocks come with `bits` bits, but for the one under way: as many as there is room
 -- for, and those that the bits verify; where codeblocks are looked for inside others two may lie
 -- nearly in the room of one
 abbrev pub most_found_at : Option Columns → ℕ → ℕ → ℕ → ℕ
@@ -32,9 +32,9 @@ most_found_at (Some columns) unit verify bits =
 abbrev pub most_found : Configuration → ℕ → ℕ
 most_found c = most_found_at (columns_of c) (marker_size + (rules_of c).block_bits) c.verify
 
--- how many items are handed over with so many octets, or at the end: as many as there are
--- codeblocks in these bits, that of the codeblock under way, and those that wait for their batch to
--- be full
+-- how many items are handed over with `octets` octets, or at the end: as many as there are
+-- codeblocks in the bits that come of them, that of the codeblock under way, and those buffered
+-- until their batch is full
 abbrev pub most_items : Configuration → ℕ → ℕ
 most_items c octets = most_found c (most_bits c octets) + c.batch
 

@@ -96,9 +96,9 @@ pub record OctetReceiving : Type 0 where
 abbrev pub ReceiverStandsFor : OctetReceiving → List ℕ → List (Handed ItemValue) → Type 0
 ReceiverStandsFor r = StagesFor r.stages
 
--- Stages that were given these octets have handed over this, and octets were dropped before so many
--- of the windows whose bits were searched. So these windows are all that are due but for those that
--- wait, none with one worker, and the items of just their bits were handed over.
+-- Stages that were given these octets have handed over this, and octets were dropped before `slips`
+-- of the windows whose bits were searched. So these windows are all that are due but for the
+-- buffered ones, none with one worker, and the items of just their bits were handed over.
 abbrev pub AreSlipsSoFar : Configuration → (given : List ℕ) → (done : List (Handed ItemValue)) → ℕ
     → Type 0
 AreSlipsSoFar c given done slips = (s : Stages) × (s.inner.config ≡ c)
@@ -219,20 +219,20 @@ pub record ReceivedLastPart {T : Type 0} (took broke : T → ItemValue → T →
 abbrev pub bits_of_blocks : List WindowBlock → List Bool
 bits_of_blocks blocks = map (λ bit. bit == 1) (kept_bits blocks)
 
--- so many further bits make no item due, whatever they are
+-- up to `count` further bits make no item due, whatever they are
 abbrev pub AreSpare : BitReceiving → ℕ → Type 0
 AreSpare r count = (bits more : List Bool) → BitReceiverStandsFor r bits → length more ≤ count
     → due r.batch.config (bits ++ more) ≡ due r.batch.config bits
 
--- as many as these are spare: one fewer than the codeblocks that the batch lacks have at least with
+-- how many bits are spare: one fewer than the codeblocks that the batch lacks have at least with
 -- their markers, less those that are not passed; none with one worker
 abbrev pub spare_bits : BitReceiving → ℕ
 spare_bits r = waiting_bits r.batch.config (r.batch.config.batch - length r.batch.stored)
     - (length r.recent.bits + 1)
 
--- These octets may not all wait in the first stage: with the first of them put in and no window
--- decoded since there is no room for the others, or with all of them the phase is not chosen, or
--- they close windows that keep more than so many bits.
+-- These octets may not all be buffered in the first stage: with the first of them put in and no
+-- window decoded since there is no room for the others, or with all of them the phase is not
+-- chosen, or they close windows that keep more than `spare` bits.
 abbrev pub MayNotWait : InnerDecoding → List ℕ → ℕ → Type 0
 MayNotWait before octets spare = (now : InnerDecoding) × (count : ℕ)
     × ((given : List ℕ) (blocks : List WindowBlock) → before.has_ended ≡ false

@@ -149,7 +149,7 @@ pub record IsReady (s : Finding) (room : Recent) (b : Batching) : Type 0 where
   pub short : length room.bits < settled_by s.rules.verify s.rules.block_bits
   pub few : length b.stored < b.config.batch
 
--- how many bits so many codeblocks have with their markers at least: two may lie nearly in the room
+-- the fewest bits that `count` codeblocks have with their markers: two may lie nearly in the room
 -- of one, where they are looked for inside others
 abbrev pub least_bits_at : Option Columns → ℕ → ℕ → ℕ
 least_bits_at None unit count = count * unit
@@ -159,8 +159,8 @@ least_bits_at (Some columns) unit count =
 abbrev pub least_bits : Configuration → ℕ → ℕ
 least_bits c = least_bits_at (columns_of c) (marker_size + (rules_of c).block_bits)
 
--- how many bits may wait at most where a batch lacks so many codeblocks: as many as these have at
--- least with their markers, and none where one worker decodes
+-- the most bits that may be buffered where a batch lacks `count` codeblocks: as many as these have
+-- at least with their markers, and none where one worker decodes
 abbrev pub waiting_bits : Configuration → ℕ → ℕ
 waiting_bits c count = if nat_lt 1 c.workers then least_bits c count else 0
 

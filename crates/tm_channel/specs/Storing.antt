@@ -10,7 +10,7 @@ use Rattle.tm_channel.specs.Items.{ItemValue, AreNearest, is_given}
 use Rattle.tm_channel.specs.Receiving.{StoredCodeblock}
 use Rattle.tm_channel.specs.declared.slot.Slot.{Slot}
 
--- the codeblock of so many octets in a slot
+-- the codeblock in a slot, of `size` octets
 abbrev pub stored_in : ℕ → Slot → StoredCodeblock
 stored_in size slot = record { found = slot.found; codeblock = take size slot.octets }
 
@@ -27,8 +27,8 @@ item_in c slot = record {
 abbrev pub answers_of : List Word → List Answer
 answers_of words = map (λ (w : Word). unwrap_or w.answer Beyond) words
 
--- the words of a codeblock, of so many columns, by its number: those of all codeblocks stand one
--- after the other
+-- the words of codeblock `index`, one for each of its `count` columns: those of all codeblocks
+-- stand one after the other
 abbrev pub words_at : ℕ → List Word → ℕ → List Word
 words_at count words index = take count (drop (index * count) words)
 

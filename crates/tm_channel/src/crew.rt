@@ -15,7 +15,7 @@ pub trait ReceiverCrew: Crew {
     /// What a call that decodes codewords needs to be known of it.
     ghost can_decode: { Self → Type 0 };
 
-    /// Decodes each word in its place, as `decode_batch` does, by at most so many workers.
+    /// Decodes each word in its place, as `decode_batch` does, by at most `workers` workers.
     fn decode_words(
         &self,
         alloc: Global,

@@ -82,7 +82,7 @@ impl Model for Receiver {
 }
 
 impl Receiver {
-    /// The receiver of a configuration, which was given nothing yet. It fails only where there isn't enough memory.
+    /// A new receiver of a configuration. It fails only where there isn't enough memory.
     pub fn open(alloc: Global, config: Config) -> Result<Receiver, NoMemory>
         ensures config { IfOk result (λ r. r.config ≡ config) }
         ensures fresh { IfOk result (λ r. r.has_stopped ≡ false) }
@@ -94,7 +94,8 @@ impl Receiver {
         Receiver::open_for(alloc, config, config.workers() as u8)
     }
 
-    /// The same with windows of the inner code for so many workers, 1 to 64, whatever the configuration says.
+    /// A new receiver with windows of the inner code for `workers` workers, 1 to 64, whatever the configuration says.
+    /// It fails only where there isn't enough memory.
     pub fn open_for(alloc: Global, config: Config, workers: u8) -> Result<Receiver, NoMemory>
         requires workers { (0 < workers) × (workers ≤ most_workers) }
         ensures config { IfOk result (λ r. r.config ≡ config) }

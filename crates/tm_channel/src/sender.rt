@@ -39,7 +39,7 @@ impl Model for Sender {
 }
 
 impl Sender {
-    /// A sender that was given nothing yet.
+    /// A new sender of a configuration.
     pub fn new(config: Config) -> Sender
         ensures config { result.config ≡ config }
         ensures fresh { result.inner.has_failed ≡ false }

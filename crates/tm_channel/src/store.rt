@@ -186,7 +186,7 @@ impl Codeblocks {
     }
 }
 
-/// How many bits may wait at most where a batch lacks so many codeblocks: as many as these have at least with their
+/// The most bits that may be buffered where a batch lacks `count` codeblocks: as many as these have at least with their
 /// markers, and none where one worker decodes.
 pub fn waiting_bits(config: &Config, count: u64) -> u64
     requires some { 0 < count }
@@ -201,7 +201,7 @@ pub fn waiting_bits(config: &Config, count: u64) -> u64
     }
 }
 
-// How many bits so many codeblocks have at least with their markers: two may lie nearly in the room of one, where they
+// The fewest bits that `count` codeblocks have with their markers: two may lie nearly in the room of one, where they
 // are looked for inside others.
 fn least_bits(config: &Config, count: u64) -> u64
     requires some { 0 < count }

@@ -81,7 +81,7 @@ fn push_inverted(rt: &impl Abort, recent: &mut RecentBits)
     push_octets(rt, recent, &[0x03, 0xE3], 0);
 }
 
-// There are so many bits, and so many octets fit after them.
+// There are `count` bits, and `free` octets fit after them.
 fn check_count(rt: &impl Abort, recent: &RecentBits, count: usize, free: usize) {
     assert!(rt; recent.count() == count);
     assert!(rt; recent.free() == free);

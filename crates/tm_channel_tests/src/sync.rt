@@ -79,7 +79,7 @@ fn searched(
     Ok((found, search.finish()))
 }
 
-// A search finds just these places, and so many bits are left after the last one's codeblock.
+// A search finds just these places, and `left` bits are left after the last one's codeblock.
 fn check_search(
     rt: &impl Abort,
     alloc: Global,
@@ -269,8 +269,8 @@ fn inside_counts_after_each_kind_of_marker(rt: HostRuntime) -> Result<(), Fail> 
     Ok(())
 }
 
-// The next bit, after which so many are given: the last of each 40 ends a codeblock, and the marker of the second is
-// missing.
+// Pushes the next bit, with which `given` bits are pushed: the last of each 40 ends a codeblock, and the marker of the
+// second is missing.
 fn check_bit(rt: &impl Abort, search: &mut Search, bit: bool, given: u64) {
     assert!(rt; !search.pending());
     search.push_bit(&mut [], bit);
@@ -489,7 +489,7 @@ fn place_that_further_markers_verify_is_found_with_those_after_it(
     Ok(())
 }
 
-// The same bits up to the marker that verifies the first of the run.
+// The bits of the test above, up to the marker that verifies the first codeblock of the run.
 #[test]
 fn place_is_found_with_the_marker_that_verifies_it(rt: HostRuntime) -> Result<(), Fail> {
     let bits = bits_of(
@@ -540,7 +540,7 @@ fn check_places(
     Ok(())
 }
 
-// The same by all rules of a tolerance.
+// A search finds the places of the definition in the bits of a seed, by six rules of a tolerance.
 fn check_tolerance(
     rt: &impl Abort,
     alloc: Global,
@@ -592,7 +592,7 @@ fn push_octet(rt: &impl Abort, search: &mut Search, octet: u8)
     search.push_octet(octet);
 }
 
-// The same of four octets.
+// Pushes four octets, of which none makes a codeblock of 33 bits whole.
 fn push_four(rt: &impl Abort, search: &mut Search, octets: [u8; 4])
     requires block { search.old.rules.block_bits ≡ 33 }
     requires alone { search.old.rules.verify ≡ 0 }

@@ -112,7 +112,7 @@ status-small SourceFault = omega arith
 status-small SinkFault = omega arith
 status-small PastLimit = omega arith
 
--- want of memory and refused words are no endings
+-- no ending has status 2, of refused words, or 5, of no memory
 pub never-two_or_five : (e : Ending) → (status_of e ≡ 2) ⊎ (status_of e ≡ 5) → ⊥
 never-two_or_five Done is = omega (arith, is)
 never-two_or_five Bad is = omega (arith, is)

@@ -14,7 +14,7 @@ use Rattle.tm_codeblock.specs.Cadu.{sent_codeblock}
 abbrev pub generator_of : ℕ → Lcg
 generator_of seed = started 64 multiplier_64 seed (increment_of 64 0)
 
--- a generator after so many draws
+-- a generator after `count` draws
 abbrev pub drawn : ℕ → Lcg → Lcg
 drawn count g = advance 64 multiplier_64 count g
 
@@ -22,7 +22,7 @@ drawn count g = advance 64 multiplier_64 count g
 abbrev pub draw : Lcg → ℕ → ℕ
 draw g index = (pcg32 (drawn index g)).0
 
--- a frame of so many octets: the low eight bits of a draw each
+-- a frame of `count` octets: the low eight bits of a draw each
 unfoldable pub drawn_octets : ℕ → Lcg → List ℕ
 drawn_octets count g = map (λ index. draw g index % 256) (range_with_len 0 count)
 
@@ -30,7 +30,7 @@ drawn_octets count g = map (λ index. draw g index % 256) (range_with_len 0 coun
 abbrev pub changed : (place change : ℕ) → List ℕ → List ℕ
 changed place change octets = slice_set octets place (bit_xor (slice_index octets place) change)
 
--- A codeblock with so many changes in a column. The first draw says at which symbol of the column
+-- A codeblock with `hits` changes in a column. The first draw says at which symbol of the column
 -- they begin; they stand one after the other, and after the last symbol they go on at the first.
 -- Each has a draw of its own for the bits that it complements, one at least.
 unfoldable pub changed_column : Configuration → (column hits : ℕ) → Lcg → List ℕ → List ℕ
@@ -41,7 +41,8 @@ changed_column c column (suc k) g codeblock =
     changed (column + c.depth * ((first + k) % word_length c)) (1 + own % 255)
     (changed_column c column k g codeblock)
 
--- the same of each of so many columns, whose draws stand one after the other
+-- a codeblock with `hits` changes in each of its first `columns` columns, whose draws stand one
+-- after the other
 unfoldable pub changed_columns : Configuration → (columns hits : ℕ) → Lcg → List ℕ → List ℕ
 changed_columns c zero hits g codeblock = codeblock
 changed_columns c (suc column) hits g codeblock = changed_column c column hits (drawn
@@ -58,7 +59,7 @@ generated_unit c hits g =
 abbrev pub draw_count : Configuration → (hits : ℕ) → ℕ
 draw_count c hits = c.frame_length + c.depth * (hits + 1)
 
--- the units of so many frames, one after the other, of a generator that runs on over all of them
+-- the units of `frames` frames, one after the other, of a generator that runs on over all of them
 unfoldable pub generated_units : Configuration → (frames hits : ℕ) → Lcg → List ℕ
 generated_units c zero hits g = []
 generated_units c (suc frame) hits g = generated_units c frame hits g ++ generated_unit c hits

@@ -40,7 +40,8 @@ items_text number [] = []
 items_text number (Phase skip cost ∷ handed) = phase_text skip cost ++ items_text number handed
 items_text number (Item item ∷ handed) = item_text number item ++ items_text (number + 1) handed
 
--- how many codeblocks these are, how many symbols were repaired in them, and so many bits
+-- the line of these codeblocks: how many are good and how many bad, how many symbols were repaired
+-- in them, and how many bits were received
 abbrev pub counts_text : List ItemValue → ℕ → List ℕ
 counts_text items bits = report_end_text (good items) (bad items) (fixed items) bits
 

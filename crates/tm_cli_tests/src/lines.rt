@@ -153,7 +153,7 @@ fn after(blocks: u64, bits: u64) -> Tally {
     Tally { blocks, bits }
 }
 
-// So many bits, where the symbol phase is not followed.
+// The totals of `bits` bits, where the symbol phase is not followed.
 fn plain(bits: u64) -> Totals {
     Totals { bits, slips: None }
 }

@@ -25,7 +25,7 @@ fn octet_of(bits: &[u8]) -> u8
     octet
 }
 
-/// How many of so many bits to pack at once: those of whole octets, up to `most` of these, or fewer than eight.
+/// How many of `left` bits to pack at once: those of whole octets, up to `most` of these, or fewer than eight.
 pub fn run_length(left: usize, most: usize) -> usize
     requires left { 0 < left }
     requires octets { (0 < most) × (most ≤ 4096) }

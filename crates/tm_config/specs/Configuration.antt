@@ -28,7 +28,7 @@ use Rattle.tm_config.specs.declared.values.Sought.TheVariants.{Given, Find}
 abbrev pub deepest : ℕ
 deepest = 8
 
--- the most octets of a codeblock: those of so many of the longest words
+-- the most octets of a codeblock: those of `deepest` words of the greatest length
 abbrev pub longest_codeblock : ℕ
 longest_codeblock = deepest * longest_word
 

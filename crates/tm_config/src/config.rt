@@ -294,7 +294,7 @@ impl Config {
         number_of_switch(self.values.pass_bad)
     }
 
-    /// The same configuration, but that a phase which is to be found is not followed.
+    /// A copy of the configuration in which a phase that is to be found is not followed.
     pub fn unfollowed(&self) -> Config
         ensures value { result ≡ unfollowed self.now }
         ensures accepted { IsAccepted result }

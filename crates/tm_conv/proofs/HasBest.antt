@@ -13,7 +13,7 @@ use Rattle.tm_conv.proofs.Sizes.{same_from_steps_size}
 use Rattle.tm_conv.proofs.Paths.{length-path}
 use Rattle.tm_conv.proofs.DictionaryOrder.{value, value_lt, IsLexLe-from_value, register_bits_small, All-reverse}
 
--- ---- the least of so many bits
+-- ---- the least list of n bits
 
 -- of the lists of n bits, one for which a number is least
 record LeastBits (n : ℕ) (key : List ℕ → ℕ) : Type 0 where

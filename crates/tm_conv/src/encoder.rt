@@ -39,8 +39,7 @@ impl Model for Encoder {
 }
 
 impl Encoder {
-    /// An encoder that was given nothing yet: register 0 at step 0. Where `invert` is set each second sum is sent
-    /// inverted.
+    /// A new encoder: register 0 at step 0. Where `invert` is set each second sum is sent inverted.
     pub fn new(rate: Rate, invert: bool) -> Encoder
         ensures rate { result.rate ≡ rate }
         ensures invert { result.invert ≡ invert }

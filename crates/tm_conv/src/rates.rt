@@ -31,7 +31,7 @@ fn c1_pattern(rate: Rate) -> &'static [u8]
     }
 }
 
-// The same of the second sum.
+// Which steps of a period send the second sum: 1 where it is sent.
 fn c2_pattern(rate: Rate) -> &'static [u8]
     ensures { result.now ≡ c2_pattern rate }
 {

@@ -7,7 +7,8 @@ ghost use Rattle.tm_driver.specs.Statuses.{ending_at_end, ending_of_stop, status
 pub enum Ending {
     /// The input, where the command has one, was read to its end, and all is written.
     Done,
-    /// The same, and a word, or a column of a codeblock that was received, is uncorrectable.
+    /// All is read and written as for `Done`, and a word, or a column of a codeblock that was received, is
+    /// uncorrectable.
     Bad,
     /// A window of a certificate fails. What was written comes before it, and nothing more was read.
     BadWindow,

@@ -13,13 +13,14 @@ pub trait Feed {
     /// From the first value to the second exactly these octets were fed.
     ghost fed: { Self → Self → List ℕ → Type 0 };
 
-    /// The same, but it stopped in the midst of what these octets write.
+    /// From the first value to the second exactly these octets were fed, but it stopped in the midst of what they
+    /// write.
     ghost stopped: { Self → Self → List ℕ → Stop → Type 0 };
 
     /// From the first value to the second the end was given, with this outcome.
     ghost finished: { Self → Self → Outcome → Type 0 };
 
-    /// The same, but a sink failed in the midst of what is written at the end.
+    /// From the first value to the second the end was given, but a sink failed in the midst of what is written then.
     ghost failed: { Self → Self → Type 0 };
 
     /// From the first value to the second just one of its sinks failed, or none did.

@@ -22,7 +22,8 @@ const ERASED_ZEROS: ErasedWord = ErasedWord {
     answer: None,
 };
 
-// Holds the worker of one number until so many others have entered, and notes whether they ended it.
+// Holds the worker that enters with `number` until there were `others` entries with other numbers, and notes in `freed`
+// whether these ended the hold.
 #[derive(Drop)]
 pub struct Holding {
     number: u32,

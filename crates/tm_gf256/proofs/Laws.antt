@@ -79,7 +79,7 @@ times-steps zero a b h l = refl
 times-steps (suc i) a b h l =
     times-times_x (steps i a) b (steps-lt i a h) l ∙ ap times_x (times-steps i a b h l)
 
--- a product is so many steps
+-- the product of a and b is b after `log_of a` steps
 pub times-log : (a b : ℕ) → a < 256 → b < 256 → a ≢ 0 → times a b ≡ steps (log_of a) b
 times-log a b h l ne =
     ap (λ (y : ℕ). times y b) (sym (steps-log a h ne)) ∙ times-steps (log_of a) 1 b (omega arith) l

@@ -67,7 +67,7 @@ pub fn derivative_into(poly: &[Gf], out: &mut [Gf])
     }
 }
 
-// The sum of so many copies of an element, of which each two make 0.
+// The sum of `count` copies of an element, of which each two make 0.
 fn repeated(count: usize, c: Gf) -> Gf
     ensures { result.0 ≡ copies count c.0 }
 {

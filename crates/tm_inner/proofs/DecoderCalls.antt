@@ -115,7 +115,7 @@ settles-plain c count has_phase ended none = λ given blocks s.
 
 -- ---- fill
 
--- it took so many of the octets
+-- it took the first `taken` of the octets
 abbrev pub Takes : InnerDecoding → InnerDecoding → ℕ → List ℕ → Type 0
 Takes d now taken octets =
     (given : List ℕ) (blocks : List WindowBlock) → length given + taken < 2 ^ 60

@@ -61,7 +61,7 @@ pub first-of-due : (c : Configuration) (phase : ℕ) (octets : List ℕ) (blocks
     → AreInnerDue c phase octets blocks → AreInnerFirst c phase octets blocks
 first-of-due c = due-is-first c.inner c
 
--- ---- the blocks of a window and of so many octets more keep no more bits than these have
+-- ---- blocks not due yet keep a bit at most for each step of a window and each octet more
 
 more-at : (rate : Rate) (c : Configuration) (phase : ℕ) (given octets : List ℕ) (done all : List WindowBlock)
     → DueAt (Some rate) c phase given done → FirstAt (Some rate) c phase (given ++ octets) all

@@ -128,7 +128,7 @@ followed-whole_few w octets blocks left h =
 
 -- ---- blocks of further octets keep few bits more than those that are due
 
--- so many steps have as many octets at least
+-- a step has an octet at least, so fewer than `count` octets more are fewer than `count` steps more
 few-steps : (s : Settings) (t m k count : ℕ) → steps_size s.rate t m < steps_size s.rate t (k + 1) + count
     → m ≤ k + count
 few-steps s t m k count less = elim (cases_lt (k + count) m) as (λ _. m ≤ k + count) [

@@ -70,7 +70,7 @@ skip-most : (rate : Option Rate) (c : Configuration) → skipped_at rate c ≤ c
 skip-most None c = omega arith
 skip-most (Some rate) c = omega arith
 
--- with so many octets that no more are counted the phase is settled
+-- with 2^60-1 octets or more the phase is settled
 pub many-settled : (c : Configuration) → IsAccepted c → (octets : List ℕ) → 2 ^ 60 ≤ length octets + 1
     → IsSettled c octets
 many-settled c ok octets many = inr (omega (

@@ -41,8 +41,8 @@ pub record Feeds {R : Type 0} (before now : InnerReceiving) (octets : List ℕ)
       → InnerReceiverStandsFor before given done
       → AreHandedFirst before.config (given ++ octets) (done ++ tried))
 
--- at the end what is left was handed over, or the first of it until the taker failed; so many bits
--- were received, octets were dropped so often, and so many are left over
+-- at the end what is left was handed over, or the first of it until the taker failed; the result
+-- has how many bits were received, how often octets were dropped, and how many are left over
 pub record Finishes (before now : InnerReceiving) (taker : TakerCall (Handed WindowBlock))
     (result : Result InnerEnd FeedError) : Type 0 where
   pub call : Calls before now taker result

@@ -77,7 +77,7 @@ plain_bits_by false c octets = map (nearest_bit c) octets
 abbrev pub plain_bits : Configuration → List ℕ → List Bool
 plain_bits c = plain_bits_by c.pack c
 
--- how many bits so many octets hold
+-- how many bits `octets` octets hold
 abbrev pub plain_count : Configuration → ℕ → ℕ
 plain_count c octets = if c.pack then 8 * octets else octets
 

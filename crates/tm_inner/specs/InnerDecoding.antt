@@ -40,7 +40,7 @@ GoesWith (Some queue) count has_ended = (queue.has_ended ≡ has_ended) × (reac
     × (reached queue < stream_bound)
 
 -- it has as many workers as it was opened for, and windows at a time for these and for the bits that
--- may wait
+-- may be buffered
 abbrev pub HasWorkers : (workers waiting : ℕ) → Option Queueing → Type 0
 HasWorkers workers waiting None = Unit {0}
 HasWorkers workers waiting (Some queue) = SharesAmong workers waiting queue
@@ -77,7 +77,7 @@ pub record InnerDecoderStandsFor (d : InnerDecoding) (given : List ℕ)
   pub choice : ((d.chosen ≡ None) × (blocks ≡ []) × (d.has_ended ≡ false)) ⊎
       IsChosenBy d.config (phase_octets d.config given) d.chosen
 
--- all octets were given and decoded, and so many octets are left over
+-- all octets were given and decoded, and `left` octets are left over
 abbrev pub EndsFor : Option Queueing → List ℕ → List WindowBlock → ℕ → Type 0
 EndsFor None soft blocks left = (blocks ≡ []) × (left ≡ 0)
 EndsFor (Some queue) soft blocks left = QueueEndsFor queue soft blocks left
@@ -87,12 +87,13 @@ abbrev pub ready_in : Option Queueing → List WindowBlock
 ready_in None = []
 ready_in (Some queue) = queue.ready
 
--- so many octets are left of those that were to be put in: none, or there is no room for one more
+-- `left` octets are left of those that were to be put in: none, or there is no room for one more
 abbrev pub HasFilled : Option Queueing → ℕ → Type 0
 HasFilled None left = left ≡ 0
 HasFilled (Some queue) left = (left ≡ 0) ⊎ (fill_room queue ≤ length queue.held)
 
--- what is held closes windows that keep more bits than so many
+-- the queue, where there is one, awaits its phase, or what it holds closes windows that keep more
+-- than `bits` bits
 abbrev pub HoldsMore : Option Queueing → ℕ → Type 0
 HoldsMore None bits = Unit {0}
 HoldsMore (Some queue) bits = AwaitsPhase queue ⊎ ((count : ℕ) × HoldsRun queue count

@@ -36,7 +36,7 @@ abbrev pub needed_at : Option Rate → Configuration → ℕ
 needed_at None c = 1
 needed_at (Some rate) c = octets_needed rate (c.keep + c.ahead)
 
--- how many bits come at most of the octets that wait for the phase and of a window
+-- how many bits come at most of the octets buffered for the phase and of a window
 abbrev pub held_bits : Configuration → ℕ
 held_bits c = 3 * (c.keep + c.ahead) + most_period
 

@@ -44,7 +44,7 @@ pub fn shape_of(rate: Rate, config: &Config) -> WindowShape
     }
 }
 
-/// How many bits come at most of the soft octets that wait for the symbol phase and of a window, whatever the rate.
+/// How many bits come at most of the soft octets buffered for the symbol phase and of a window, whatever the rate.
 pub fn held_bits(config: &Config) -> u64
     ensures value { result ≡ held_bits config.now }
     ensures most { result ≤ 2 ^ 18 }
@@ -53,7 +53,7 @@ pub fn held_bits(config: &Config) -> u64
     3 * (config.keep() + config.ahead()) + 7
 }
 
-// The encoder of the inner code, which was given nothing yet, or None where there is none.
+// A new encoder of the inner code, or None where there is no inner code.
 pub fn encoder_of(config: &Config) -> Option<Encoder>
     ensures of { IsEncoderOf config.now result }
     ensures stands { KeepsFor result [] }

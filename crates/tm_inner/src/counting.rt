@@ -5,7 +5,7 @@ ghost use Rattle.tm_inner.specs.Inner.{plain_count};
 use crate::code::is_packed;
 use tm_config::Config;
 
-// How many bits so many octets hold where there is no inner code, up to 2^64-1.
+// How many bits `octets` octets hold where there is no inner code, up to 2^64-1.
 pub fn plain_count(config: &Config, octets: u64) -> u64
     ensures { result ≡ min (plain_count config.now octets) (2 ^ 64 - 1) }
 {

@@ -99,9 +99,8 @@ impl Model for InnerDecoder {
 }
 
 impl InnerDecoder {
-    /// The decoder of a configuration for 1 to 64 workers, which was given nothing yet. It has room to buffer windows
-    /// that keep up to `waiting` bits, or as many as the workers decode at a time. It fails only where there isn't
-    /// enough memory.
+    /// Opens a decoder of a configuration for 1 to 64 workers, with room to buffer windows that keep up to `waiting`
+    /// bits, or as many as the workers decode at a time. It fails only where there isn't enough memory.
     pub fn open(
         alloc: Global,
         config: &Config,
@@ -124,8 +123,8 @@ impl InnerDecoder {
         })
     }
 
-    /// Takes of the next octets the first ones, all or so many that it has no room for all others, decodes none, and
-    /// answers how many. With no inner code it takes all. The octets given in all are to be below 2^60.
+    /// Takes the next octets, or the first of them until there is no room for one more, decodes none, and returns how
+    /// many it took. With no inner code it takes all. The octets given in all are to be below 2^60.
     pub fn fill(&mut self, octets: &[u8]) -> usize
         ensures config { self.new.config ≡ self.old.config }
         ensures most { result ≤ length octets.now }
@@ -272,7 +271,8 @@ impl InnerDecoder {
         }
     }
 
-    /// Whether what the next call of `decode` would decode keeps at most so many bits, and it would choose no phase.
+    /// Whether no symbol phase is still to be chosen, and the octets held, with none of them dropped, close windows
+    /// that keep at most `bits` bits. With no inner code false.
     pub fn may_wait(&self, bits: u64) -> bool
         ensures waits { IsTrue result → self.now.has_ended ≡ false → (given : List ℕ) (blocks : List WindowBlock)
             → InnerDecoderStandsFor self.now given blocks → IsSettled self.now.config given
@@ -372,8 +372,8 @@ impl InnerDecoder {
         self.octets_to_skip(octets.len())
     }
 
-    /// How many of the next octets, so many, may be given: in all they are below 2^60. With one more given the symbol
-    /// phase is settled.
+    /// How many of the next `count` octets may be given: in all they are below 2^60. Once no more may be given, the
+    /// symbol phase is settled.
     pub fn within(&self, count: usize) -> usize
         ensures value { result ≡ min count (stream_bound - 1 - self.now.count) }
         ensures settles { (octets : List ℕ) → stream_bound ≤ length octets + 1 → IsSettled self.now.config octets }
@@ -382,7 +382,7 @@ impl InnerDecoder {
         left.min(count as u64) as usize
     }
 
-    // How many of the next octets, so many, are still to be skipped; with no inner code none, as bits are.
+    // How many of the next `count` octets are still to be skipped; with no inner code none, as bits are skipped then.
     fn octets_to_skip(&self, count: usize) -> usize
         ensures { result ≡ min (skipped_at self.now.config.inner self.now.config - self.now.count) count }
     {

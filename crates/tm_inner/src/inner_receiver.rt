@@ -54,8 +54,7 @@ impl Model for InnerReceiver {
 }
 
 impl InnerReceiver {
-    /// The inner receiver of a configuration, which was given nothing yet. It fails only where there isn't enough
-    /// memory.
+    /// Opens an inner receiver of a configuration. It fails only where there isn't enough memory.
     pub fn open(alloc: Global, config: &Config) -> Result<InnerReceiver, NoMemory>
         ensures config { IfOk result (λ r. r.config ≡ config.now) }
         ensures fresh { IfOk result (λ r. r.has_stopped ≡ false) }
@@ -187,7 +186,7 @@ impl InnerReceiver {
     }
 }
 
-// Puts octets in, those that are below 2^60 with those before, and hands over what is due with them.
+// Puts the first octets in, up to 2^60-1 with those before, and hands over what is due with them.
 fn take<B: BlockTaker>(
     decoder: &mut InnerDecoder,
     octets: &[u8],
@@ -209,7 +208,7 @@ fn take<B: BlockTaker>(
     take_within(decoder, &octets[..within], blocks)
 }
 
-// The same of octets that are fewer than 2^60 with those before.
+// Puts octets in, fewer than 2^60 with those before, and hands over what is due with them.
 fn take_within<B: BlockTaker>(
     decoder: &mut InnerDecoder,
     octets: &[u8],

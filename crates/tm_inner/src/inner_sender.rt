@@ -51,7 +51,7 @@ impl Model for InnerSender {
 }
 
 impl InnerSender {
-    /// The inner sender of a configuration, which was given nothing yet.
+    /// A new inner sender of a configuration.
     pub fn new(config: &Config) -> InnerSender
         ensures config { result.config ≡ config.now }
         ensures fresh { result.has_failed ≡ false }

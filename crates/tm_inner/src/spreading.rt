@@ -15,7 +15,7 @@ pub fn spread(low: u8, octets: &[u8], room: &mut [u8])
     }
 }
 
-// The same of one octet.
+// An octet for each bit of an octet: `low` for a 0, and for a 1 its complement.
 fn spread_octet(low: u8, octet: u8) -> [u8; 8]
     ensures { result ≡ levels low (bit_numbers (bits_of_octet octet)) }
 {

@@ -96,7 +96,7 @@ const DEFAULT: Link = Link {
     ahead: 256,
 };
 
-// The octets of each piece: always so many, or drawn, from none to 69, by a sequence from this number on.
+// The octets of each piece: a fixed number, or drawn, from none to 69, by a sequence from this number on.
 #[derive(Clone, Copy, Debug)]
 enum Cuts {
     Even(usize),
@@ -178,7 +178,7 @@ fn decoded(
     Ok((blocks, left))
 }
 
-// The same at once.
+// Decodes the octets in one call: the blocks, and the octets left over.
 fn decoded_at_once(
     rt: &impl Abort,
     alloc: Global,
@@ -314,7 +314,7 @@ fn short_inputs(rt: HostRuntime) -> Result<(), Fail> {
     check_only(&rt, rt.alloc(), ANY, [0x00, 0x00], 2, (2, 0, 1))
 }
 
-// The only block of two octets in pieces of so many: where its path starts, its first bit, and its last register.
+// The only block of two octets in pieces of `size`: where its path starts, its first bit, and its last register.
 fn check_only(
     rt: &impl Abort,
     alloc: Global,
@@ -616,7 +616,7 @@ fn best_of_all_candidates(rt: HostRuntime) -> Result<(), Fail> {
     Ok(())
 }
 
-// A window of so many steps, whose octets are drawn.
+// A window of `steps` steps, whose octets are drawn.
 fn check_candidates(
     rt: &impl Abort,
     alloc: Global,

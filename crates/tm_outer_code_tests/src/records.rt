@@ -40,14 +40,14 @@ fn record_of(zeros: usize, erased: usize) -> [u8; 66] {
     octets
 }
 
-// Takes so many octets of a piece.
+// The records take `count` octets of a piece.
 fn take(rt: &impl Abort, records: &mut Records, piece: &[u8], count: usize)
     ensures { records.new.coding ≡ records.old.coding }
 {
     assert!(rt; records.take(piece) == count);
 }
 
-// Decodes so many records.
+// Decodes the records, of which there are `count`.
 fn decode(rt: &(impl Abort + Threads + Sync), records: &mut Records, count: usize)
     ensures { records.new.coding ≡ records.old.coding }
 {

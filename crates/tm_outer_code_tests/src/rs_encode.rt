@@ -47,7 +47,7 @@ fn one_symbol(rt: HostRuntime) {
     );
 }
 
-// The same of the (255,239) code.
+// The one information symbol 1 gives the coefficients of the (255,239) code's generator polynomial after its first.
 #[test]
 fn one_symbol_of_the_short_code(rt: HostRuntime) {
     let params = Params::new(8, 17).unwrap();

@@ -73,7 +73,7 @@ fn located<L: Ledger>(
     solve(params, syndromes, steps)
 }
 
-// The same with erased places.
+// The solution where places are erased, with its bounds on steps as numbers.
 fn located_with<L: Ledger>(
     params: &Params,
     syndromes: &[Gf; 32],
@@ -106,7 +106,7 @@ fn test_places<L: Ledger>(
     check_found(rt, row, found);
 }
 
-// The same by the call without erased places.
+// The locator of a row by `solve`, which takes no erased places.
 fn test_plain<L: Ledger>(
     rt: &impl Abort,
     row: &Row<'_>,
@@ -118,7 +118,7 @@ fn test_plain<L: Ledger>(
     check_found(rt, row, found);
 }
 
-// The same by the call that gives the locator's values too.
+// The locator of a row by `locate`, which gives the locator's values too.
 fn test_values<L: Ledger>(
     rt: &impl Abort,
     row: &Row<'_>,

@@ -85,7 +85,7 @@ fn decode<L: Ledger>(params: &Params, repair: u8, word: &mut [Gf], steps: &mut S
     decode_word(params, repair, word, steps)
 }
 
-// The same with erased places.
+// The decoder of words with erased places, with its bounds on steps as numbers.
 fn decode_with<L: Ledger>(
     params: &Params,
     repair: u8,
@@ -132,7 +132,7 @@ fn test_places<L: Ledger>(
     check_decoded(rt, row, answer, &left, wanted);
 }
 
-// The same by the call without erased places.
+// The answer of a row, and the word that is left, by `decode_word`, which takes no erased places.
 fn test_plain<L: Ledger>(
     rt: &impl Abort,
     row: &Row<'_>,

@@ -40,13 +40,13 @@ all_bits blocks = map is_one (kept_bits blocks)
 all_bits-append : (xs ys : List WindowBlock) → all_bits (xs ++ ys) ≡ all_bits xs ++ all_bits ys
 all_bits-append xs ys = ap (map is_one) (kept-append xs ys) ∙ map-append is_one (kept_bits xs) (kept_bits ys)
 
--- the phase that waits after what was handed over
+-- the phase that is buffered after what was handed over
 abbrev phase_after : Option Chosen → List (Handed WindowBlock) → Option Chosen
 phase_after chosen [] = chosen
 phase_after chosen (Phase skip cost ∷ handed) = phase_after (Some record { skip = skip; cost = cost }) handed
 phase_after chosen (Item block ∷ handed) = phase_after chosen handed
 
--- what waits then
+-- what is buffered then
 record Waits (before now : Packing) (more : List (Handed WindowBlock)) : Type 0 where
   room : now.room ≡ before.room
   phase : now.phase ≡ phase_after before.phase more

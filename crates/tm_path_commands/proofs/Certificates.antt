@@ -146,7 +146,7 @@ soft-small c phase octets small =
     (All-weaker (λ v. v < 256) (λ v. soft_value c v < 256) (soft-octet c) after
     (All-drop (λ v. v < 256) phase (drop c.skip octets) (All-drop (λ v. v < 256) c.skip octets small)))
 
--- a certificate is whole, and its windows are of these blocks, which keep so many bits
+-- a certificate is whole; its windows are of these blocks, and keep as many bits as are received
 record Certifies (c d : Configuration) (given octets : List ℕ) (blocks : List WindowBlock) (rate : Rate) : Type 0 where
   windows : List Window
   whole : IsWhole (rules_of c rate) octets windows

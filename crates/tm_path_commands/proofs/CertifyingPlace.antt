@@ -168,8 +168,8 @@ pub record Stood (c : Configuration) (rate : Rate) (now : Certifying) (octets : 
   pub is_room : now.room ≡ soft_room (c.keep + c.ahead)
   pub stood : StoodWaiting c rate now octets handed text ⊎ StoodGoing c rate now octets handed text
 
--- from where the windows of what is handed over after are written, with so many octets skipped,
--- once these are all of the blocks
+-- from where the windows of what is handed over after are written, with `skip` octets skipped, once
+-- these are all of the blocks
 pub record From (c : Configuration) (rate : Rate) (given : Certifying) (octets : List ℕ) (skip : ℕ)
     (all : List WindowBlock) (more : List (Handed WindowBlock)) (text : List ℕ) : Type 0 where
   pub items : List WindowBlock

@@ -87,15 +87,15 @@ bits_meaning c = record {
 
 -- ---- how far it is written
 
--- what contracts see of bits that wait to be written: for how many octets there is room, the phase
--- that waits with them, and how many windows were counted
+-- what contracts see of bits that are buffered until they are written: for how many octets there is
+-- room, the phase that is buffered with them, and how many windows were counted
 pub record Packing : Type 0 where
   pub bits : List Bool
   pub room : ℕ
   pub phase : Option Chosen
   pub windows : ℕ
 
--- more bits wait, where there is room for them
+-- more bits are buffered, where there is room for them
 pub record Adds (before : Packing) (more : List Bool) (now : Packing) : Type 0 where
   pub room : now.room ≡ before.room
   pub phase : now.phase ≡ before.phase
@@ -103,12 +103,12 @@ pub record Adds (before : Packing) (more : List Bool) (now : Packing) : Type 0 w
   pub bits : length before.bits + length more < 8 * before.room + 8
       → now.bits ≡ before.bits ++ more
 
--- the bits that a window keeps wait, and the window is counted
+-- the bits that a window keeps are buffered, and the window is counted
 abbrev pub AddsWindow : Packing → WindowBlock → Packing → Type 0
 AddsWindow before block now = Adds (record before { windows = raised_by 1 before.windows })
     (map (λ bit. bit == 1) (take block.kept block.bits)) now
 
--- the phase waits
+-- the phase is buffered
 abbrev pub AddsPhase : Packing → (skip cost : ℕ) → Packing → Type 0
 AddsPhase before skip cost now =
     now ≡ record before { phase = Some record { skip = skip; cost = cost } }
@@ -122,11 +122,11 @@ line_of (Some chosen) = phase_text chosen.skip chosen.cost
 abbrev pub open_bits : List Bool → List Bool
 open_bits bits = drop (8 * (length bits / 8)) bits
 
--- only these wait, and no phase does
+-- only these are buffered, and no phase is
 abbrev pub IsEmptied : Packing → Packing → Type 0
 IsEmptied before now = now ≡ record before { bits = open_bits before.bits; phase = None }
 
--- the notes took the line of the phase that waits, and the output the whole octets
+-- the notes took the line of the buffered phase, and the output the whole octets
 abbrev pub WroteWaiting : Packing → (taken taken_now noted noted_now : Option (List ℕ)) → Type 0
 WroteWaiting packing taken taken_now noted noted_now =
     Wrote noted noted_now (line_of packing.phase) × Wrote taken taken_now (octets_of packing.bits)
@@ -139,8 +139,8 @@ WrotePart line octets taken taken_now noted noted_now =
     (Wrote taken taken_now [] × WrotePrefix noted noted_now line)
     ⊎ (WrotePrefix taken taken_now octets × Wrote noted noted_now line)
 
--- The receiver was given these octets and no others. After the bits of them that were written the
--- others of what is due wait, and the windows are counted.
+-- The receiver was given these octets and no others. Of the bits of them that are due, those that
+-- follow the written ones are buffered, and the windows are counted.
 pub record Holds (c : Configuration) (receiver : InnerReceiving) (packing : Packing)
     (written : List Bool) (octets : List ℕ) (handed : List (Handed WindowBlock)) : Type 0 where
   pub config : receiver.config ≡ c
@@ -149,12 +149,12 @@ pub record Holds (c : Configuration) (receiver : InnerReceiving) (packing : Pack
   pub bits : written ++ packing.bits ≡ bits_of_handed c octets handed
   pub windows : packing.windows ≡ length (items_of handed)
 
--- what was due is written: fewer bits than an octet wait, and no phase
+-- what was due is written: fewer bits than an octet are buffered, and no phase
 pub record IsWritten (packing : Packing) : Type 0 where
   pub few : length packing.bits < 8
   pub no_phase : packing.phase ≡ None
 
--- the phase of what was handed over more waits, and where there is one no bit came before
+-- the phase that was handed over in `more` is buffered, and where there is one no bit was written
 pub record PhaseWaits (packing : Packing) (written : List Bool)
     (more : List (Handed WindowBlock)) : Type 0 where
   pub line : line_of packing.phase ≡ phase_line more
@@ -172,7 +172,7 @@ pub record HandsWindows (receiver receiver_now : InnerReceiving) (packing packin
       → InnerReceiverStandsFor receiver_now (given ++ octets) (done ++ more)
       × AreHandedDue receiver.config (given ++ octets) (done ++ more)
 
--- given these octets the receiver hands over more, whose bits and phase wait
+-- given these octets the receiver hands over more, whose bits and phase are buffered
 pub record Gathers (receiver receiver_now : InnerReceiving) (packing packing_now : Packing)
     (octets : List ℕ) : Type 0 where
   pub more : List (Handed WindowBlock)
@@ -182,8 +182,9 @@ pub record Gathers (receiver receiver_now : InnerReceiving) (packing packing_now
       → Holds c receiver_now packing_now written (given ++ octets) (done ++ more)
       × PhaseWaits packing_now written more
 
--- After the bits that were written all others of the octets wait, filled to a whole octet. They
--- come to so many bits, octets were dropped so often, and so many are left over.
+-- After the bits that were written all others of the octets are buffered, filled to a whole octet.
+-- `end` has how many bits the octets come to, how often some were dropped, and how many are left
+-- over.
 pub record HoldsAll (c : Configuration) (packing : Packing) (written : List Bool)
     (octets : List ℕ) (handed : List (Handed WindowBlock)) (end : InnerEnd) : Type 0 where
   pub are_handed : AreHanded c octets handed end.leftover
@@ -192,7 +193,7 @@ pub record HoldsAll (c : Configuration) (packing : Packing) (written : List Bool
   pub counted : end.bits ≡ length (bits_of_handed c octets handed)
   pub slips : end.slips ≡ reported_slips c (items_of handed)
 
--- at the end the receiver hands over the last, and all of it waits
+-- at the end the receiver hands over the last, and all of it is buffered
 pub record GathersLast (receiver : InnerReceiving) (packing packing_now : Packing)
     (end : InnerEnd) : Type 0 where
   pub last : List (Handed WindowBlock)
@@ -241,8 +242,8 @@ pub record WritesAllPart (c : Configuration) (taken taken_now noted noted_now : 
       ⊎ (Wrote taken taken_now (filled_octets (bits_of_handed c octets handed))
       × WrotePrefix noted noted_now (phase_line handed ++ end_line c octets handed left))
 
--- Given these octets, a receiver, what waits, and two sinks go from what they were to what they are
--- now, and more is written; or a sink fails in it.
+-- Given these octets, a receiver, what is buffered, and two sinks go from what they were to what
+-- they are now, and more is written; or a sink fails in it.
 abbrev pub WritesMore : InnerReceiving → Packing → (out notes : Option (List ℕ))
     → (receiver_now : InnerReceiving) (packing_now : Packing) (out_now notes_now : Option (List ℕ))
     → List ℕ → Type 0

@@ -18,7 +18,7 @@ use Rattle.tm_cert_file.specs.Certifying.{Certifying, with_octets, soft_room, mo
 use Rattle.tm_path_commands.specs.Certify.{IsCertifiedAll, TextAt}
 use Rattle.tm_path_commands.specs.Tracing.{StandsAt}
 
--- before the phase is settled all soft octets wait, and nothing was handed over or written
+-- before the phase is settled all soft octets are buffered, and nothing was handed over or written
 pub record Waits (c : Configuration) (rate : Rate) (now : Certifying) (octets : List ℕ)
     (handed : List (Handed WindowBlock)) (text : List ℕ) : Type 0 where
   pub unsettled : IsSettled c octets → ⊥

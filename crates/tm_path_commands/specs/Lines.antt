@@ -12,14 +12,14 @@ window_text number steps kept metric =
     codes "block " ++ decimal number ++ codes " steps " ++ decimal steps
     ++ codes " kept " ++ decimal kept ++ codes " metric " ++ decimal metric ++ line_end
 
--- octets were dropped before a window, after so many bits; no line where none was
+-- `dropped` octets were dropped before a window, after `bits` bits; no line where none were
 abbrev pub slip_text : (dropped bits : ℕ) → List ℕ
 slip_text dropped bits =
     if dropped == 0
     then []
     else codes "slip " ++ decimal dropped ++ codes " at " ++ decimal bits ++ line_end
 
--- a window of the soft decoder, after so many windows and bits
+-- a window of the soft decoder, after the windows and bits that `was` counts
 abbrev pub block_text : Tally → WindowBlock → List ℕ
 block_text was block = slip_text block.dropped was.bits
     ++ window_text was.blocks block.steps block.kept block.metric

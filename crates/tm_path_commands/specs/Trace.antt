@@ -12,7 +12,7 @@ use Rattle.tm_inner.specs.Handing.{AreHanded, AreHandedDue}
 use Rattle.tm_path_commands.specs.declared.tally.Tally.{Tally}
 use Rattle.tm_path_commands.specs.Lines.{block_text, no_blocks, tally_after, trace_end_text}
 
--- the line of the phase, and those of the windows, after so many windows and bits
+-- the line of the phase, and those of the windows, after the windows and bits that `was` counts
 abbrev pub blocks_text : Tally → List (Handed WindowBlock) → List ℕ
 blocks_text was [] = []
 blocks_text was (Phase skip cost ∷ handed) = phase_text skip cost ++ blocks_text was handed
@@ -25,7 +25,7 @@ tally_all was [] = was
 tally_all was (Phase skip cost ∷ handed) = tally_all was handed
 tally_all was (Item block ∷ handed) = tally_all (tally_after was block) handed
 
--- the trace of what was handed over of so many bits, with so many octets after the last step
+-- the trace of what was handed over, of `bits` bits, with `leftover` octets after the last step
 abbrev pub trace_text : List (Handed WindowBlock) → (bits leftover : ℕ) → List ℕ
 trace_text handed bits leftover = blocks_text no_blocks handed
     ++ trace_end_text (length (items_of handed)) bits leftover

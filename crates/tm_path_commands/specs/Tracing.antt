@@ -37,8 +37,8 @@ pub record TraceFails (c : Configuration) (before now : SinkState) (is_last : Ty
   pub are_first : AreHandedFirst c octets handed
   pub broke : TraceBroke before now is_last handed
 
--- The sink took the lines of all that is handed over of these octets, with so many windows. The
--- octets come to so many bits, and so many octets are left over.
+-- The sink took the lines of all that is handed over of these octets; `tally` counts the windows.
+-- The octets come to `bits` bits, and `left` octets are left over.
 pub record TracedWhole (c : Configuration) (tally : Tally) (bits left : ℕ) (before now : SinkState)
     (octets : List ℕ) : Type 0 where
   pub handed : List (Handed WindowBlock)

@@ -22,7 +22,7 @@ use tm_windows::{
     Chosen, closed_prefix_law, due_windows_law, one_windows_law, phase_law, whole_window_law,
 };
 
-// Bits that wait to be written, packed to octets, and the symbol phase before them. It counts windows.
+// Bits that are buffered until they are written, packed to octets, and the symbol phase before them. It counts windows.
 #[derive(Drop)]
 struct Packer {
     room: Vec<u8>,
@@ -54,7 +54,7 @@ impl Model for Packer {
 }
 
 impl Packer {
-    // Room for so many octets, where no bit waits. It takes all its memory here.
+    // Room for `size` octets, with no bit buffered. It takes all its memory here.
     fn open(alloc: Global, size: usize) -> Result<Packer, NoMemory>
         ensures { IfOk result (λ p. p ≡ record { bits = []; room = size; phase = None; windows = 0 }) }
     {
@@ -71,7 +71,7 @@ impl Packer {
         })
     }
 
-    // Adds the lowest bits of an octet, so many of them. An octet for which there is no room is dropped.
+    // Adds the lowest `bits` bits of an octet. An octet for which there is no room is dropped.
     fn add(&mut self, octet: u8, bits: u32)
         requires { bits ≤ 8 }
         ensures { Adds self.old (low_bits bits octet) self.new }
@@ -121,14 +121,14 @@ impl Packer {
         self.add_octets(&octets[skipped + 1..]);
     }
 
-    // The whole octets that wait.
+    // The buffered whole octets.
     fn octets(&self) -> &[u8]
         ensures { result.now ≡ octets_of self.now.bits }
     {
         prefix(self.room.as_slice(), self.count)
     }
 
-    // The phase that waits.
+    // The buffered phase.
     fn phase(&self) -> Option<Chosen>
         ensures { result ≡ self.now.phase }
     {
@@ -151,7 +151,7 @@ impl Packer {
     }
 }
 
-// The first octets, so many.
+// The first `count` octets.
 fn prefix(octets: &[u8], count: usize) -> &[u8]
     requires { count ≤ length octets.now }
     ensures first { result.now ≡ take count octets.now }
@@ -227,7 +227,7 @@ fn add_after(receiver: &InnerReceiver, packer: &mut Packer, skip: u64, octets: &
     }
 }
 
-// The same of octets that are nearest to one bit each.
+// Packs a bit for each octet after the first `skip` ones: the bit that it is nearest to.
 fn add_nearest(receiver: &InnerReceiver, packer: &mut Packer, skip: u64, octets: &[u8])
     requires { length octets.now ≤ turn_size }
     ensures { Adds packer.old (drop skip (map (nearest_bit receiver.now.config) octets.now)) packer.new }
@@ -257,7 +257,7 @@ fn gather_last(receiver: &mut InnerReceiver, packer: &mut Packer) -> InnerEnd
     }
 }
 
-// Writes the line of the phase that waits, where there is one.
+// Writes the line of the buffered phase, where there is one.
 fn write_phase<N: Sink>(packer: &Packer, notes: &mut N) -> Result<(), Failed>
     ensures ok { OnOk result (Wrote (N.taken notes.old) (N.taken notes.new) (line_of packer.now.phase)) }
     ensures err { OnErr result (WrotePrefix (N.taken notes.old) (N.taken notes.new) (line_of packer.now.phase)) }
@@ -269,7 +269,7 @@ fn write_phase<N: Sink>(packer: &Packer, notes: &mut N) -> Result<(), Failed>
     }
 }
 
-// Writes what waits, the line of the phase first.
+// Writes what is buffered, the line of the phase first.
 fn write<O: Sink, N: Sink>(packer: &mut Packer, out: &mut O, notes: &mut N) -> Result<(), Failed>
     ensures emptied { OnOk result (IsEmptied packer.old packer.new) }
     ensures ok { OnOk result (WroteWaiting packer.old (O.taken out.old) (O.taken out.new) (N.taken notes.old)
@@ -337,7 +337,7 @@ fn write_end<O: Sink, N: Sink>(
     bits_end_line(notes, end.slips, packer.windows(), end.bits, end.leftover)
 }
 
-// An inner receiver, what waits of its bits, and what they are written to.
+// An inner receiver, its buffered bits, and what they are written to.
 struct BitWriting<'a, 'b, 'c, 'd, O, N> {
     receiver: &'a mut InnerReceiver,
     packer: &'b mut Packer,

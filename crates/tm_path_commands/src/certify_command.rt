@@ -22,8 +22,8 @@ use tm_windows::{
     closed_prefix_law, due_windows_law, one_windows_law, phase_law, whole_window_law,
 };
 
-// What is kept to write the certificate of a configuration that does not follow a phase, which was given nothing yet.
-// With no inner code it is given nothing.
+// What is kept to write the certificate of a configuration that does not follow a phase, before any octet was put in.
+// With no inner code nothing of it is written.
 fn open(alloc: Global, config: &Config) -> Result<Certifying, NoMemory>
     requires { config.now.follow ≡ false }
     ensures { IfOk result (λ certifying. (receiver : InnerReceiving) (taken : Option (List ℕ))

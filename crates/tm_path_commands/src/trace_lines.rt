@@ -71,7 +71,7 @@ impl<'a, O: Sink> BlockTaker for Trace<'a, O> {
 }
 
 /// Writes the end of the trace of `bits` received bits with `leftover` octets after the last step. The sink has taken
-/// the lines of so many windows.
+/// the lines of the windows that `tally` counts.
 pub fn end_trace<O: Sink>(
     lines: &mut O,
     tally: Tally,

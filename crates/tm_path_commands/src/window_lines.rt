@@ -46,7 +46,7 @@ fn add_window(line: &mut Line, number: u64, steps: u32, kept: u32, metric: u64)
     line.text(b"\n");
 }
 
-// Adds that octets were dropped after so many bits, where some were, a line of its own.
+// Adds a line that says that `dropped` octets were dropped after `bits` bits, where some were.
 fn add_slip(line: &mut Line, dropped: u8, bits: u64)
     requires { length line.old + 60 ≤ line_room }
     ensures text { line.new ≡ line.old ++ slip_text dropped bits }
@@ -61,8 +61,9 @@ fn add_slip(line: &mut Line, dropped: u8, bits: u64)
     }
 }
 
-/// Writes a window of the soft decoder, after so many windows and bits; and where octets were dropped before it, a line
-/// before it: `slip K at B`, with the octets and the bits. `Failed` comes only where the sink's count of faults rose.
+/// Writes a window of the soft decoder, after the windows and bits that `was` counts; and where octets were dropped
+/// before it, a line before it: `slip K at B`, with the octets and the bits. `Failed` comes only where the sink's count
+/// of faults rose.
 pub fn block_line<O: Sink>(out: &mut O, was: Tally, block: &Block<'_>) -> Result<(), Failed>
     ensures ok { OnOk result (Wrote (O.taken out.old) (O.taken out.new) (block_text was block.now)) }
     ensures err { OnErr result (WrotePrefix (O.taken out.old) (O.taken out.new) (block_text was block.now)) }

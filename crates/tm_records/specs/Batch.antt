@@ -17,12 +17,12 @@ pub record Batch : Type 0 where
   pub octets : List ℕ
   pub nearest : List NearestErased
 
--- a batch that took nothing yet
+-- a new batch, into which no octets were put
 abbrev pub opened : Coding → ℕ → Batch
 opened c workers = record { coding = c; workers = workers; octets = []; nearest = [] }
 
--- there is room for 256 records of this size: so many octets are taken, and so many records were
--- decoded
+-- there is room for 256 records of `size` octets: `taken` octets are taken, and `decoded` records
+-- were decoded
 pub record HasRoom (c : Coding) (size octets words taken decoded : ℕ) : Type 0 where
   pub is_size : size ≡ record_size c
   pub some : 0 < size

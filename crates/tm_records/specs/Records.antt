@@ -31,7 +31,7 @@ abbrev pub IsFirstNearest : Coding → List ℕ → NearestErased → Type 0
 IsFirstNearest c octets nearest = IsNearestErased c.params.e c.repair (first_erased c octets)
     (first_word c octets) nearest
 
--- these are nearest to the words of so many first records, each to its own
+-- each of these is nearest to the word of the record at its place, from the first record on
 abbrev pub AreFirstNearest : Coding → List ℕ → List NearestErased → Type 0
 AreFirstNearest c octets [] = Unit {0}
 AreFirstNearest c octets (nearest ∷ others) = IsFirstNearest c octets nearest
@@ -46,7 +46,7 @@ pub record AreNearest (c : Coding) (octets : List ℕ) (nearest : List NearestEr
 abbrev pub most_records : ℕ
 most_records = 256
 
--- of so many records, those that are in whole batches
+-- how many of `count` records are in whole batches
 abbrev pub in_batches : ℕ → ℕ
 in_batches count = most_records * (count / most_records)
 

@@ -50,7 +50,7 @@ fn read_records(coding: &Coding, octets: &[u8], words: &mut [ErasedWord])
     }
 }
 
-/// Decodes the first `count` records, each in the word of its number, by so many workers, which pass the gate.
+/// Decodes the first `count` records, each in the word of its number, by `workers` workers, which pass the gate.
 pub fn decode_records<R: Threads + Sync, G: Gate + Sync>(
     rt: &R,
     gate: &G,

@@ -58,7 +58,7 @@ impl Model for Records {
         × (r.coding.repair ≤ r.coding.params.e) × (0 < r.workers) × (r.workers ≤ most_workers) };
 }
 
-// Room for a batch of records of so many octets.
+// Room for a batch of records of `size` octets each.
 fn room(alloc: Global, size: usize) -> Result<(Vec<u8>, Vec<ErasedWord>), AllocError>
     requires { size ≤ 2 * longest_word }
     ensures octets { IfOk result (λ r. length r.0.items ≡ most_records * size) }
@@ -75,8 +75,8 @@ fn room(alloc: Global, size: usize) -> Result<(Vec<u8>, Vec<ErasedWord>), AllocE
 }
 
 impl Records {
-    /// Room for a batch of records of words that are decoded so, by so many workers, at least one and at most 64. It
-    /// fails only where there isn't enough memory.
+    /// Room for a batch of records whose words are decoded as `coding` says, by `workers` workers, at least one and at
+    /// most 64. It fails only where there isn't enough memory.
     pub fn open(alloc: Global, coding: Coding, workers: u8) -> Result<Records, NoMemory>
         requires bound { coding.repair ≤ coding.params.e }
         requires workers { (0 < workers) × (workers ≤ most_workers) }

@@ -28,7 +28,7 @@ use tm_rs_solve::{Answer, decode_uncounted};
 pub enum WordRefusal {
     /// There is no outer code.
     Code,
-    /// No codeword has so many symbols, or a byte is left over after the last whole octet.
+    /// No codeword has as many symbols as the word, or a byte is left over after the last whole octet.
     Word,
     /// A byte is no hexadecimal digit.
     Hex,

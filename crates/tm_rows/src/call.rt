@@ -45,7 +45,7 @@ fn is_count(said: Option<u64>, count: u64) -> bool {
     said.is_none_or(|said| said == count)
 }
 
-/// What comes of a row's call over octets that are given so many at a time, where it differs from what the row says.
+/// What comes of a row's call over octets that are given `cut` at a time, where it differs from what the row says.
 pub fn difference(
     rt: &(impl Threads + Sync),
     alloc: Global,

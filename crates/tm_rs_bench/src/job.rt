@@ -10,7 +10,7 @@ pub enum Form {
     None,
 }
 
-/// So many words, each with so many wrong symbols and erased places.
+/// The decoding of `words` words, each with `wrong` wrong symbols and `erased` erased places.
 #[derive(Clone, Copy)]
 pub struct Job {
     pub form: Form,

@@ -28,7 +28,7 @@ fn low_products(factor: u8) -> u8x16
     u8x16::from_array(LOW[usize::from(factor)])
 }
 
-// The same with what the high half may stand for.
+// The products of a factor with what the high half of an octet may stand for.
 fn high_products(factor: u8) -> u8x16
     ensures { result ≡ multiple factor HIGH_PLACES }
 {

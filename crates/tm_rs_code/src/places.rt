@@ -19,7 +19,7 @@ pub fn values_at_places(poly: &[Gf], n: usize) -> [u8; 256]
     values
 }
 
-/// The same, place by place and power by power.
+/// The values as for `values_at_places`, computed place by place and power by power.
 pub fn plain_values_at_places(poly: &[Gf], n: usize) -> [u8; 256]
     requires few { length poly.now ≤ most_coefficients }
     requires places { n ≤ 256 }

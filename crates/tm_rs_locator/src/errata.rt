@@ -129,7 +129,7 @@ pub fn locate_erased<L: Ledger>(
     })
 }
 
-/// The same locator alone.
+/// The locator as for `locate_erased`, without that of the erased places.
 pub fn solve_erased<L: Ledger>(
     params: &Params,
     syndromes: &[Gf; 32],

@@ -54,7 +54,7 @@ pub fn locate<L: Ledger>(
     })
 }
 
-/// The same locator alone.
+/// The locator as for `locate`, without the values of its polynomial.
 pub fn solve<L: Ledger>(
     params: &Params,
     syndromes: &[Gf; 32],

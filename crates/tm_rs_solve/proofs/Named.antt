@@ -194,7 +194,8 @@ cost_more a b i k d h l = grind arith
 pub cost_as : (a b i k d d' : ℕ) → a ≡ b → d ≡ d' → 2 * b + k ≡ 2 * i + d' * (d' + 1) → 2 * a + k ≡ 2 * i + d * (d + 1)
 cost_as a b i k d d' e f h = rw (e, f) h
 
--- with so many products for s erased places, and for the locator of d places from theirs, all at most t
+-- a bound on the products counted from a to c: up to b for s erased places, then for the locator
+-- of d places from theirs, where s and d are at most t
 most : (t s d a b c : ℕ) → s ≤ t → d ≤ t → b ≤ a + (s * (s + 1) + (t - s) * (t + 4))
     → 2 * c + s * (s + 1) ≡ 2 * b + d * (d + 1)
     → 2 * c ≤ 2 * a + (2 * (t * (t + 1)) + 2 * (t * (t + 4)) + t * (t + 1))

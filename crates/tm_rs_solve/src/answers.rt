@@ -11,9 +11,9 @@ pub enum Answer {
     Beyond,
 }
 
-/// What became of a word with erased places: it is now the codeword that differed from it in so many
-/// places that are not erased and so many that are, or no codeword lies within the bounds and it is
-/// unchanged.
+/// What became of a word with erased places: it is now the codeword that differed from it in as many
+/// places that are not erased, and in as many that are, as `Fixed` says, or no codeword lies within the
+/// bounds and it is unchanged.
 #[derive(Clone, Copy, Debug, PartialEq, Eq)]
 pub enum ErasedAnswer {
     /// The numbers of symbols that were wrong: outside the erased places, and at them.

@@ -152,7 +152,7 @@ pub fn decode_erased<L: Ledger>(
     repaired(params, repair, erased, word, &values, steps)
 }
 
-/// The same by the syndromes of the whole word.
+/// Decodes a word with erased places as `decode_erased` does, by the syndromes of the whole word.
 pub fn plain_decode_erased<L: Ledger>(
     params: &Params,
     repair: u8,

@@ -42,7 +42,7 @@ pub fn decode_word<L: Ledger>(
     repaired(params, repair, word, &values, steps)
 }
 
-/// The same by the syndromes of the whole word.
+/// Decodes a word as `decode_word` does, by the syndromes of the whole word.
 pub fn plain_decode_word<L: Ledger>(
     params: &Params,
     repair: u8,

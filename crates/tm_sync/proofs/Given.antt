@@ -938,7 +938,7 @@ left-of s bits m full ends run =
           ap (are_verified s.rules m.found.inverted more) (sym next) ∙ both.1,
         )
 
--- the place that waits, and those after it
+-- the awaited place, and those after it
 record Reported (s : Searching) (bits : List Bool) (found : List Found) (m : Awaited) : Type 0 where
   full : s.rules.block_bits ≤ s.after
   ends : m.found.place + 32 + s.after ≡ length bits
@@ -1004,7 +1004,7 @@ reported-of s room bits found h m was pending =
             rest-run s.rules m.found.inverted count (m.found.place + 32 + s.rules.block_bits) m.next
             (drop (m.found.place + 32 + s.rules.block_bits) bits) size match held
 
--- the search reports the place that waits
+-- the search reports the awaited place
 pub record HasReported (s s' : Searching) (m : Awaited) : Type 0 where
   pub awaited_was : s.awaited ≡ Some m
   pub rules : s'.rules ≡ s.rules

@@ -168,8 +168,8 @@ places-count rules bits = omega (arith, places-room rules bits)
 
 -- ---- a longer list
 
--- Its places are first those of the shorter one. The others are not settled there, and so many more
--- bits have few of them.
+-- Its places are first those of the shorter one. The others are not settled there, and `more` bits
+-- more have few of them.
 pub record GoesOn (rules : Rules) (end more : ℕ) (all first : List Found) : Type 0 where
   pub rest : List Found
   pub is : all ≡ first ++ rest
@@ -305,7 +305,8 @@ pub places-end : (rules : Rules) (bits : List Bool) → EndBefore rules (length 
 places-end rules bits =
     subst (λ (n : ℕ). EndBefore rules n (places rules bits)) (omega arith) (places_from-end rules 0 0 None bits)
 
--- so many codeblocks' bits more have as many places more at most, and those that they verify
+-- the bits of `count` codeblocks more, with their markers, bring at most `count` places more, and
+-- those that they verify
 pub places-few : (rules : Rules) (bits more : List Bool) (count : ℕ) → length more ≤ count * (32 + rules.block_bits)
     → length (places rules (bits ++ more)) ≤ length (places rules bits) + count + rules.verify
 places-few rules bits more count short =

@@ -16,7 +16,7 @@ use Rattle.tm_sync.proofs.Longer.{place_by-append}
 use Rattle.tm_sync.proofs.FirstPlaces.{here}
 use Rattle.tm_sync.proofs.Recent.{received-last}
 
--- ---- the 32 bits that end so many bits before the last
+-- ---- the 32 bits before the last `back` ones
 -- the last 32 bits
 pub received-now : (s : Searching) (room : List ℕ) (bits : List Bool) (from back : ℕ) → Recalls s room bits from
     → back ≡ 0 → from + 32 + back ≤ length bits
@@ -72,7 +72,7 @@ received-whole received k l enough most long is =
 pub zero-from-test : (n : ℕ) → (n == 0) ≡ true → n ≡ 0
 zero-from-test n test = grind (arith, nat_tests)
 
--- how far back so many codeblocks with their markers are
+-- how far back `count` codeblocks with their markers are
 pub none-or : (count size most : ℕ) → count * (32 + size) ≤ most → (count * (32 + size) ≡ 0)
     ⊎ ((32 ≤ count * (32 + size)) × (count * (32 + size) ≤ most))
 none-or zero size most few = inl (omega arith)
@@ -107,7 +107,7 @@ match-received rules bits long =
     sym (ap (match_of rules) (sym (take-append-drop 32 bits))
     ∙ match_of-append rules (take 32 bits) (drop 32 bits) (omega arith))
 
--- the next of them is so many codeblocks with their markers nearer to the last 32 bits
+-- the next of them is one codeblock with its marker nearer to the last 32 bits
 pub verified-step : (rules : Rules) (inverted : Bool) (left : ℕ) (bits : List Bool) → 0 < left
     → left * (32 + rules.block_bits) + 32 ≤ length bits
     → are_verified rules inverted left (drop (length bits - (32 + left * (32 + rules.block_bits))) bits)

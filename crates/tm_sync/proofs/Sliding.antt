@@ -58,7 +58,7 @@ received-octet w x bits small e =
     ∙ ap (λ n. value_from n (bits_of_octet x)) (sym (number-value bits)) ∙ eight in
     slides-octet w x small ∙ rw longer (omega arith)
 
--- the received bits up to the last ones, so many, when one more of them is taken
+-- the received bits before the last `left` ones, when one more of these is taken
 pub received-window : (w x left : ℕ) → 0 < left → left ≤ 8 → x < 256
     → (w * 256 + x) / 2 ^ (left - 1) % 2 ^ 32
     ≡ bit_or ((w * 256 + x) / 2 ^ left % 2 ^ 32 * 2 % 2 ^ 32) (bool_byte (x / 2 ^ (left - 1) % 2 == 1))
@@ -96,7 +96,7 @@ bits-more bits octets x =
     ∙ ap (λ l. bits ++ l) (sym (bits_of-append octets (x ∷ [])))
 
 -- ---- the bits of an octet, one by one
--- the bit that stands before so many
+-- the bit that stands before the last `left` bits of an octet
 abbrev pub bit_of : ℕ → ℕ → Bool
 bit_of left octet = octet / 2 ^ left % 2 == 1
 

@@ -15,7 +15,7 @@ use Rattle.tm_sync.specs.Rescan.{Soundness, Last, is_open, place_here, places_af
 abbrev pub octets_bound : ℕ
 octets_bound = 2 ^ 32
 
--- the bits of a stream that are not passed yet, in a room of so many octets
+-- the bits of a stream that are not passed yet, in a room of `size` octets
 pub record Recent : Type 0 where
   pub bits : List Bool
   pub size : ℕ
@@ -29,7 +29,7 @@ pub record Finding : Type 0 where
   -- the place before the next bit, where that is part of its codeblock or right behind it
   pub last : Option Last
 
--- the place before the next bit, of whose codeblock so many bits are left
+-- the place before the next bit, of whose codeblock `previous.left` bits are left
 abbrev pub last_of : ℕ → Previous → Last
 last_of passed previous = record {
   end = passed + previous.left;
@@ -82,7 +82,7 @@ pub record Ends (f : Finding) (bits : List Bool) : Type 0 where
   pub none : (sound : Soundness) → places_left f sound bits ≡ []
   pub few : length bits < settled_by f.rules.verify f.rules.block_bits
 
--- no place stands at any of the next bits, so many, whatever bits come
+-- no place stands at any of the next `count` bits, whatever bits come
 abbrev pub NoneIn : Finding → ℕ → List Bool → Type 0
 NoneIn f count bits = (sound : Soundness) (more : List Bool) (q : ℕ) → q < count
     → place_here f.rules f.columns sound (f.passed + q) f.last (drop q (bits ++ more)) ≡ None

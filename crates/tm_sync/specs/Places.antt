@@ -37,8 +37,8 @@ matches_in None inverted = false
 matches_in (Some true) inverted = inverted
 matches_in (Some false) inverted = flip inverted
 
--- after each of so many codeblocks with their markers stand 32 bits more, and they match in this
--- polarity
+-- after each of a number of codeblocks with their markers stand 32 bits more, and they match in
+-- this polarity
 unfoldable pub are_verified : Rules → Bool → ℕ → List Bool → Bool
 are_verified rules inverted zero bits = true
 are_verified rules inverted (suc count) bits =

@@ -43,7 +43,7 @@ AreInOrder rules columns sound bits (f ∷ g ∷ found) =
     → (g.bridged ≡ false) × CountsInside rules columns sound bits f g.place g.inverted)
     × AreInOrder rules columns sound bits (g ∷ found)
 
--- of three in a row the last stands more than so many bits after the first
+-- of three in a row the last stands more than `bits` bits after the first
 abbrev pub AreApart : ℕ → List Found → Type 0
 AreApart bits [] = Unit {0}
 AreApart bits (f ∷ []) = Unit {0}

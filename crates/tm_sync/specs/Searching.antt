@@ -45,7 +45,7 @@ inside_by (suc count) size = suc count * (marker_size + size)
 abbrev pub most_inside : Rules → ℕ
 most_inside rules = inside_by rules.verify rules.block_bits
 
--- how many bits stand after the next marker once a place is given that had so many after its own
+-- how many bits stand after the next marker once a place is given that had `count` after its own
 abbrev pub inside_next : Rules → ℕ → Option ℕ
 inside_next rules count =
     if nat_le (marker_size + rules.block_bits) count
@@ -167,25 +167,25 @@ pub record Counts (s s' : Searching) (bit : Bool) : Type 0 where
   pub awaited : s'.awaited ≡ s.awaited
   pub after : s'.after ≡ s.after
 
--- whether the last 32 bits directly follow a codeblock, where so many bits stand after its end
+-- whether the last 32 bits directly follow a codeblock, where `since` bits stand after its end
 abbrev pub is_right_after : ℕ → Option Before → Bool
 is_right_after since None = false
 is_right_after since (Some before) = since == marker_size
 
--- how many numbers, from one more than the tolerance on, show that 32 bits match in no way, where
--- so many of them differ from the marker
+-- how many numbers of bits that differ from the marker, from one more than the tolerance on, show
+-- that 32 bits match in no way
 abbrev pub far_count : ℕ → Bool → ℕ
 far_count tolerance either =
     if either then marker_size - 1 - 2 * tolerance else marker_size - tolerance
 
--- by these rules 32 bits match in no way where so many of them, or up to `count` - 1 more, differ
+-- by these rules 32 bits match in no way where `least` of them, or up to `count` - 1 more, differ
 -- from the marker
 pub record TellFar (rules : Rules) (least count : ℕ) : Type 0 where
   pub tolerance : rules.tolerance ≤ most_tolerance
   pub least_is : least ≡ rules.tolerance + 1
   pub count_is : count ≡ far_count rules.tolerance rules.either
 
--- at none of so many of the next bits 32 bits match
+-- at none of the next `count` bits 32 bits match
 abbrev pub NoneMatch : Rules → ℕ → List Bool → Type 0
 NoneMatch rules count bits = (q : ℕ) → q < count → match_of rules (drop q bits) ≡ None
 

@@ -26,7 +26,7 @@ pub struct Previous {
 
 // What stands at the next bits.
 pub enum Ahead {
-    // No place at any of these, so many.
+    // The number of bits, from the first on, at which no place stands.
     Nothing(usize),
     // They are too few to tell.
     TooFew,

@@ -64,9 +64,10 @@ pub fn longer_law()
         (drop (length (places rules bits)) (places rules (bits ++ more))) }
 {}
 
-/// Each place takes the bits of a marker and of a codeblock, so bits have only so many places, and bits that come after
-/// them bring only so many more, and those that they verify. Where places are looked for inside codeblocks too, two may
-/// share these bits: of three in a row the last begins that many after the first, less those of the last symbols.
+/// Each place takes the bits of a marker and of a codeblock, so bits have at most as many places as fit in them, and
+/// the bits of `count` places that come after them bring at most `count` more, and those that they verify. Where places
+/// are looked for inside codeblocks too, two may share these bits: of three in a row the last begins as many bits after
+/// the first as a place takes, less those of the last symbols.
 pub fn few_places_law()
     ensures all { (rules : Rules) (bits : List Bool)
         → length (places rules bits) * (marker_size + rules.block_bits) ≤ length bits }

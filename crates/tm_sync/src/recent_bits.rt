@@ -186,8 +186,8 @@ fn copy_bits(room: &[u8], at: usize, octets: &mut [u8])
     join(octets, room[first], &room[first + 1..end + 1], 8 - shift);
 }
 
-// Writes octets of the lowest bits of `begun`, so many, and of the bits of other octets. Answers the octet whose lowest
-// bits, so many, are left.
+// Writes octets of the lowest `count` bits of `begun` and of the bits of `octets`. Returns the octet whose lowest
+// `count` bits are left.
 fn join(joint: &mut [u8], begun: u8, octets: &[u8], count: u32) -> u8
     requires length { length joint.old ≡ length octets.now }
     requires count { count ≤ 8 }
@@ -202,7 +202,7 @@ fn join(joint: &mut [u8], begun: u8, octets: &[u8], count: u32) -> u8
     last
 }
 
-// The octet of the lowest bits of one octet, so many, and the first bits of the next.
+// The octet of the lowest `count` bits of one octet and the first bits of the next.
 fn joined(octet: u8, next: u8, count: u32) -> u8
     requires { count ≤ 8 }
     ensures { low_bits count octet ++ bits_of_octet next ≡ bits_of_octet result ++ low_bits count next }
@@ -256,7 +256,8 @@ fn far_until(room: &[u8], from: usize, most: usize, too_many: u8, far: u8) -> us
     at + far_bits(room, from + at, most - at, too_many, far)
 }
 
-// The same of `count` bits, bit by bit.
+// The first of `count` bits of the room, from this one on, at which 32 bits match, looked for bit by bit; `count` where
+// none match.
 fn far_bits(room: &[u8], from: usize, count: usize, too_many: u8, far: u8) -> usize
     requires room { from + count + marker_size ≤ 8 * length room.now + 1 }
     requires size { length room.now < octets_bound }
@@ -272,7 +273,7 @@ fn far_bits(room: &[u8], from: usize, count: usize, too_many: u8, far: u8) -> us
     count
 }
 
-// How many octets, of at most so many, have no bit at which 32 bits match.
+// How many octets from the first on, at most `count`, have no bit at which 32 bits match.
 fn far_octets(octets: &[u8], count: usize, too_many: u8, far: u8) -> usize
     requires { 0 < count → count + 4 ≤ length octets.now }
     ensures count { result ≤ count }

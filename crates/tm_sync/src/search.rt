@@ -494,7 +494,7 @@ impl Search {
     }
 }
 
-// The bits of so many codeblocks with their markers.
+// How many bits `count` codeblocks have with their markers.
 fn verified_by(count: u8, block_bits: u32) -> u64
     ensures value { result ≡ count * (marker_size + block_bits) }
     ensures few { result < 2 ^ 42 }
@@ -537,7 +537,7 @@ fn last_bits(received: u32, octets: &[u8]) -> u32
     last
 }
 
-// Of these bits the last 32 but the last ones, so many.
+// The 32 of these bits before the last `left` ones.
 pub fn window(bits: u64, left: u32) -> u32
     requires { left < 64 }
     ensures { result ≡ bits / 2 ^ left % 2 ^ marker_size }

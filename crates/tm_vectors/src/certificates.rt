@@ -5,7 +5,7 @@ use std::process::Abort;
 use std::test::Fail;
 use std::thread::Threads;
 
-// A call over octets that come so many at a time, with room for certificates.
+// A call over octets that come at most `cut` at a time, with room for certificates.
 fn given<'a>(line: &'a str, input: &'a [u8], cut: usize) -> Given<'a> {
     let mut given = Given::new(line, input, cut);
     given.out_room = 50_000;
@@ -27,12 +27,12 @@ fn certified(
     Ok(outcome.out.octets().to_vec(alloc)?)
 }
 
-// The first octets, so many, or all where there are fewer.
+// The first `count` octets, or all where there are fewer.
 fn prefix(octets: &[u8], count: usize) -> &[u8] {
     &octets[..octets.len().min(count)]
 }
 
-// So many clean steps of bits 0, at rate 1/2.
+// `count` clean steps of bits 0, at rate 1/2.
 fn steps_of_zeros(alloc: Global, count: usize) -> Result<Vec<u8>, AllocError> {
     let mut octets = Vec::new(alloc);
     for _ in 0..count {
@@ -84,7 +84,7 @@ fn octet_of(draw: u64) -> u8 {
     }
 }
 
-// So many octets that are drawn.
+// `count` drawn octets.
 fn drawn(alloc: Global, count: usize) -> Result<Vec<u8>, AllocError> {
     let mut octets = Vec::new(alloc);
     let mut now = 1u64;

@@ -52,7 +52,7 @@ fn each_read_of_a_codeword_fails(rt: HostRuntime) -> Result<(), Fail> {
     check_read(&rt, rt.alloc(), 38, 0, 38, &[0x7B], REPORT)
 }
 
-// The notes have room for so many octets.
+// The notes have room for `room` octets.
 fn check_room(
     rt: &(impl Abort + Threads + Sync),
     alloc: Global,

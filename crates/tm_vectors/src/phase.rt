@@ -5,7 +5,7 @@ use std::process::Abort;
 use std::test::Fail;
 use std::thread::Threads;
 
-// Where the read after so many octets fails, the phase was given if these are a whole window after each phase.
+// Where the read after `count` octets fails, the phase was given if these are a whole window after each phase.
 #[test]
 fn the_phase_is_due_at_the_read_that_ends_the_window(rt: HostRuntime) -> Result<(), Fail> {
     let line = "tmchan report --phase find --keep 64 --ahead 0";
@@ -72,14 +72,14 @@ fn complemented_symbols_are_received(rt: HostRuntime) -> Result<(), Fail> {
     check_decoding(&rt, alloc, line, &symbols, notes.as_str())
 }
 
-// The notes where so many symbols are skipped.
+// The notes where `skip` symbols are skipped.
 fn notes_of(alloc: Global, skip: usize) -> Result<String, AllocError> {
     format!(in alloc;
         "phase {skip} cost 0\nframe 0 at 0 marker 0 uncoded\nframe 1 at 64 marker 0 uncoded\nframe 2 at 128 marker 0 uncoded\nframes 3 bad 0 fixed 0 bits 192\n"
     )
 }
 
-// The frames that are sent at a rate come out after so many symbols of noise.
+// The frames that are sent at a rate come out after the symbols of `noise`.
 fn check_noise(
     rt: &(impl Abort + Threads + Sync),
     alloc: Global,

@@ -77,7 +77,7 @@ const FIRST: Kept = Kept {
     octet: Some(0x7B),
 };
 
-// Frames of one octet with no inner code, less so many bits.
+// Frames of one octet with no inner code, less the first `skip` bits.
 fn link(skip: u64) -> Raw {
     Raw {
         length: Some(1),
@@ -207,7 +207,7 @@ fn a_taker_that_fails_before_the_end(rt: HostRuntime) -> Result<(), Fail> {
     check_fault_of_a_batch(&rt, &mut receiver, &mut taker)
 }
 
-// A taker with room for so many items is handed these, and that ends so.
+// A taker with room for `room` items is handed `items`, and receiving ends with `wanted`.
 fn check_received(
     rt: &(impl Abort + Threads + Sync),
     alloc: Global,

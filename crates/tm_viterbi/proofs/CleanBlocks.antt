@@ -54,7 +54,7 @@ steps-mono rate t n m le =
     let same : n + (m - n) ≡ m = omega arith in
     subst (λ (k : ℕ). steps_size rate t n ≤ steps_size rate t k) same (steps-le rate t n (m - n))
 
--- the octets of so many steps have so many
+-- the octets of n steps have n whole steps
 steps-only : (rate : Rate) (t n count : ℕ) (octets : List ℕ) → length octets ≡ steps_size rate t n
     → AreSteps rate t octets count → count ≡ n
 steps-only rate t n count octets long are = go (cases_lt count n) (cases_lt n count)

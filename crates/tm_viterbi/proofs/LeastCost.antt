@@ -20,7 +20,7 @@ steps_le rate t a b le = elim (cases_lt b a) as (λ _. a ≤ b) [
   ))
 ]
 
--- octets of at most so many steps
+-- at most 69,632 steps have at most 139,264 octets
 pub few_octets : (rate : Rate) (t steps size : ℕ) → steps ≤ 69632 → size ≡ steps_size rate t steps → size ≤ 139264
 few_octets rate t steps size few is = omega (arith, is, steps_size-most rate t steps)
 

@@ -12,7 +12,7 @@ use Rattle.tm_viterbi.specs.Due.{Place, Closes, Closed, after_block, first_place
 use Rattle.tm_viterbi.proofs.Closing.{kept_is, kept_at}
 use Rattle.tm_conv.proofs.Sizes.{steps_size-add, steps_size-le}
 
--- so many steps lie between two places
+-- `count` steps lie between two places
 pub record Between (rate : Rate) (from to : Place) (count : ℕ) : Type 0 where
   pub place : to.t ≡ from.t + count
   pub octets : length from.octets ≡ steps_size rate from.t count + length to.octets

@@ -9,7 +9,7 @@ use crate::step_pairs::FOUR_TIMES;
 use std::simd::prelude::*;
 use tm_conv::{Rate, kept};
 
-// What the first octet is from a 0 and from a 1, or nothing where c1 is not sent.
+// The distances of the first octet from a 0 and from a 1, or 0 where c1 is not sent.
 fn c1_metrics(is_sent: bool, octets: &[u8]) -> (u16, u16)
     requires { IsTrue is_sent → 0 < length octets.now }
     ensures zero { result.0 ≡ (if is_sent then distance 0 (slice_index octets.now 0) else 0) }
@@ -23,7 +23,7 @@ fn c1_metrics(is_sent: bool, octets: &[u8]) -> (u16, u16)
     }
 }
 
-// The same of the last octet and c2 as it is sent.
+// The distances of the last octet from what is sent for a 0 and for a 1 of c2, or 0 where c2 is not sent.
 fn c2_metrics(is_sent: bool, invert: bool, octets: &[u8]) -> (u16, u16)
     requires { IsTrue is_sent → 0 < length octets.now }
     ensures zero { result.0 ≡ (if is_sent then distance (sent_c2 invert 0)
@@ -57,7 +57,7 @@ pub(crate) fn step_metrics(rate: Rate, invert: bool, t: u64, octets: &[u8]) -> S
     firsts.strict_add(seconds)
 }
 
-// The same in thirty-two bits.
+// The branch metrics of a step, in thirty-two bits.
 pub(crate) fn wide_metrics(metrics: Simd<u16, 4>) -> [u32; 4]
     ensures { result ≡ metrics }
 {

@@ -37,7 +37,7 @@ pub(crate) fn step(
 }
 
 // At most 120 steps in sixteen bits: metrics that are at most 4,096 above the least, and grow by at most 510 a step,
-// are then at most 65,296. Answers how many octets the steps took.
+// are then at most 65,296. Returns how many octets the steps took.
 fn narrow_block(
     rate: Rate,
     invert: bool,
@@ -65,7 +65,7 @@ fn narrow_block(
     taken
 }
 
-// The same for one step, in thirty-two bits.
+// One step in thirty-two bits. Returns how many octets it took.
 fn wide_step(
     rate: Rate,
     invert: bool,

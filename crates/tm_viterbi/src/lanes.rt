@@ -71,7 +71,7 @@ fn store_halves(low: Simd<u32, 32>, high: Simd<u32, 32>, next: &mut [u32; 64])
     high.copy_to_slice(&mut next[32..]);
 }
 
-/// The same as `plain_column`, by lanes of 32 registers.
+/// The path metrics and survivors as for `plain_column`, by lanes of 32 registers.
 pub fn lane_column(sums: &[u32; 64], metrics: &[u32; 4], next: &mut [u32; 64]) -> u64
     requires { (s k : ℕ) → s < registers → k < 4 → slice_index sums.now s + slice_index metrics.now k < 2 ^ 32 }
     ensures sums { IsNextSums sums.now metrics.now next.new }

@@ -40,7 +40,7 @@ fn first_half_metrics(metrics: Simd<u16, 4>) -> (Simd<u16, 16>, Simd<u16, 16>)
     (metrics.swizzle(NEAR_FIRST), metrics.swizzle(FAR_FIRST))
 }
 
-// The same from the registers after those.
+// The branch metrics by bit 0 from registers 2 * (16 + i) and from registers 2 * (16 + i) + 1, i below 16.
 fn second_half_metrics(metrics: Simd<u16, 4>) -> (Simd<u16, 16>, Simd<u16, 16>)
     ensures near { IsHalf result.0 (λ i. slice_index metrics (2 * c1 (2 * (16 + i)) 0 + c2 (2 * (16 + i)) 0)) }
     ensures far { IsHalf result.1 (λ i. slice_index metrics (2 * c1 (2 * (16 + i) + 1) 0 + c2 (2 * (16 + i) + 1) 0)) }

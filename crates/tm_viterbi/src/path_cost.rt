@@ -48,7 +48,7 @@ fn count_steps(rate: Rate, t: u64, limit: usize, len: usize) -> (usize, usize)
     (count, size)
 }
 
-// The same for one rate at a time, so that what a step sends is known to the compiler.
+// Counts as `count_steps` does, for one rate at a time, so that what a step sends is known to the compiler.
 fn whole_steps(rate: Rate, t: u64, limit: usize, len: usize) -> (usize, usize)
     requires step { step_size rate t ≤ len }
     requires limit { 0 < limit }
@@ -75,7 +75,7 @@ pub fn least_cost(rate: Rate, invert: bool, start: Start, soft: &[u8]) -> u64
     least_cost_from(rate, invert, start, 0, soft)
 }
 
-/// The same from step `t` on, below 2^60.
+/// What the best path over soft octets from step `t` on costs, `t` below 2^60. All else is as for `least_cost`.
 pub fn least_cost_from(rate: Rate, invert: bool, start: Start, t: u64, soft: &[u8]) -> u64
     requires steps { (steps : ℕ) × (steps ≤ most_window) × (length soft.now ≡ steps_size rate t steps) }
     requires few { t < stream_bound }
@@ -87,8 +87,8 @@ pub fn least_cost_from(rate: Rate, invert: bool, start: Start, t: u64, soft: &[u
     cost_below(rate, invert, start, t, soft, 0, u64::MAX, MOST_NARROW)
 }
 
-/// The same where it is below `limit`, and else `limit`. It stops where that is settled: path metrics never fall, and
-/// each octet that is left costs its lesser distance at least.
+/// The cost as for `least_cost_from` where it is below `limit`, and else `limit`. It stops where that is settled: path
+/// metrics never fall, and each octet that is left costs its lesser distance at least.
 pub fn least_cost_below(
     rate: Rate,
     invert: bool,
@@ -107,8 +107,8 @@ pub fn least_cost_below(
     cost_below(rate, invert, start, t, soft, least, limit, STEPS_A_LOOK)
 }
 
-// The same of octets that are known to cost `least` whatever the path. After so many steps it is looked again whether
-// it is settled.
+// The cost as for `least_cost_below`, of octets that are known to cost at least `least` whatever the path. After each
+// `look` steps it is looked again whether it is settled.
 fn cost_below(
     rate: Rate,
     invert: bool,
@@ -175,7 +175,8 @@ pub fn least_distances(soft: &[u8]) -> u64
     sum
 }
 
-// The same of octets for which sixteen bits are enough, so that the compiler has eight lanes add at once.
+// Sums the lesser distances of octets for which sixteen bits are enough, so that the compiler has eight lanes add at
+// once.
 fn few_distances(octets: &[u8]) -> u16
     requires { length octets.now ≤ 256 }
     ensures value { result ≡ least_distances octets.now }

@@ -87,7 +87,7 @@ has_block exists s at some room =
     (length-take-le size at.octets inside) in
     closes_with s at b.0 b.1 room b.2
 
--- so many windows close, one after another
+-- `count` windows close, one after another
 pub record HasWindows (s : WindowShape) (at : Place) (count : ℕ) : Type 0 where
   pub blocks : List WindowBlock
   pub long : length blocks ≡ count

@@ -201,7 +201,8 @@ last-begins w spot None at h few =
 
 -- ---- how many windows are closed
 
--- so many closed windows have so many octets from where the first begins, or more where octets are dropped between them
+-- closed windows one after another have the octets of their steps, and of one more, from where the first begins, or
+-- more where octets are dropped between them
 pub followed-long : (w : Windows) (from to : Spot) (x : WindowBlock) (xs : List WindowBlock)
     (h : Followed w from (x ∷ xs) to)
     → steps_size w.settings.rate h.0.place.t (length (x ∷ xs) * w.settings.keep + w.settings.ahead + 1)

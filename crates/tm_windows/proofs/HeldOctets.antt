@@ -21,7 +21,7 @@ use Rattle.tm_windows.proofs.Runs.{more_times}
 
 -- ---- how many windows are closed
 
--- so many windows are all that so many steps close
+-- `count` windows are all that `steps` steps close
 pub record AreClosed (keep ahead steps count : ℕ) : Type 0 where
   pub room : 0 < count → count * keep + ahead + 1 ≤ steps
   pub most : steps < (count + 1) * keep + ahead + 1
@@ -78,7 +78,7 @@ still_open s t n len size es less =
     let some = steps_size-least s.rate (t + n * s.keep) steps in
     omega (arith, es, less, some, ap (λ (m : ℕ). steps_size s.rate t m) sum, steps_size-add s.rate t (n * s.keep) steps)
 
--- what closes so many windows closes fewer
+-- what closes `count` windows closes n, where these are no more
 pub fewer_held : (q : Queueing) (n count : ℕ) → n ≤ count → HoldsRun q count → HoldsRun q n
 fewer_held q n count le room =
     let s = q.windows.settings in
@@ -89,7 +89,7 @@ fewer_held q n count le room =
           (omega (arith, (let wide : n * s.keep ≤ count * s.keep = mul-le-mul_right s.keep le in wide))),
     )
 
--- the octets that are held close no more windows than so many
+-- the octets that are held close no more than `count` windows
 abbrev pub IsMost : Queueing → ℕ → Type 0
 IsMost q count = length q.held < steps_size q.windows.settings.rate q.t
     ((count + 1) * q.windows.settings.keep + q.windows.settings.ahead + 1)

@@ -88,7 +88,7 @@ due-bits s octets blocks due =
     (unfollowed-all w refl at.t (length blocks) octets) in
     followed-bits w spot runs.to blocks runs.closed
 
--- the blocks that are due after those before, as many as these or fewer, keep so many bits
+-- the blocks that are due after those before, `count` or fewer, keep at most `bits` bits
 pub few-bits : (w : Windows) (octets : List ℕ) (done more : List WindowBlock) (count bits : ℕ)
     → AreDueIn w octets (done ++ more) → length more ≤ count → count * w.settings.keep ≤ bits
     → length (kept_bits more) ≤ bits

@@ -11,7 +11,7 @@ use Rattle.tm_windows.specs.Queue.{Queueing, AwaitsPhase, IsOpen, QueueStandsFor
 use Rattle.tm_windows.proofs.FollowedRuns.{kept-append, slips-append}
 use Rattle.tm_windows.proofs.HeldOctets.{after_phase, open-few, open-decided, last_whole, last_beginning, ended}
 
--- these are the whole steps of the octets that are held, and so many octets have them
+-- the octets that are held have n whole steps, and `size` octets have these
 pub record AreWhole (q : Queueing) (n size : ℕ) : Type 0 where
   pub is : size ≡ steps_size q.windows.settings.rate q.t n
   pub whole : size ≤ length q.held

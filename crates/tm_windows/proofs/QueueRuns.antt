@@ -111,7 +111,7 @@ runs-from w spot k at to x (y ∷ ys) begins h still =
           (later-undropped w at.t x.kept count (length (y ∷ ys)) at.octets kept (omega arith) still),
     )
 
--- the blocks of candidates, with so many octets dropped before the first of them
+-- the blocks of candidates, with k octets dropped before the first of them
 pub record AreDroppedFirst (candidates changed : List Candidate) (k : ℕ) : Type 0 where
   pub first : WindowBlock
   pub others : List WindowBlock
@@ -131,7 +131,7 @@ dropped_first (x ∷ xs) k c d some is same = record {
 
 -- ---- the queue after a run
 
--- the run that it holds: so many windows, the first of them after so many dropped octets
+-- the run that it holds: `count` windows, the first of them after k dropped octets
 pub record IsRun (q : Queueing) (k count : ℕ) : Type 0 where
   pub dropped : q.dropped ≡ Some k
   pub some : 0 < count

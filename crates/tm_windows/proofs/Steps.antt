@@ -5,7 +5,7 @@ use Rattle.tm_conv.specs.declared.rates.Rate.TheVariants.{R12, R23, R34, R56, R7
 use Rattle.tm_conv.specs.Path.{period, steps_size}
 use Rattle.tm_conv.proofs.Sizes.{steps_size-is}
 
--- so many symbols have `count` whole steps, which send `size` of them
+-- `symbols` symbols have `count` whole steps, which send `size` of them
 pub record AreWhole (rate : Rate) (symbols count size : ℕ) : Type 0 where
   pub is : steps_size rate 0 count ≡ size
   pub fits : size ≤ symbols
@@ -20,7 +20,7 @@ left_over period symbols = min 1 (symbols % (period + 1)) - min 1 (symbols % (pe
 abbrev pub steps_of : ℕ → ℕ → ℕ
 steps_of period n = n / (period + 1) * period + (n % (period + 1) - 1)
 
--- `count` steps are whole, and send all of the symbols but so many
+-- `count` steps are whole, and send all of the symbols but `left`
 pub record SendAllBut (rate : Rate) (symbols count left : ℕ) : Type 0 where
   pub is : steps_size rate 0 count + left ≡ symbols
   pub most : symbols < steps_size rate 0 (count + 1)

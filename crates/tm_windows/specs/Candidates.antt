@@ -44,11 +44,11 @@ AreCandidates shape t octets from to candidates =
     → IsCandidate shape (t + k * shape.keep)
     (drop (steps_size shape.rate t (k * shape.keep)) octets) (slice_index_or candidates k d)
 
--- each has room for the bits of so many steps
+-- each has room for the bits of `steps` steps
 abbrev pub HaveRoom : ℕ → List Candidate → Type 0
 HaveRoom steps candidates = All (λ c. vec_len c.bits ≡ steps) candidates
 
--- the octets have the steps of so many windows, and one more
+-- the octets have the steps of `count` windows, and one more
 abbrev pub HoldsWindows : WindowRun → ℕ → Type 0
 HoldsWindows run count = steps_size run.shape.rate run.t
     (count * run.shape.keep + run.shape.ahead + 1) ≤ length run.octets.now
@@ -66,14 +66,15 @@ after_windows shape t octets count starts =
       octets = drop (steps_size shape.rate t (count * shape.keep)) octets;
     }
 
--- so many candidates are the blocks of windows one after another, and the window after them starts
--- from here
+-- the first `count` candidates are the blocks of windows one after another, and the window after
+-- them starts from `next`
 abbrev pub AreSettled : WindowRun → ℕ → List Candidate → Option ℕ → Type 0
 AreSettled run count candidates next = ClosedWith run.shape (run_place run)
     (map block_of (take count candidates))
     (after_windows run.shape run.t run.octets.now count next)
 
--- the same of blocks, where so many octets were dropped before the first of them
+-- these are the blocks of `count` windows one after another, where `dropped` octets were dropped
+-- before the first of them, and the window after them starts from `next`
 abbrev pub AreBlocksOfRun : WindowRun → (count dropped : ℕ) → List WindowBlock → Option ℕ → Type 0
 AreBlocksOfRun run count dropped blocks next =
     (first : WindowBlock) × (others : List WindowBlock)

@@ -23,11 +23,11 @@ pub record AreCompared (rate : Rate) (window : ℕ) (octets : List ℕ) (steps :
   pub whole : AreSteps rate 0 (drop (period_size rate - 1) octets) most
   pub lesser : steps ≡ min window most
 
--- with so many octets the whole window is compared
+-- with how many octets, or more, the whole window is compared
 abbrev pub octets_needed : Rate → ℕ → ℕ
 octets_needed rate window = steps_size rate 0 window + (period_size rate - 1)
 
--- the octets of so many steps from step t on, where octet `skip` is the first of them
+-- the octets of `steps` steps from step t on, where octet `skip` is the first of them
 abbrev pub octets_at : Rate → ℕ → ℕ → List ℕ → ℕ → List ℕ
 octets_at rate t steps octets skip = take (steps_size rate t steps) (drop skip octets)
 

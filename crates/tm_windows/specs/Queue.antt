@@ -12,7 +12,7 @@ use Rattle.tm_windows.specs.Windows.{Windows, Spot, first_spot, Begins, Followed
 use Rattle.tm_windows.specs.declared.choosing.Chosen.{Chosen}
 use Rattle.tm_windows.specs.declared.queue.QueueSettings.{QueueSettings}
 
--- how octets are cut into windows, where a slip is looked for over so many steps
+-- how octets are cut into windows, where a slip is looked for over as many steps as `seen` says
 abbrev pub windows_of : QueueSettings → Option ℕ → Windows
 windows_of settings seen = record {
   settings = record {
@@ -144,7 +144,7 @@ pub record AfterPhase (q : Queueing) (given : List ℕ) (done : List WindowBlock
 abbrev pub QueueStandsFor : Queueing → List ℕ → List WindowBlock → Type 0
 QueueStandsFor q given done = BeforePhase q given done ⊎ AfterPhase q given done
 
--- all octets were put in, these are all blocks, and so many octets are left over
+-- all octets were put in, these are all blocks, and `left` octets are left over
 pub record QueueEndsFor (q : Queueing) (given : List ℕ) (done : List WindowBlock)
     (left : ℕ) : Type 0 where
   pub choice : IsChoice q given q.chosen
@@ -159,14 +159,14 @@ pub record IsSameQueue (before now : Queueing) : Type 0 where
   pub most : now.most ≡ before.most
   pub workers : now.workers ≡ before.workers
 
--- with nothing dropped between them the octets held close so many windows
+-- with nothing dropped between them the octets held close `count` windows
 abbrev pub HoldsRun : Queueing → ℕ → Type 0
 HoldsRun q count = steps_size q.windows.settings.rate q.t
     (count * q.windows.settings.keep + q.windows.settings.ahead + 1) ≤ length q.held
 
--- it is for so many workers, where windows that keep so many bits may wait: there are as many, with
--- a window each at a time at least, and one worker has just one; there are no more windows than one
--- each, or than keep these bits and the one after them
+-- it is for `workers` workers, where windows that keep `waiting` bits may be buffered: there are as
+-- many workers, with a window each at a time at least, and one worker has just one; there are no
+-- more windows than one each, or than it takes to keep these bits and one more
 pub record SharesAmong (workers waiting : ℕ) (q : Queueing) : Type 0 where
   pub all : q.workers ≡ workers
   pub each : workers ≤ q.most

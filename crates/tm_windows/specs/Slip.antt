@@ -14,7 +14,7 @@ most_seen = 1024
 abbrev pub steps_seen : ℕ → ℕ → ℕ
 steps_seen keep ahead = min (keep + ahead - most_period_size) most_seen
 
--- with so many octets from step t on they are looked at
+-- how many octets from step t on are looked at for a slip over `steps` steps
 abbrev pub octets_seen : Rate → ℕ → ℕ → ℕ
 octets_seen rate t steps = steps_size rate t steps + (period_size rate - 1)
 
@@ -27,8 +27,8 @@ abbrev pub decided : (number moved unmoved : ℕ) → ℕ
 decided number moved unmoved = if nat_lt (4 * moved) (3 * unmoved) then number else 0
 
 -- How many octets are dropped before a window from step t on that would begin with these octets: of
--- as many candidates as a period sends symbols the first of least cost over so many steps, where
--- its excess is so much less than that of 0.
+-- as many candidates as a period sends symbols the first of least cost over `steps` steps, where
+-- four times its excess is below three times that of 0, and else none.
 pub record IsSlip (rate : Rate) (invert : Bool) (t steps : ℕ) (octets : List ℕ)
     (slip : ℕ) : Type 0 where
   pub number : ℕ

@@ -35,7 +35,7 @@ abbrev pub starts_after : ℕ → Option ℕ → Option ℕ
 starts_after zero starts = starts
 starts_after (suc k) starts = None
 
--- after so many octets, at the same step
+-- after k octets, at the same step
 abbrev pub moved : ℕ → Place → Place
 moved k at = record { starts = starts_after k at.starts; t = at.t; octets = drop k at.octets }
 
@@ -65,7 +65,7 @@ abbrev pub BeginsLast : Windows → Spot → Beginning → Type 0
 BeginsLast w spot b =
     Begins w spot b ⊎ (IsUnseen w spot × (b ≡ record { dropped = 0; place = spot.place }))
 
--- the same block, with so many octets dropped before its window
+-- the same block, with k octets dropped before its window
 abbrev pub dropped_at : ℕ → WindowBlock → WindowBlock
 dropped_at k block = record block { dropped = k }
 
@@ -91,7 +91,7 @@ Followed w from (block ∷ blocks) to =
 abbrev pub AreFirstIn : Windows → List ℕ → List WindowBlock → Type 0
 AreFirstIn w octets blocks = (to : Spot) × Followed w (first_spot w octets) blocks to
 
--- with so many octets a window from step t on is closed
+-- with how many octets, or more, a window from step t on is closed
 abbrev pub closing_size : Settings → ℕ → ℕ
 closing_size s t = steps_size s.rate t (s.keep + s.ahead + 1)
 
@@ -109,7 +109,7 @@ pub record AreDueIn (w : Windows) (octets : List ℕ) (blocks : List WindowBlock
   pub closed : Followed w (first_spot w octets) blocks to
   pub is_open : IsOpenAt w to
 
--- the block of the last window, of so many steps, where there is a step for it
+-- the block of the last window, given the number of its steps: none where that is 0
 abbrev pub IsLast : Settings → Beginning → ℕ → List WindowBlock → Type 0
 IsLast s b zero last = last ≡ []
 IsLast s b (suc n) last = (block : WindowBlock) × (last ≡ block ∷ []) × (block.dropped ≡ b.dropped)
@@ -159,7 +159,7 @@ IsUndropped w t octets = ForSome w.seen (λ steps.
     (octets_seen w.settings.rate t steps ≤ length octets)
     × IsSlip w.settings.rate w.settings.invert t steps octets 0)
 
--- nothing is dropped before any but the first of so many windows one after another
+-- nothing is dropped before any but the first of `count` windows one after another
 abbrev pub AreUndropped : Windows → ℕ → List ℕ → ℕ → Type 0
 AreUndropped w t octets count = (k : ℕ) → 0 < k → k < count
     → IsUndropped w (t + k * w.settings.keep)

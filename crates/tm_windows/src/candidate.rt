@@ -23,7 +23,7 @@ pub struct Candidate {
 impl Candidate {
     ghost use Rattle.tm_windows.specs.Candidates.{block_of};
 
-    /// Room for the bits of so many steps, with none in it.
+    /// Room for the bits of `steps` steps, with none in it.
     pub(crate) fn new(alloc: Global, steps: usize) -> Result<Candidate, AllocError>
         ensures { IfOk result (λ c. vec_len c.bits ≡ steps) }
     {

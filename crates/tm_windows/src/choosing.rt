@@ -87,7 +87,7 @@ pub(crate) fn first_least(
     chosen
 }
 
-// What the best path costs over them from octet `skip` on.
+// What the best path costs over `size` octets from octet `skip` on.
 pub(crate) fn cost_at(rate: Rate, invert: bool, t: u64, size: usize, soft: &[u8], skip: u8) -> u64
     requires inside { skip + size ≤ length soft.now }
     requires whole { (steps : ℕ) × (steps ≤ most_window) × (size ≡ steps_size rate t steps) }
@@ -99,7 +99,7 @@ pub(crate) fn cost_at(rate: Rate, invert: bool, t: u64, size: usize, soft: &[u8]
     least_cost_from(rate, invert, Start::Any, t, &soft[from..from + size])
 }
 
-// The same where it is below `limit`, and else `limit`.
+// What the best path costs over `size` octets from octet `skip` on, where that is below `limit`, and else `limit`.
 fn cost_below(
     rate: Rate,
     invert: bool,

@@ -19,10 +19,10 @@ pub trait Crew {
     /// What a call needs to be known of it.
     ghost is_ready: { Self → Type 0 };
 
-    /// How many of so many workers work at a time.
+    /// How many workers of a given number work at a time.
     ghost share: { Self → ℕ → ℕ };
 
-    /// How many of so many workers work at a time.
+    /// How many of `workers` workers work at a time.
     fn share(&self, workers: usize) -> usize
         requires some { 0 < workers }
         ensures value { result ≡ share self.now workers }

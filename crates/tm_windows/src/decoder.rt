@@ -73,9 +73,9 @@ impl Model for Decoder {
 impl Decoder {
     ghost use Rattle.tm_windows.specs.Decoding.{Calls, DecoderStandsFor};
 
-    /// A decoder that was given nothing yet, for windows of `keep` steps, 64 to 65,536, and `ahead` more, at most
-    /// 4,096. Where `invert` is set each second sum was sent inverted. Of each window but the last `keep` steps are
-    /// kept. It fails only where there isn't enough memory.
+    /// A new decoder for windows of `keep` steps, 64 to 65,536, and `ahead` more, at most 4,096. Where `invert` is set
+    /// each second sum was sent inverted. Of each window but the last `keep` steps are kept. It fails only where there
+    /// isn't enough memory.
     pub fn open(
         alloc: Global,
         rate: Rate,

@@ -8,8 +8,8 @@ use crate::candidate::Candidate;
 use tm_conv::steps_len;
 use tm_viterbi::{WindowDecoder, WindowShape};
 
-// How many steps before a window, and how many of its own, a guess looks at: with so many, no guess of a thousand was
-// wrong at 0 dB.
+// How many steps before a window, and how many of its own, a guess looks at: with 256 of each, no guess of a thousand
+// was wrong at 0 dB.
 const STEPS_SEEN: usize = 256;
 
 // A guess of the register at step t, whose octets begin at place `at`: where the best path over the steps around it

@@ -32,7 +32,7 @@ use tm_viterbi::{Block, BlockTaker, Start, WindowDecoder, WindowShape, first_sta
 /// The octets given to a decoder in all are fewer.
 pub const STREAM_BOUND: u64 = 1 << 60;
 
-// The steps of the windows that a worker has at a time: so many that making a thread costs little beside them.
+// The steps of the windows that a worker has at a time: enough that making a thread costs little beside them.
 const STEPS_EACH: usize = 1 << 20;
 
 /// How octets are cut into windows.
@@ -125,7 +125,7 @@ impl Model for WindowQueue {
         × (q.held.room ≤ 2 ^ 40) };
 }
 
-// So many decoders of windows of one shape.
+// `count` decoders of windows of one shape.
 fn new_decoders(
     alloc: Global,
     shape: WindowShape,
@@ -145,7 +145,7 @@ fn new_decoders(
     Ok(decoders)
 }
 
-// Room for so many candidates, each of a window of so many steps.
+// Room for `count` candidates, each of a window of `steps` steps.
 pub(crate) fn new_candidates(
     alloc: Global,
     steps: usize,
@@ -162,8 +162,8 @@ pub(crate) fn new_candidates(
     Ok(candidates)
 }
 
-// How many windows so many workers have at a time: one each, and more where they are shared out, but no more than bits
-// may wait.
+// How many windows `workers` workers have at a time: one each, and more where windows are shared out, but then no more
+// than it takes to keep `waiting` bits and one more.
 fn window_count(workers: u8, shape: WindowShape, waiting: u64) -> usize
     requires workers { (0 < workers) × (workers ≤ most_workers) }
     requires keep { (least_keep ≤ shape.keep) × (shape.keep ≤ most_keep) }
@@ -183,7 +183,7 @@ fn window_count(workers: u8, shape: WindowShape, waiting: u64) -> usize
     each.max(needed.min(most as u64) as usize)
 }
 
-// How many whole steps so many octets have from step t on, at most `limit`.
+// How many whole steps `len` octets have from step t on, at most `limit`.
 fn whole_steps(rate: Rate, t: u64, len: usize, limit: usize) -> usize
     requires few { (t < stream_bound) × (limit < stream_bound) }
     ensures whole { steps_size rate t result ≤ len }
@@ -203,7 +203,7 @@ fn whole_steps(rate: Rate, t: u64, len: usize, limit: usize) -> usize
     low
 }
 
-// How many windows so many octets close from step t on, at most `most`.
+// How many windows `len` octets close from step t on, at most `most`.
 fn closed_windows(shape: WindowShape, t: u64, len: usize, most: usize) -> usize
     requires sizes { (least_keep ≤ shape.keep) × (shape.keep ≤ most_keep) × (shape.ahead ≤ most_ahead) }
     requires most { most ≤ most_windows }
@@ -221,7 +221,7 @@ fn closed_windows(shape: WindowShape, t: u64, len: usize, most: usize) -> usize
     steps.saturating_sub(shape.ahead + 1) / shape.keep
 }
 
-// From which registers a window may start after so many dropped octets: from any, where octets are dropped.
+// From which registers a window may start after `dropped` octets are dropped: from any, unless that is 0.
 fn starts_after(starts: Option<u8>, dropped: u8) -> Option<u8>
     requires { ForSome starts (λ register. register < registers) }
     ensures value { result ≡ starts_after dropped starts }
@@ -262,9 +262,9 @@ impl WindowQueue {
     ghost use Rattle.tm_windows.specs.Windows.{AreDueIn, AreUndropped, IsUndropped};
     ghost use Rattle.tm_windows.specs.declared.choosing.Chosen.{Chosen};
 
-    /// A queue with no octets, for 1 to 64 workers, where windows that keep at most so many bits may wait. There is
-    /// room for a window for each worker at least, and for one alone where there is one worker; for no more than one
-    /// each, or than have these bits and the one after them. It fails only where there isn't enough memory.
+    /// A queue with no octets, for 1 to 64 workers, where windows that keep at most `waiting` bits may be buffered.
+    /// There is room for a window for each worker at least, and for one alone where there is one worker; for no more
+    /// than one each, or than it takes to keep these bits and one more. It fails only where there isn't enough memory.
     pub fn open(
         alloc: Global,
         settings: QueueSettings,
@@ -508,8 +508,8 @@ impl WindowQueue {
         most
     }
 
-    // Whether nothing is dropped before the window which is so many windows after the next one, where nothing is
-    // dropped before those between and a slip is looked for over so many steps.
+    // Whether nothing is dropped before the window which is `number` windows after the next one, where nothing is
+    // dropped before those between and a slip is looked for over `steps` steps.
     fn is_undropped(&self, steps: usize, number: usize) -> bool
         requires followed { self.now.windows.seen ≡ Some steps }
         requires number { number < self.now.most }
@@ -533,7 +533,7 @@ impl WindowQueue {
         ) == 0
     }
 
-    // Has the crew decode so many windows, which the octets held close. Those that were decoded from another register
+    // Has the crew decode `count` windows, which the octets held close. Those that were decoded from another register
     // than the one after the window before them are decoded again.
     fn decode_run<C: Crew>(&mut self, crew: &C, count: usize)
         requires ready { C.is_ready crew.now }
@@ -679,8 +679,8 @@ impl WindowQueue {
         closed_windows(self.settings.shape, self.t, len, self.candidates.len())
     }
 
-    /// Whether the next call of `decode` decodes nothing and chooses nothing, or what waits are blocks that keep at
-    /// most so many bits.
+    /// Whether no symbol phase is still to be chosen, and the octets held, with none of them dropped, close windows
+    /// that keep at most `bits` bits.
     pub fn may_wait(&self, bits: u64) -> bool
         requires few { self.now.t < stream_bound }
         ensures waits { IsTrue result → (AwaitsPhase self.now → ⊥)

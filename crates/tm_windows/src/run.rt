@@ -80,7 +80,7 @@ pub(crate) fn settle(
 }
 
 /// Has the crew decode a window for each of the first `count` candidates. Those that were decoded from another register
-/// than the one after the window before them are decoded again. So many octets were dropped before the first. Answers
+/// than the one after the window before them are decoded again. `dropped` octets were dropped before the first. Answers
 /// the register from which the window after them starts.
 pub(crate) fn decode_windows<C: Crew>(
     crew: &C,

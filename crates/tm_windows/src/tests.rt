@@ -169,7 +169,7 @@ fn settled(rt: &impl Abort, alloc: Global, rate: Rate, octets: &[u8]) -> Result<
     Ok(digest_of(candidates)?)
 }
 
-// What comes of windows that so many workers share out, who enter a gate before each.
+// What comes of windows that `workers` workers share out, who enter a gate before each.
 fn shared<G: Gate + Sync>(
     rt: &(impl Threads + Sync),
     gate: &G,
@@ -297,7 +297,8 @@ const TURNS: usize = 1_000;
 
 const SPINS: u64 = 1_000_000_000;
 
-// Holds the worker of one window until so many others have entered, and notes whether they ended it.
+// Holds the worker of window `number` until the gate was entered for `others` other windows, and notes whether that
+// ended it.
 #[derive(Drop)]
 struct Holding {
     number: u32,
@@ -439,7 +440,7 @@ fn followed<R: Abort, C: Crew>(
     panic!(rt; "the queue goes on and on");
 }
 
-// The octets of the symbols of so many steps, whose bits are drawn.
+// The octets of the symbols of `steps` steps, whose bits are drawn.
 fn sent(alloc: Global, steps: usize) -> Result<Vec<u8>, AllocError> {
     let mut octets = Vec::new(alloc);
     let mut encoder = Encoder::new(Rate::R12, false);
@@ -455,8 +456,8 @@ fn sent(alloc: Global, steps: usize) -> Result<Vec<u8>, AllocError> {
     Ok(octets)
 }
 
-// Whether the first of two workers is held, and freed by the windows of the other, half of all, where so many windows
-// are decoded together.
+// Whether the first of two workers is held, and freed by the windows of the other, half of all, where `windows`
+// windows are decoded together.
 fn is_freed<R: Abort + Threads + Sync>(
     rt: &R,
     alloc: Global,

@@ -65,7 +65,7 @@ impl<'a> WindowRun<'a> {
         candidate.dropped = 0;
     }
 
-    /// Decodes the window as the last one, which has so many steps and keeps them all, after so many dropped octets.
+    /// Decodes the window as the last one, which has `steps` steps and keeps them all, after `dropped` dropped octets.
     pub(crate) fn decode_last(
         &self,
         decoder: &mut WindowDecoder,

@@ -6,7 +6,7 @@ use tm_conv::{Encoder, Rate, Symbols};
 pub enum Kind {
     /// The symbols of drawn bits, each at its surest.
     Clean,
-    /// The same, less sure, and one in eight wrong.
+    /// The symbols of drawn bits, less sure, and one in eight wrong.
     Noisy,
     /// Drawn octets, which no path fits, so that a register is often guessed wrong.
     Drawn,
@@ -37,7 +37,7 @@ fn soft(kind: Kind, symbol: bool, x: u64) -> u8 {
     }
 }
 
-/// The octets of the symbols of so many steps, whose bits are drawn.
+/// The octets of the symbols of `steps` steps, whose bits are drawn.
 pub fn soft_octets(
     alloc: Global,
     rate: Rate,

@@ -459,7 +459,7 @@ fn followed_streams_drop_octets(rt: HostRuntime) -> Result<(), Fail> {
     Ok(())
 }
 
-// Before a lost symbol stand so many windows that they are shared out; and the taker fails at one of them.
+// Before a lost symbol stand enough windows to be shared out; and the taker fails at one of them.
 #[test]
 fn followed_streams_are_shared_out(rt: HostRuntime) -> Result<(), Fail> {
     let alloc = rt.alloc();

@@ -30,7 +30,7 @@ impl HexText {
         }
     }
 
-    /// The bytes of a text. It fails only for want of memory.
+    /// The bytes of a text. It fails only when out of memory.
     pub fn new(alloc: Global, text: &str) -> Result<HexText, AllocError>
         ensures { IfOk result (λ hex. hex ≡ text.now) }
     {

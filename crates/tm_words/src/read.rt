@@ -21,7 +21,7 @@ pub enum WordsError {
     Memory,
 }
 
-// Want of memory, or the words.
+// Out of memory, or the words.
 fn refusal(error: &clap::Error) -> WordsError
     ensures { result ≡ WordsError.Words → kind_of error.now ≢ ErrorKind.OutOfMemory }
 {
@@ -49,7 +49,7 @@ fn parse<'a>(alloc: Global, words: &'a [String]) -> Result<ArgMatches<'a>, Words
     }
 }
 
-// The job of a command with these matches. It fails only for want of memory.
+// The job of a command with these matches. It fails only when out of memory.
 fn job_of(alloc: Global, kind: JobKind, matches: &ArgMatches) -> Result<Job, AllocError>
     ensures { IfOk result (λ job. job ≡ job_of kind (rows_of (found_of matches.now))) }
 {
@@ -76,7 +76,7 @@ fn job_of(alloc: Global, kind: JobKind, matches: &ArgMatches) -> Result<Job, All
 /// Reads the words of a command line, the first of which is the program's name and is not read.
 ///
 /// `Words` comes exactly where clap's rule for the command line does not take the words (an empty list among them),
-/// `Memory` only for want of memory. An option's text that is no number or none of its words is no refusal here: it
+/// `Memory` only when out of memory. An option's text that is no number or none of its words is no refusal here: it
 /// becomes 2^64 - 1, which is outside every list and range.
 pub fn read_words(alloc: Global, words: &[String]) -> Result<Job, WordsError>
     ensures refused { IsErrOf result WordsError.Words → AreTaken (map string_bytes words.now) → ⊥ }

@@ -28,7 +28,7 @@ fn with(raw: Raw, name: &str, number: u64) -> Option<Raw> {
     Some(raw)
 }
 
-// The same of the values that only receiving looks at.
+// The values with the one of this name replaced, of those that only receiving looks at.
 fn with_reception(raw: Raw, name: &str, number: u64) -> Option<Raw> {
     let mut raw = raw;
     match name {
@@ -47,7 +47,8 @@ fn with_reception(raw: Raw, name: &str, number: u64) -> Option<Raw> {
     Some(raw)
 }
 
-// The same of the values that say how much is worked on at a time.
+// The values with the one of this name replaced, of the limit, the packing, and those that say how much is worked on
+// at a time.
 fn with_size(raw: Raw, name: &str, number: u64) -> Option<Raw> {
     let mut raw = raw;
     match name {

@@ -48,7 +48,7 @@ tmchan encode --inner 7/8 --invert off|inner=78 invert=0\n\
 tmchan encode --phase follow|phase=2\n\
 tmchan encode --phase given --polarity given --soft u8 --start zero --basis dual --randomize on --pack on|\n";
 
-// The same for each form of a value.
+// In each row the words, and the values that they change, for each form of a value.
 static EACH_FORM: &str = "\
 tmchan encode --|\n\
 tmchan encode --code=rs8|code=8\n\
@@ -108,7 +108,7 @@ any certify --skip 3|Certify||1 100 0\n\
 any check --skip 3|Check||1 100 0\n\
 any bits --skip 3|Bits||1 100 0\n";
 
-// The same of a word to be repaired.
+// Rows as those of `WHOLE_JOBS`, for the command with a word to be repaired.
 static WITH_A_WORD: &str = "\
 tmchan word 7B47 --skip 3|Word|7B47|1 100 0\n\
 tmchan word --skip 3 7b|Word|7b|1 100 0\n\
@@ -117,7 +117,7 @@ tmchan word --skip 3 é|Word|é|1 100 0\n\
 tmchan word --skip 3 word|Word|word|1 100 0\n\
 tmchan word --skip 3 |Word||1 100 0\n";
 
-// The same of generated frames.
+// Rows as those of `WHOLE_JOBS`, for the command with generated frames.
 static OF_SOAK: &str = "\
 tmchan soak --skip 3|Soak||1 100 0\n\
 tmchan soak --skip 3 --seed 7 --frames 0 --hits 33|Soak||7 0 33\n\

@@ -14,13 +14,13 @@ EachBecomes becomes (w ∷ ws) (w' ∷ ws') = becomes w w' × EachBecomes become
 abbrev pub words_bound : ℕ
 words_bound = 2 ^ 32
 
--- a batch of so many words that workers are to decode: the repair bound is at most that of the code
+-- a batch of `words` words that `workers` workers are to decode, with a repair bound of at most e
 pub record IsBatch (e repair words workers : ℕ) : Type 0 where
   pub bound : repair ≤ e
   pub count : words < words_bound
   pub some : (0 < workers) × (workers ≤ most_workers)
 
--- so many words of a batch, of which this is the first one's number
+-- `words` words of a batch, the first of which has the number `first`
 pub record IsPart (e repair first words : ℕ) : Type 0 where
   pub bound : repair ≤ e
   pub count : first + words < words_bound

@@ -83,9 +83,9 @@ pub fn decode_all<R: Threads + Sync, G: Gate + Sync, W: InPlace + Send + Sync>(
     }
 }
 
-/// Decodes each word in its place, as `decode_word` does, and puts its answer into it, with so many workers. The
-/// symbols after the first n stay. The workers are at least one and at most 64, the words fewer than 2^32, and
-/// `repair` at most e. Before a worker decodes the word of number i it calls `gate.enter(i)`. The words are the same
+/// Decodes each word in its place, as `decode_word` does, and puts its answer into it, by at most `workers` workers.
+/// The symbols after the first n stay. `workers` is at least one and at most 64, the words are fewer than 2^32, and
+/// `repair` is at most e. Before a worker decodes the word of number i it calls `gate.enter(i)`. The words are the same
 /// for every number of workers, and whatever memory is refused: it tries for memory, so that a worker that is done
 /// early can draw more words, and where it gets none each worker has a fixed part of them.
 pub fn decode_batch<R: Threads + Sync, G: Gate + Sync>(

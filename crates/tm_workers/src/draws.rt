@@ -146,8 +146,8 @@ fn make_rooms<X: Copy>(
     Ok(rooms)
 }
 
-/// Calls f at each number below n, once, on so many workers, and gives each worker's results. A worker draws a number,
-/// calls f at it, and draws again, until no number is left. Where memory is refused f was never called.
+/// Calls f at each number below n, once, on `workers` workers, and gives each worker's results. A worker draws a
+/// number, calls f at it, and draws again, until no number is left. Where memory is refused f was never called.
 pub fn call_each<R: Threads + Sync, X: Copy + Send, F: Fn(u32) -> X + Sync>(
     rt: &R,
     alloc: Global,

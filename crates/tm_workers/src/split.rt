@@ -27,7 +27,7 @@ pub fn decode_part<G: Gate, W: InPlace>(
     }
 }
 
-/// Decodes each word in its place, by at most so many workers: each has one part of the words, and the parts are
+/// Decodes each word in its place, by at most `workers` workers: each has one part of the words, and the parts are
 /// nearly equal. The first word has the number `first`. It takes no memory.
 #[cycle(parts)]
 pub fn split_evenly<R: Threads + Sync, G: Gate + Sync, W: InPlace + Send>(

@@ -30,8 +30,8 @@ fn main(rt: HostRuntime) -> ExitCode {
     ))
 }
 
-// The status where the runtime refuses the words: 5 for want of memory, 8 for any other cause, as words that are no
-// text.
+// The status where the runtime refuses the words: 5 where it is out of memory, 8 for any other cause, as words that are
+// no text.
 fn status_of(error: &io::Error) -> u8 {
     if error.kind() == ErrorKind::OutOfMemory {
         5

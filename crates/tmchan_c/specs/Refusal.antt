@@ -71,11 +71,11 @@ word_refusal code n basis repair other =
     else Some (Value Length)
     else Some (Value Code)
 
--- the reason to refuse so many check octets
+-- the reason to refuse `checks` check octets, or none
 abbrev pub checks_refusal : ℕ → ℕ → Option Refusal
 checks_refusal code checks = if checks == 2 * code then None else Some Room
 
--- the first reason to refuse so many information octets and check octets, or none
+-- the first reason to refuse `info` information octets and `checks` check octets, or none
 abbrev pub encode_refusal : ℕ → ℕ → ℕ → ℕ → Option Refusal
 encode_refusal code basis info checks = word_refusal code (info + 2 * code) basis 0
     (checks_refusal code checks)
@@ -84,11 +84,11 @@ encode_refusal code basis info checks = word_refusal code (info + 2 * code) basi
 abbrev pub decode_refusal : ℕ → ℕ → ℕ → ℕ → Option Refusal
 decode_refusal code basis repair n = word_refusal code n basis repair None
 
--- the reason to refuse so many flags of n symbols
+-- the reason to refuse `flags` flags of n symbols, or none
 abbrev pub flags_refusal : ℕ → ℕ → Option Refusal
 flags_refusal n flags = if flags == n then None else Some Flags
 
--- the first reason to refuse a word of n octets with so many flags, or none
+-- the first reason to refuse a word of n octets with `flags` flags, or none
 abbrev pub erased_refusal : ℕ → ℕ → ℕ → ℕ → ℕ → Option Refusal
 erased_refusal code basis repair n flags = word_refusal code n basis repair (flags_refusal n flags)
 

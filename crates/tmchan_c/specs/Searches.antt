@@ -80,7 +80,7 @@ rules_refusal tolerance fly either verify =
     else Some (Value Fly)
     else Some (Value Tolerance)
 
--- the first reason to refuse a room of so many octets, and an array of so many elements that has
+-- the first reason to refuse a room of `room` octets, and an array of `count` elements that has
 -- `size` bits, from bit `at` on, or none: the search is not open, or no search is kept in this way
 abbrev pub span_refusal : SearchState → ℕ → ℕ → ℕ → ℕ → Option Refusal
 span_refusal s room at count size =
@@ -99,7 +99,7 @@ pub record IsSearching (s : SearchState) (room : List ℕ) (bits : List Bool)
   pub valid : is_resumable (paused_of s) ≡ true
   pub stands : SearchStandsFor (search_of s) room bits found
 
--- a search that is open and was given nothing yet, whatever its room holds
+-- a new search, which is open, whatever its room holds
 abbrev pub Begins : SearchState → Type 0
 Begins s = (room : List ℕ) → length room ≡ verify_bits (search_of s).rules
     → IsSearching s room [] []

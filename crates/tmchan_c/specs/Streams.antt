@@ -38,7 +38,7 @@ abbrev pub closed_refusal : {T : Type 0} → Option T → Option Refusal
 closed_refusal None = Some Closed
 closed_refusal (Some stream) = None
 
--- the same of a call that needs room, of which there is so much
+-- the first reason to refuse such a call that needs room, of which there is `room`, or none
 abbrev pub room_refusal : {T : Type 0} → Option T → (T → Option ℕ) → ℕ → Option Refusal
 room_refusal None needed room = Some Closed
 room_refusal (Some stream) needed room = if has_room (needed stream) room then None else Some Room
@@ -69,7 +69,7 @@ abbrev pub IsSender : Option Stream → Configuration → List ℕ → Type 0
 IsSender held c given =
     IsSomeAnd (sender_in held) (λ sender. (sender.config ≡ c) × IsSending sender given)
 
--- the first reason to refuse it so many octets with so much room, or none
+-- the first reason to refuse it `octets` octets with room for `room` symbols, or none
 abbrev pub sender_refusal : Option Stream → ℕ → ℕ → Option Refusal
 sender_refusal held octets room =
     room_refusal (sender_in held) (λ sender. symbols_room sender.config octets) room
@@ -94,7 +94,7 @@ abbrev pub IsDecoder : Option Stream → Configuration → List ℕ → List (Ha
 IsDecoder held c given done =
     IsSomeAnd (decoder_in held) (λ decoder. (decoder.config ≡ c) × IsDecoding decoder given done)
 
--- the first reason to refuse it so many octets, or its end, with so much room, or none
+-- the first reason to refuse it `octets` octets, or its end, with room for `room` bits, or none
 abbrev pub decoder_refusal : Option Stream → ℕ → ℕ → Option Refusal
 decoder_refusal held octets room =
     room_refusal (decoder_in held) (λ decoder. bits_room decoder.config octets) room

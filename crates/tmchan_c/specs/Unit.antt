@@ -24,7 +24,7 @@ abbrev pub unit_configuration : ℕ → ℕ → ℕ → ℕ → ℕ → Configur
 unit_configuration code depth basis randomize frame =
     configuration_of (unit_raw code depth basis randomize frame)
 
--- the first reason to refuse a frame of so many octets and room for so many, or none
+-- the first reason to refuse a frame of `frame` octets and a buffer of `room` octets, or none
 abbrev pub unit_refusal : ℕ → ℕ → ℕ → ℕ → ℕ → ℕ → Option Refusal
 unit_refusal code depth basis randomize frame room =
     option_or (values_refusal (unit_raw code depth basis randomize frame))

@@ -16,7 +16,8 @@ pub extern "C" fn tmchan_randomize(block: &mut [u8])
     mask(block);
 }
 
-/// Copies the column of this index out of a codeblock of this interleaving depth. Answers 0, or why it is refused.
+/// Copies the column of this index out of a codeblock of this interleaving depth. Returns 0, or the reason of the
+/// refusal.
 #[unsafe(no_mangle)]
 pub extern "C" fn tmchan_take_column(depth: u32, index: u32, block: &[u8], word: &mut [u8]) -> i32
     ensures answer { result ≡ answered (column_refusal depth index (length block.now) (length word.old)) }
@@ -32,7 +33,8 @@ pub extern "C" fn tmchan_take_column(depth: u32, index: u32, block: &[u8], word:
     }
 }
 
-/// Replaces the column of this index in a codeblock of this interleaving depth. Answers 0, or why it is refused.
+/// Replaces the column of this index in a codeblock of this interleaving depth. Returns 0, or the reason of the
+/// refusal.
 #[unsafe(no_mangle)]
 pub extern "C" fn tmchan_put_column(depth: u32, index: u32, block: &mut [u8], word: &[u8]) -> i32
     ensures answer { result ≡ answered (column_refusal depth index (length block.old) (length word.now)) }

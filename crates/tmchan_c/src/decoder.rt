@@ -22,7 +22,8 @@ use crate::written::{NOTHING, written_by};
 use std::alloc::Global;
 use tm_buffers::{BufferDecoder, Written, bits_room};
 
-/// For how many bits a push of so many soft octets needs room, or with none the end; or why there is no such room.
+/// Returns for how many bits a push of `octets_length` soft octets needs room, and, where that is 0, the finish; or the
+/// reason of the refusal.
 #[unsafe(no_mangle)]
 pub extern "C" fn tmchan_decoder_room(options: &[u64], octets_length: usize) -> i64
     ensures { result ≡ number_answer (config_refusal options.now)
@@ -34,7 +35,7 @@ pub extern "C" fn tmchan_decoder_room(options: &[u64], octets_length: usize) -> 
     }
 }
 
-/// Opens a decoder that was given nothing yet. Answers 0, or why it is refused.
+/// Opens a decoder. Returns 0, or the reason of the refusal.
 #[unsafe(no_mangle)]
 pub extern "C" fn tmchan_decoder_open(alloc: Global, handle: &mut Handle, options: &[u64]) -> i32
     ensures refused { Refuses (open_refusal (is_some handle.old.kept.value) options.now) result
@@ -51,8 +52,8 @@ pub extern "C" fn tmchan_decoder_open(alloc: Global, handle: &mut Handle, option
     }
 }
 
-/// Takes the next soft octets, and writes the bits that are due with them to the start of `bits`. Answers how many
-/// these are, as `written` says too, or why it is refused.
+/// Takes the next soft octets, and writes the bits that are due with them to the start of `bits`. Returns how many
+/// these are, as `written` says too, or the reason of the refusal.
 #[unsafe(no_mangle)]
 pub extern "C" fn tmchan_decoder_push(
     alloc: Global,
@@ -81,8 +82,8 @@ pub extern "C" fn tmchan_decoder_push(
     put(handle, stream, answer)
 }
 
-/// Writes the bits that are left to the start of `bits`, gives the symbol phase, and closes the decoder. Answers how
-/// many bits these are, as `written` says too, or why it is refused.
+/// Writes the bits that are left to the start of `bits`, gives the symbol phase, and closes the decoder. Returns how
+/// many bits these are, as `written` says too, or the reason of the refusal.
 #[unsafe(no_mangle)]
 pub extern "C" fn tmchan_decoder_finish(
     alloc: Global,
@@ -117,7 +118,7 @@ pub extern "C" fn tmchan_decoder_finish(
     }
 }
 
-/// Reports the symbol phase, where it was chosen so far. Answers 0, or why it is refused.
+/// Reports the symbol phase, where it was chosen so far. Returns 0, or the reason of the refusal.
 #[unsafe(no_mangle)]
 pub extern "C" fn tmchan_decoder_phase(
     alloc: Global,

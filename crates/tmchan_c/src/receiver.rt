@@ -25,8 +25,8 @@ use std::alloc::Global;
 use tm_buffers::{BufferReceiver, Report, Written, items_room};
 use tm_channel::Totals;
 
-/// For how many reports a push of so many octets, or fewer, and the finish need room, whatever was pushed before; and
-/// for how many octets of frames. Or why no such room is said.
+/// Returns for how many reports a push of at most `octets_length` octets and the finish need room, whatever was pushed
+/// before, and gives in `frames_length` for how many octets of frames; or returns the reason of the refusal.
 #[unsafe(no_mangle)]
 pub extern "C" fn tmchan_receiver_room(
     options: &[u64],
@@ -51,7 +51,7 @@ pub extern "C" fn tmchan_receiver_room(
     }
 }
 
-/// Opens a receiver that was given nothing yet. Answers 0, or why it is refused.
+/// Opens a receiver. Returns 0, or the reason of the refusal.
 #[unsafe(no_mangle)]
 pub extern "C" fn tmchan_receiver_open(alloc: Global, handle: &mut Handle, options: &[u64]) -> i32
     ensures refused { Refuses (open_refusal (is_some handle.old.kept.value) options.now) result
@@ -69,8 +69,9 @@ pub extern "C" fn tmchan_receiver_open(alloc: Global, handle: &mut Handle, optio
 }
 
 /// Takes the next octets, and writes the frames of the items that are due with them to the start of `frames`, and what
-/// else is said of each to that of `reports`. Answers how many items these are, or why it is refused; or that there was
-/// not the room for all: those before the first one that did not fit are written then. `written` says how much was.
+/// else is said of each to that of `reports`. Returns how many items these are, or the reason of the refusal; or that
+/// there was not the room for all: those before the first one that did not fit are written then. `written` says how
+/// much was.
 #[unsafe(no_mangle)]
 pub extern "C" fn tmchan_receiver_push(
     alloc: Global,
@@ -101,7 +102,7 @@ pub extern "C" fn tmchan_receiver_push(
     put(handle, stream, answer)
 }
 
-/// Writes what is left, gives what all octets came to and the symbol phase, and closes the receiver. Answers as
+/// Writes what is left, gives what all octets came to and the symbol phase, and closes the receiver. Returns what
 /// `tmchan_receiver_push` does.
 #[unsafe(no_mangle)]
 pub extern "C" fn tmchan_receiver_finish(
@@ -141,7 +142,7 @@ pub extern "C" fn tmchan_receiver_finish(
     }
 }
 
-/// Reports the symbol phase, where it was chosen so far. Answers 0, or why it is refused.
+/// Reports the symbol phase, where it was chosen so far. Returns 0, or the reason of the refusal.
 #[unsafe(no_mangle)]
 pub extern "C" fn tmchan_receiver_phase(
     alloc: Global,
@@ -167,7 +168,7 @@ pub extern "C" fn tmchan_receiver_phase(
 }
 
 /// Reports before how many windows of the inner code octets were dropped so far, of those whose bits were searched:
-/// none where the symbol phase is not followed. Answers 0, or why it is refused.
+/// none where the symbol phase is not followed. Returns 0, or the reason of the refusal.
 #[unsafe(no_mangle)]
 pub extern "C" fn tmchan_receiver_slips(alloc: Global, handle: &mut Handle, count: &mut u64) -> i32
     ensures same { handle.new.kept.value ≡ handle.old.kept.value }

@@ -20,7 +20,7 @@ const MOST: usize = 255;
 const MOST_CHECKS: usize = 32;
 
 /// Writes the octets of the 2E check symbols after those of the information symbols into `checks`, for the code that
-/// corrects E = `code` symbols, in the basis of this number. Answers 0, or why it is refused.
+/// corrects E = `code` symbols, in the basis of this number. Returns 0, or the reason of the refusal.
 #[unsafe(no_mangle)]
 pub extern "C" fn tmchan_rs_encode(code: u32, basis: u32, info: &[u8], checks: &mut [u8]) -> i32
     ensures answer { result ≡ answered (encode_refusal code basis (length info.now) (length checks.old)) }
@@ -39,8 +39,8 @@ pub extern "C" fn tmchan_rs_encode(code: u32, basis: u32, info: &[u8], checks: &
     }
 }
 
-/// Makes a word the nearest codeword, where one differs from it in at most `repair` symbols. Answers the number of
-/// those symbols, or -1 where there is none, and the word is as it was; or why it is refused.
+/// Makes a word the nearest codeword, where one differs from it in at most `repair` symbols. Returns the number of
+/// those symbols, or -1 where there is none, and the word is as it was; or the reason of the refusal.
 #[unsafe(no_mangle)]
 pub extern "C" fn tmchan_rs_decode(code: u32, basis: u32, repair: u32, word: &mut [u8]) -> i32
     ensures refused { Refuses (decode_refusal code basis repair (length word.old)) result (word.new ≡ word.old) }
@@ -53,8 +53,10 @@ pub extern "C" fn tmchan_rs_decode(code: u32, basis: u32, repair: u32, word: &mu
     }
 }
 
-/// The same with erased symbols: those whose flag is not 0. Answers the number of symbols that were wrong, erased or
-/// not.
+/// Makes a word with erased symbols, those whose flag in `erased` is not 0, the nearest codeword, where one differs
+/// from it in at most `repair` symbols that are not erased, and twice their number and that of the erased symbols are
+/// at most 2 * `code` together. Returns the number of symbols that were wrong, erased or not; all else is as for
+/// `tmchan_rs_decode`.
 #[unsafe(no_mangle)]
 pub extern "C" fn tmchan_rs_decode_erased(
     code: u32,
@@ -81,7 +83,7 @@ pub extern "C" fn tmchan_rs_decode_erased(
     }
 }
 
-// The code that corrects so many symbols in a word of n.
+// The code that corrects `code` symbols in a word of n.
 fn params_of(code: u32, n: usize) -> Params
     requires { IsStrength code × IsLength code n }
     ensures e { result.e ≡ code }

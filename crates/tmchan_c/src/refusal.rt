@@ -44,7 +44,7 @@ impl Refusal {
         }
     }
 
-    /// The same in 64 bits.
+    /// The answer of a call that is refused, in 64 bits.
     pub fn long_answer(self) -> i64
         ensures { result ≡ refused self }
     {
@@ -99,7 +99,7 @@ pub fn word_refusal(
     other
 }
 
-/// The reason to refuse so many check octets, or none.
+/// The reason to refuse `checks` check octets, or none.
 pub fn checks_refusal(code: u32, checks: usize) -> Option<Refusal>
     ensures value { result ≡ checks_refusal code checks }
     ensures fits { result ≡ None → checks ≡ 2 * code }
@@ -111,7 +111,7 @@ pub fn checks_refusal(code: u32, checks: usize) -> Option<Refusal>
     }
 }
 
-/// The reason to refuse so many flags of n symbols, or none.
+/// The reason to refuse `flags` flags of n symbols, or none.
 pub fn flags_refusal(n: usize, flags: usize) -> Option<Refusal>
     ensures value { result ≡ flags_refusal n flags }
     ensures fits { result ≡ None → flags ≡ n }

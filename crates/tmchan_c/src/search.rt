@@ -60,7 +60,7 @@ pub struct PlaceState {
     pub inverted: u8,
 }
 
-/// Begins a search that was given nothing yet. Answers 0, or why it is refused.
+/// Begins a search. Returns 0, or the reason of the refusal.
 #[unsafe(no_mangle)]
 pub extern "C" fn tmchan_search_open(
     search: &mut SearchState,
@@ -91,8 +91,8 @@ pub extern "C" fn tmchan_search_open(
 }
 
 /// Takes bits from number `at` of an array on, each 0 or another number for 1, up to the one with which the next place
-/// is found and no further, or all, and says how far it came. `room` is the search's own. Answers 1 where a place is
-/// found, whose codeblock is whole, and gives it, and else 0; or why it is refused.
+/// is found and no further, or all, and says how far it came. `room` is the search's own. Returns 1 where a place is
+/// found, whose codeblock is whole, and gives it, and else 0; or the reason of the refusal.
 ///
 /// The bits given in all, those of the array too, are to be at most 2^63.
 #[unsafe(no_mangle)]
@@ -122,7 +122,8 @@ pub extern "C" fn tmchan_search_bits(
     }
 }
 
-/// The same of the bits of octets, the most significant bit of each octet first: from bit `at` on.
+/// Takes the bits of octets, the most significant bit of each octet first, from bit `at` on; all else is as for
+/// `tmchan_search_bits`.
 #[unsafe(no_mangle)]
 pub extern "C" fn tmchan_search_octets(
     search: &mut SearchState,
@@ -179,7 +180,7 @@ fn is_either(either: u32) -> bool
     either == 1
 }
 
-// The search that goes on with a room of so many octets and an array of so many elements that has `size` bits, from bit
+// The search that goes on with a room of `room` octets and an array of `count` elements that has `size` bits, from bit
 // `at` on; or the first reason to refuse it.
 fn resumed(
     search: &SearchState,

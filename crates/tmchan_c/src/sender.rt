@@ -17,8 +17,8 @@ use crate::written::{NOTHING, written_by};
 use std::alloc::Global;
 use tm_buffers::{BufferSender, Written, symbols_room};
 
-/// For how many symbols a push of so many octets needs room: one more than it writes at most; or why there is no such
-/// room.
+/// Returns for how many symbols a push of `octets_length` octets needs room, one more than it writes at most; or the
+/// reason of the refusal.
 #[unsafe(no_mangle)]
 pub extern "C" fn tmchan_sender_room(options: &[u64], octets_length: usize) -> i64
     ensures { result ≡ number_answer (config_refusal options.now)
@@ -30,7 +30,7 @@ pub extern "C" fn tmchan_sender_room(options: &[u64], octets_length: usize) -> i
     }
 }
 
-/// Opens a sender that was given nothing yet. Answers 0, or why it is refused.
+/// Opens a sender. Returns 0, or the reason of the refusal.
 #[unsafe(no_mangle)]
 pub extern "C" fn tmchan_sender_open(alloc: Global, handle: &mut Handle, options: &[u64]) -> i32
     ensures refused { Refuses (open_refusal (is_some handle.old.kept.value) options.now) result
@@ -45,7 +45,7 @@ pub extern "C" fn tmchan_sender_open(alloc: Global, handle: &mut Handle, options
 }
 
 /// Takes the next octets of the frames, and writes the symbols of each frame that is whole now to the start of
-/// `symbols`. Answers how many these are, as `written` says too, or why it is refused.
+/// `symbols`. Returns how many these are, as `written` says too, or the reason of the refusal.
 #[unsafe(no_mangle)]
 pub extern "C" fn tmchan_sender_push(
     alloc: Global,
@@ -73,8 +73,8 @@ pub extern "C" fn tmchan_sender_push(
     put(handle, stream, answer)
 }
 
-/// Answers how many octets follow the last whole frame, and closes the sender; or why it is refused. It writes nothing,
-/// as `written` says.
+/// Returns how many octets follow the last whole frame, and closes the sender; or returns the reason of the refusal. It
+/// writes nothing, as `written` says.
 #[unsafe(no_mangle)]
 pub extern "C" fn tmchan_sender_finish(
     alloc: Global,

@@ -227,7 +227,7 @@ fn check_receiving(
     assert!(rt; octets == 0);
 }
 
-// So many octets and nothing else.
+// What a call has written: `count` octets and nothing else.
 fn octets(count: u64) -> Written {
     Written {
         reports: 0,

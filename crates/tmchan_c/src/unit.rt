@@ -9,7 +9,8 @@ use crate::refusal::Refusal;
 use tm_channel::cadu;
 use tm_config::{Config, Raw};
 
-/// The octets of the unit of a frame of so many: of its marker and its codeblock; or why there is none.
+/// Returns how many octets the unit of a frame of `frame_length` octets has, of its marker and its codeblock; or the
+/// reason of the refusal.
 #[unsafe(no_mangle)]
 pub extern "C" fn tmchan_cadu_length(code: u32, depth: u32, frame_length: usize) -> i32
     ensures { result ≡ number_answer (values_refusal (unit_raw code depth 0 0 frame_length))
@@ -21,7 +22,7 @@ pub extern "C" fn tmchan_cadu_length(code: u32, depth: u32, frame_length: usize)
     }
 }
 
-/// Writes the channel access data unit of a frame. Answers 0, or why it is refused.
+/// Writes the channel access data unit of a frame. Returns 0, or the reason of the refusal.
 #[unsafe(no_mangle)]
 pub extern "C" fn tmchan_cadu(
     code: u32,

@@ -11,7 +11,7 @@ pub const NOTHING: Written = Written {
     windows: 0,
 };
 
-/// What a call has written that answers how many octets these are, or why it is refused.
+/// What a call has written that returns how many octets these are, or the reason of the refusal.
 pub fn written_by(answer: i64) -> Written
     ensures { result ≡ written_by answer }
 {

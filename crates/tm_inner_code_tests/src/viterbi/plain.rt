@@ -157,7 +157,7 @@ fn listed(
     path
 }
 
-// The best of all candidates of some steps from step `t` on, by listing each.
+// The best of all candidates of `steps` steps from step `t` on, by listing each.
 pub(super) fn best_listed(
     rate: Rate,
     invert: bool,
@@ -215,7 +215,8 @@ fn walked(
     out
 }
 
-// The same for longer windows: of the paths to one register, all that goes on is common, so the best is kept.
+// The best of all candidates of `steps` steps from step `t` on, for longer windows: since the paths to one register
+// have all that follows in common, only the best of them is kept.
 pub(super) fn best_walked(
     rate: Rate,
     invert: bool,

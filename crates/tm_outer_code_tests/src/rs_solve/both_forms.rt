@@ -9,7 +9,7 @@ use tm_rs_encode::checks;
 use tm_rs_locator::Steps;
 use tm_rs_solve::{decode_erased, decode_word, plain_decode_erased, plain_decode_word};
 
-// A codeword with so many wrong symbols, the first at `shift` and each seven places on.
+// A codeword with `wrong` wrong symbols, seven places apart, the first at `shift`.
 fn word_with(e: u64, shift: usize, wrong: usize) -> [Gf; 255] {
     let mut word = [Gf(0); 255];
     let Ok(params) = Params::new(e, 255) else {
@@ -42,7 +42,7 @@ fn agree_on_word<L: Ledger>(params: &Params, word: &[Gf; 255], steps: &mut Steps
         && fast == plain
 }
 
-// The same with erased places.
+// Whether both forms agree on a word with erased places.
 fn agree_on_erased<L: Ledger>(
     params: &Params,
     word: &[Gf; 255],
@@ -58,7 +58,7 @@ fn agree_on_erased<L: Ledger>(
         && fast == plain
 }
 
-// So many erased places, seven apart.
+// `count` erased places, seven apart.
 fn erased_places(count: usize) -> [bool; 255] {
     let mut erased = [false; 255];
     for i in 0..count {
@@ -67,7 +67,7 @@ fn erased_places(count: usize) -> [bool; 255] {
     erased
 }
 
-// Whether both forms agree on a word without erased places, and on the same word with so many.
+// Whether both forms agree on a word without erased places, and on the same word with `count` erased places.
 fn agree_by<L: Ledger>(blank: Blank, e: u64, word: &[Gf; 255], count: usize) -> bool
     requires name { blank.name ≡ L.name }
     requires parts { blank.parts ≡ L.parts }

@@ -4,7 +4,7 @@ use Rattle.std.proofs.lemmas.Nat.{le-div}
 use Rattle.tm_windows.specs.Sharing.{most_window_steps}
 use Rattle.tm_windows.proofs.queue.window_count.Goals as goal
 
--- each of so many workers has a window of so many steps at least, and all of theirs have few steps
+-- each of `workers` workers has a window of `steps` steps at least, and all of theirs have few steps
 at_least_one : (workers steps : ℕ) → 0 < steps → steps ≤ 69632
     → workers ≤ workers * (1048576 / steps)
 at_least_one workers steps some short =

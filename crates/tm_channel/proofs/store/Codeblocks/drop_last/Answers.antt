@@ -8,7 +8,7 @@ use Rattle.tm_channel.proofs.Repaired.{items-first}
 use Rattle.tm_channel.proofs.Streaming.{take-map', take-take}
 use Rattle.tm_channel.proofs.store.Codeblocks.drop_last.Goals as goal
 
--- all but the last of so many
+-- all but the last of the first `count` slots
 but-last : {B : Type 0} (f : Slot → B) (count : ℕ) (slots : List Slot)
     → take (count - 1) (map f (take count slots)) ≡ map f (take (count - 1) slots)
 but-last f count slots =

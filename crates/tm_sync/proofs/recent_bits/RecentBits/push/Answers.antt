@@ -9,7 +9,7 @@ use Rattle.tm_sync.proofs.PackedBits.{length-part, moved-bits}
 use Rattle.tm_sync.proofs.recent_bits.RecentBits.push.Goals.{After-as_mut_slice, then-self-octets, else-self-octets}
 use Rattle.tm_sync.proofs.recent_bits.RecentBits.push.Goals as goal
 
--- the room holds the same bits, and after them so many octets fit
+-- the room holds the same bits, and after them `count` octets fit
 record HasRoom (was now : Inside) (count : ℕ) : Type 0 where
   ordered : now.from ≤ now.to
   size : length now.room.items ≡ length was.room.items

@@ -4,7 +4,7 @@ use Rattle.tm_sync.specs.declared.found.Found.{Found}
 use Rattle.tm_sync.specs.Searching.{Searching, SearchStandsFor}
 use Rattle.tm_sync.proofs.search.Search.pass_octet.Given as goal
 
--- a search that was given an octet but the last bits, so many
+-- a search that was given an octet but for its last `left` bits
 abbrev pub passing : Searching → ℕ → ℕ → Searching
 passing s octet left =
     record s { received = (s.received * 256 + octet) / 2 ^ left % 2 ^ 32; pushed = s.pushed + (8 - left) }

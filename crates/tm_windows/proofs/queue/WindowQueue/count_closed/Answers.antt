@@ -5,7 +5,7 @@ use Rattle.tm_windows.specs.Queue.{Queueing, AwaitsPhase, HoldsRun}
 use Rattle.tm_windows.proofs.HeldOctets.{IsMost, after_phase, due_after, no_more_held, undropped_most}
 use Rattle.tm_windows.proofs.queue.WindowQueue.count_closed.Goals as goal
 
--- the octets held close so many windows
+-- the octets held close as many windows as `closed_windows` answers
 holds : (c : goal.After-closed_windows) → 0 < c.closed_windows.result → HoldsRun c.args.self.now c.closed_windows.result
 holds c some =
     subst (λ (q : Queueing). HoldsRun q c.closed_windows.result) c.self.view_is

@@ -21,7 +21,7 @@ push w t n octets are is k some less = elim (cases_lt k n) as
           (drop (steps_size w.settings.rate t (j * w.settings.keep)) octets)) same is)
     ]
 
--- the octets that are held close so many windows, and fewer
+-- held octets that close `most` windows close n, where these are no more
 runs : (v : Inside) (q : Queueing) (n most : ℕ) (held : List ℕ) → the_view v ≡ q → held ≡ v.held.octets → n ≤ most
     → steps_size v.settings.shape.rate v.t (most * v.settings.shape.keep + v.settings.shape.ahead + 1) ≤ length held
     → HoldsRun q n

@@ -13,7 +13,7 @@ use Rattle.tm_windows.proofs.Runs.{HasRoom, room_of}
 use Rattle.tm_windows.proofs.Slips.{IsSlip-one}
 use Rattle.tm_windows.proofs.queue.WindowQueue.is_undropped.Goals as goal
 
--- enough octets are there to look for a slip, and so many are dropped
+-- enough octets are there to look for a slip, and `slip` of them are dropped
 abbrev Looks : WindowShape → ℕ → ℕ → List ℕ → ℕ → Type 0
 Looks s t steps octets slip = (octets_seen s.rate t steps ≤ length octets)
     × IsSlip s.rate s.invert t steps octets slip
