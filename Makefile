@@ -101,8 +101,9 @@ $(OBJECTS)/%.o: platform/%.c platform/platform.h include/tmchan.h | $(OBJECTS)
 
 # The library. All of it is one object, in which nothing but the calls of the header has a name that others see.
 CALLS := $(shell sed -nE 's/^(u?int[0-9]+_t|void) (tmchan_[a-z_]+)[^a-z_].*/\2/p' include/tmchan.h)
-CHOSEN := $(shell sed -nE 's/^CHOOSE.(\w+),.*/\1/p' platform/choose_library.c)
-named = $(foreach it,$(CHOSEN),--redefine-sym $(it)=$(it)_$1)
+CHOSEN := $(shell sed -nE 's/^(CHOOSE|OPEN).(tmchan_\w+).*/\2/p' platform/choose_library.c)
+HEAP = rattle_alloc rattle_realloc rattle_dealloc
+named = $(foreach it,$(CHOSEN) $(HEAP),--redefine-sym $(it)=$(it)_$1)
 kept = $(foreach it,$1,--keep-global-symbol=$(it))
 
 $(OBJECTS)/named-v2.o: $(OBJECTS)/library-v2.o
