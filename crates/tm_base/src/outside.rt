@@ -29,7 +29,7 @@ pub trait Source {
     /// The count of faults stands at its last value, so that it can't rise.
     ghost is_last: { Self → Type 0 };
 
-    /// Fills the start of `buf` with the octets that come next, and answers how many it gave. With room in `buf`,
+    /// Fills the start of `buf` with the octets that come next, and returns how many it gave. With room in `buf`,
     /// `Ok(0)` is the end of the input. `Failed` comes only where the count of faults rose, and gives nothing.
     fn read(&mut self, buf: &mut [u8]) -> Result<usize, Failed>
         ensures bound { ReadsAtMost result buf.new }
@@ -51,7 +51,7 @@ pub trait Sink {
     /// The count of faults stands at its last value, so that it can't rise.
     ghost is_last: { Self → Type 0 };
 
-    /// Takes octets from the start of `piece`, and answers how many it took. `Ok(0)` for a piece that isn't empty, and
+    /// Takes octets from the start of `piece`, and returns how many it took. `Ok(0)` for a piece that isn't empty, and
     /// `Failed`, come only where the count of faults rose, and take nothing.
     fn write(&mut self, piece: &[u8]) -> Result<usize, Failed>
         ensures bound { WritesAtMost result piece.now }

@@ -1,5 +1,5 @@
 // A source and a sink over std's readers and writers. As a source and a sink they do not say which octets: a reader or
-// a writer need not say so before its first call. Where it does, each call promises just the octets that it answers.
+// a writer need not say so before its first call. Where it does, each call promises just the octets that it returns.
 ghost use Rattle.std.specs.Prelude.{◌≡◌, ◌||◌, None, false};
 ghost use Rattle.std.specs.Io.{ReadsAtMost, WritesAtMost};
 ghost use Rattle.std.specs.Io.KnownBytes.{ReadConsumes, WriteAppends};
@@ -57,7 +57,7 @@ impl<R: Read> Source for StdSource<R> {
         ensures ended { self.new.ended ≡ (self.old.ended || is_nothing result buf.new) }
         ensures cause { HasCause self.old.faults self.new.faults (self.new.faults ≡ last_count) result }
 
-        // The reader loses just the octets that are answered.
+        // The reader loses just the octets that are returned.
         ensures octets { ReadConsumes self.old.remaining self.new.remaining result buf.new }
     {
         let Ok(count) = self.reader.read(buf) else {
@@ -107,7 +107,7 @@ impl<W: Write> Sink for StdSink<W> {
         ensures bound { WritesAtMost result piece.now }
         ensures cause { HasWriteCause self.old.faults self.new.faults (self.new.faults ≡ last_count) result piece.now }
 
-        // The writer takes just the octets that are answered.
+        // The writer takes just the octets that are returned.
         ensures octets { WriteAppends self.old.contents self.new.contents result piece.now }
     {
         let Ok(count) = self.writer.write(piece) else {

@@ -46,7 +46,7 @@ impl BufferSender {
     }
 
     /// Takes the next octets of the frames, and writes the symbols of each frame that is whole now to the start of
-    /// `symbols`. Answers how many these are; or None where `symbols` has not the room, and takes nothing then. What
+    /// `symbols`. Returns how many these are; or None where `symbols` has not the room, and takes nothing then. What
     /// follows the symbols is left open.
     pub fn push(&mut self, octets: &[u8], symbols: &mut [u8]) -> Option<usize>
         ensures config { self.new.config ≡ self.old.config }

@@ -10,7 +10,7 @@ ghost use Rattle.tm_buffers.specs.Buffer.{most_taken};
 use tm_sync::{Found, Search};
 
 /// Takes bits from index `from` on, each 0 or any other number for 1, up to the one with which the next place is found
-/// and no further, or all of them; none where a place is left that came with the bit before. Answers how many of the
+/// and no further, or all of them; none where a place is left that came with the bit before. Returns how many of the
 /// array are taken then, and the place. `room` is the search's own.
 ///
 /// The bits given in all, those of the array too, are to be at most 2^63.
@@ -72,7 +72,7 @@ pub fn find_in_octets(
 }
 
 // Takes some of the bits of octets from bit `from` on, none of which but the last ends a codeblock: whole octets inside
-// one, which has `block_bits` bits, and else one bit. Answers how many bits.
+// one, which has `block_bits` bits, and else one bit. Returns how many bits.
 fn take_some(search: &mut Search, room: &mut [u8], block_bits: u32, octets: &[u8], from: u64) -> u64
     requires block { search.old.rules.block_bits ≡ block_bits }
     requires few { length octets.now ≤ most_taken }

@@ -108,7 +108,7 @@ impl Reader {
         })
     }
 
-    /// Takes octets from the start of `piece`, until something is seen of the window, and answers how many and what is
+    /// Takes octets from the start of `piece`, until something is seen of the window, and returns how many and what is
     /// seen by them. It may be called while nothing is seen yet.
     pub fn push(&mut self, piece: &[u8]) -> (usize, Seen)
         requires open { IsOpen self.old }

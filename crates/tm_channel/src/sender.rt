@@ -66,7 +66,7 @@ impl Sender {
     /// Takes the next octets of the frames, and writes the symbols of each frame that is whole now.
     ///
     /// `Sink` comes where `out` fails, or takes nothing of what is left; a prefix of what is due was then written.
-    /// `Stopped` comes where an earlier push answered `Sink`; nothing is written then.
+    /// `Stopped` comes where an earlier push returned `Sink`; nothing is written then.
     pub fn push<O: Sink>(&mut self, octets: &[u8], out: &mut O) -> Result<(), SendError>
         ensures stopped { IsErrOf result SendError.Stopped ↔ IsTrue self.old.inner.has_failed }
         ensures unchanged { IsErrOf result SendError.Stopped → (self.new ≡ self.old) × (out.new ≡ out.old) }
@@ -88,7 +88,7 @@ impl Sender {
         }
     }
 
-    /// How many octets follow the last whole frame of those given so far, where no push answered `Sink`.
+    /// How many octets follow the last whole frame of those given so far, where no push returned `Sink`.
     pub fn left_over(&self) -> u32
         ensures { (given : List ℕ) → SenderStandsFor self.now given
             → result ≡ length (after_frames self.now.config.frame_length given) }
@@ -97,7 +97,7 @@ impl Sender {
         held.len() as u32
     }
 
-    /// How many octets follow the last whole frame of those given, where no push answered `Sink`.
+    /// How many octets follow the last whole frame of those given, where no push returned `Sink`.
     pub fn finish(self) -> u32
         ensures { (given : List ℕ) → SenderStandsFor self given
             → result ≡ length (after_frames self.config.frame_length given) }

@@ -12,7 +12,7 @@ pub fn feed<T: ItemTaker>(
     receiver.feed(rt, octets, taker, &OpenGate)
 }
 
-/// Ends, and answers how many bits there were.
+/// Ends, and returns how many bits there were.
 pub fn finish<T: ItemTaker>(
     rt: &(impl Threads + Sync),
     receiver: &mut Receiver,

@@ -17,7 +17,7 @@ use tm_path_commands::{bits, certify, check, trace};
 use tm_records::{erased, word};
 use tm_words::{Job, JobKind};
 
-/// Does what a command asks for, and answers how it ended. Where there is not enough memory, nothing is read or
+/// Does what a command asks for, and returns how it ended. Where there is not enough memory, nothing is read or
 /// written.
 pub fn dispatch<R: Threads + Sync, S: Source, O: Sink, N: Sink>(
     rt: &R,

@@ -14,7 +14,7 @@ use tm_base::{Failed, Sink};
 use tm_channel::Totals;
 
 /// Writes the end of the report of octets that came to this, whose items gave these counts and whose lines the sink has
-/// taken. Answers whether none of them has an uncorrectable column.
+/// taken. Returns whether none of them has an uncorrectable column.
 pub fn end_report<N: Sink>(lines: &mut N, counts: Counts, totals: Totals) -> Result<bool, Failed>
     ensures whole { IfOk result (λ is_good. (start : SinkState) (handed : List (Handed ItemValue))
         → ReportedAll start (sink_state (N.taken lines.old) (N.faults lines.old)) no_counts counts handed

@@ -22,7 +22,7 @@ pub trait ReportEnd {
     /// A sink failed in it.
     ghost broke_end: { Self → Totals → Self → Type 0 };
 
-    /// Writes the end of the report of octets that came to this. Answers whether no column was uncorrectable.
+    /// Writes the end of the report of octets that came to this. Returns whether no column was uncorrectable.
     fn end(&mut self, totals: Totals) -> Result<bool, Failed>
         ensures took_end { IfOk result (λ is_good. took_end self.old totals is_good self.new) }
         ensures broke { OnErr result (broke_end self.old totals self.new) };

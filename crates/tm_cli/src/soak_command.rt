@@ -91,7 +91,7 @@ fn pass_unit<R: Threads + Sync>(
     receiver.feed(rt, octets, counts, &OpenGate).unwrap();
 }
 
-// Sends generated frames, and receives them. Answers what was counted of the items that are due.
+// Sends generated frames, and receives them. Returns what was counted of the items that are due.
 #[tactic(auto, using(crate::proofs::Soaking::unit_few))]
 fn pass_frames<R: Threads + Sync>(
     rt: &R,
@@ -126,7 +126,7 @@ fn pass_frames<R: Threads + Sync>(
     counts
 }
 
-// Sends generated frames, and receives them. Answers what was counted of all items, and what the octets came to.
+// Sends generated frames, and receives them. Returns what was counted of all items, and what the octets came to.
 fn count_frames<R: Threads + Sync>(
     rt: &R,
     config: &Config,

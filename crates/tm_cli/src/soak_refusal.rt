@@ -32,7 +32,7 @@ impl SoakRefusal {
     }
 }
 
-/// Tests the values of `soak`, and answers the first reason to refuse them.
+/// Tests the values of `soak`, and returns the first reason to refuse them.
 pub fn test_soak(config: &Config, seed: u64, frames: u64, hits: u64) -> Option<SoakRefusal>
     ensures { result ≡ soak_refusal config.now seed frames hits }
 {

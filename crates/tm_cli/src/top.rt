@@ -20,7 +20,7 @@ use tm_path_commands::certificate_law;
 /// and when the input is partial.
 ///
 /// A command that reads takes never more than one octet past the limit, and nothing after the end of the input or a
-/// fault. Windows are decoded and words repaired by as many workers as are asked for. Answers the exit status, of 3, 4
+/// fault. Windows are decoded and words repaired by as many workers as are asked for. Returns the exit status, of 3, 4
 /// and 7 the one that occurs first:
 ///
 /// - 0: the source was read to its end by a command that reads, and the whole output is written.

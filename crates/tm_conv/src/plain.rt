@@ -28,7 +28,7 @@ pub fn plain_encode(encoder: &mut Encoder, octets: &[u8], low: u8, out: &mut [u8
     count
 }
 
-// Writes the symbols of a step after the first `count` octets, and answers how many stand there then.
+// Writes the symbols of a step after the first `count` octets, and returns how many stand there then.
 fn store(symbols: Symbols, low: u8, count: usize, out: &mut [u8]) -> usize
     requires { count + 2 ≤ length out.old }
     ensures stored { take result out.new ≡ take count out.old ++ levels low (symbol_list symbols) }

@@ -14,7 +14,7 @@ use tm_base::{Failed, Source};
 pub const TURN: usize = 4096;
 
 /// Feeds what the source gives, up to `limit` octets, and its end. It reads at most one octet past the limit, in turns
-/// of at most 4,096, and nothing after the end, after a fault, or once what is fed has stopped. Answers how that ended.
+/// of at most 4,096, and nothing after the end, after a fault, or once what is fed has stopped. Returns how that ended.
 pub fn drive<S: Source, F: Feed>(limit: u64, source: &mut S, feed: &mut F) -> Ending
     requires ready { F.is_ready feed.old }
     requires limit { limit ≤ most_limit }

@@ -23,7 +23,7 @@ fn left_over_line<N: Sink>(notes: &mut N, rest: u32) -> Result<(), Failed>
     line.put(notes)
 }
 
-/// Writes how many octets follow the last whole frame or record, where there are some, and answers what came of the
+/// Writes how many octets follow the last whole frame or record, where there are some, and returns what came of the
 /// input by that.
 pub fn report_rest<N: Sink>(notes: &mut N, rest: u32) -> Result<Outcome, Failed>
     ensures ok { IfOk result (λ outcome. (outcome ≡ outcome_by rest)

@@ -73,7 +73,7 @@ impl InnerReceiver {
     /// over, once, before any block.
     ///
     /// `Taker` comes where `blocks` fails; a prefix of what is due was then handed over. `Stopped` comes where an
-    /// earlier call answered `Taker` or `finish` was called; nothing is handed over then.
+    /// earlier call returned `Taker` or `finish` was called; nothing is handed over then.
     ///
     /// The octets given in all are to be below 2^60.
     pub fn feed<B: BlockTaker>(&mut self, octets: &[u8], blocks: &mut B) -> Result<(), FeedError>
@@ -94,11 +94,11 @@ impl InnerReceiver {
     }
 
     /// Hands over what is left: the symbol phase, where it is to be found and was not chosen yet, and the last blocks.
-    /// Answers how many bits were received, how often octets were dropped, and how many are left over. It is called
+    /// Returns how many bits were received, how often octets were dropped, and how many are left over. It is called
     /// once, at the end of the octets.
     ///
     /// `Taker` comes where `blocks` fails; a prefix of all was then handed over. `Stopped` comes where an earlier call
-    /// answered `Taker` or `finish` was called; nothing is handed over then.
+    /// returned `Taker` or `finish` was called; nothing is handed over then.
     pub fn finish<B: BlockTaker>(&mut self, blocks: &mut B) -> Result<InnerEnd, FeedError>
         ensures { Finishes self.old self.new
             (taker_call (on_handed B.took_phase B.took) (on_handed B.broke_phase B.broke) B.faults B.is_last
@@ -173,7 +173,7 @@ impl InnerReceiver {
     }
 
     /// Converts the next octets, before they are fed, to soft octets of which 0 is the surest 0 and 255 the surest 1.
-    /// Answers how many of the first are still to be skipped. The symbol phase, where it is to be found, is found in
+    /// Returns how many of the first are still to be skipped. The symbol phase, where it is to be found, is found in
     /// those after them.
     pub fn to_soft(&self, octets: &mut [u8]) -> usize
         ensures size { length octets.new ≡ length octets.old }
@@ -262,7 +262,7 @@ fn hand_due<B: BlockTaker>(decoder: &mut InnerDecoder, blocks: &mut B) -> Result
     }
 }
 
-// Decodes the next run of windows, and hands over the phase, where it was chosen since, and their blocks. Answers how
+// Decodes the next run of windows, and hands over the phase, where it was chosen since, and their blocks. Returns how
 // many.
 fn hand_run<B: BlockTaker>(decoder: &mut InnerDecoder, blocks: &mut B) -> Result<usize, Failed>
     ensures kept { IsSameDecoder decoder.old decoder.new }
@@ -334,7 +334,7 @@ fn end<B: BlockTaker>(decoder: &mut InnerDecoder, blocks: &mut B) -> Result<Inne
     }
 }
 
-/// Hands over the symbol phase of received octets, fewer than 2^60, where it is to be found, and their blocks. Answers
+/// Hands over the symbol phase of received octets, fewer than 2^60, where it is to be found, and their blocks. Returns
 /// how many bits were received, how often octets were dropped, and how many are left over. With no inner code no block
 /// comes.
 ///

@@ -26,7 +26,7 @@ pub enum SendError {
     /// The sink failed, or took nothing of what was left.
     #[error("sink")]
     Sink,
-    /// An earlier push answered `Sink`.
+    /// An earlier push returned `Sink`.
     #[error("stopped")]
     Stopped,
 }
@@ -64,7 +64,7 @@ impl InnerSender {
         }
     }
 
-    /// Whether a push has answered `Sink`, so that each further one answers `Stopped`.
+    /// Whether a push has returned `Sink`, so that each further one returns `Stopped`.
     pub fn has_failed(&self) -> bool
         ensures { result ≡ self.now.has_failed }
     {
@@ -77,7 +77,7 @@ impl InnerSender {
     /// push to push.
     ///
     /// `Sink` comes where `out` fails, or takes nothing of what is left; a prefix of what is due was then written.
-    /// `Stopped` comes where an earlier push answered `Sink`; nothing is written then.
+    /// `Stopped` comes where an earlier push returned `Sink`; nothing is written then.
     pub fn push<O: Sink>(&mut self, octets: &[u8], out: &mut O) -> Result<(), SendError>
         ensures stopped { IsErrOf result SendError.Stopped ↔ IsTrue self.old.has_failed }
         ensures unchanged { IsErrOf result SendError.Stopped → (self.new ≡ self.old) × (out.new ≡ out.old) }

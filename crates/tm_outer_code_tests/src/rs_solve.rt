@@ -102,7 +102,7 @@ fn decode_with<L: Ledger>(
     decode_erased(params, repair, erased, word, steps)
 }
 
-// What was answered for the word of a row, and what is left of it.
+// What was returned for the word of a row, and what is left of it.
 fn check_decoded(
     rt: &impl Abort,
     row: &Row<'_>,

@@ -127,8 +127,8 @@ impl<'a> Check<'a> {
         first_undercut(&step, &self.last, sums)
     }
 
-    /// Answers for a path of `bits`, one to each step and each 0 or 1, from a start `register`, and its `metric`, once
-    /// each column was given.
+    /// Returns the answer for a path of `bits`, one to each step and each 0 or 1, from a start `register`, and its
+    /// `metric`, once each column was given.
     pub fn finish(self, bits: &[u8], register: u8, metric: u64) -> Verdict
         requires steps { length self.claim.soft ≡ steps_size self.claim.rate self.claim.first (length bits.now) }
         requires bits { AreBits bits.now }

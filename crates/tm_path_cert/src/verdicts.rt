@@ -1,4 +1,4 @@
-// What a check is asked and what it answers.
+// What a check is asked and what it returns.
 
 /// The registers that a path may start from.
 #[derive(Clone, Copy, Debug, PartialEq, Eq)]
@@ -9,7 +9,7 @@ pub enum Starts {
     One(u8),
 }
 
-/// What a check answers.
+/// What a check returns.
 #[derive(Clone, Copy, Debug, PartialEq, Eq)]
 pub enum Verdict {
     /// The path costs the metric, and no candidate costs less.

@@ -10,7 +10,7 @@ ghost use Rattle.tm_path_commands.specs.Shown.{ShowsLeast, PassesCertified};
 
 use tm_cert_file::{passes_law, read_law, shown_law};
 
-/// Where `check` answers 0, the paths of the certificate cost the least, and what `certify` writes passes. It does
+/// Where `check` returns 0, the paths of the certificate cost the least, and what `certify` writes passes. It does
 /// nothing.
 pub fn certificate_law()
     ensures shown { (ending : Ending) (status : ℕ) (c : Configuration) (octets : List ℕ)

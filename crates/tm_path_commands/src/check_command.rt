@@ -89,7 +89,7 @@ fn end_window<O: Sink, N: Sink>(
     }
 }
 
-// Writes which window fails, and why. Answers what checking stops by then.
+// Writes which window fails, and why. Returns what checking stops by then.
 fn write_failed<N: Sink>(number: u64, reason: Reason, notes: &mut N) -> Stop
     ensures line { WroteBy result (N.taken notes.old) (N.taken notes.new) (bad_text number reason) }
     ensures course { SinkWent (is_sink_fault (ending_of_stop result))
@@ -101,7 +101,7 @@ fn write_failed<N: Sink>(number: u64, reason: Reason, notes: &mut N) -> Stop
     }
 }
 
-// Takes octets of a certificate from the start of `piece`, until something is seen of its next window, and answers how
+// Takes octets of a certificate from the start of `piece`, until something is seen of its next window, and returns how
 // many. It stops where this window fails, which the notes then say, or a sink.
 fn check_window<O: Sink, N: Sink>(
     reader: &mut Reader,
@@ -173,7 +173,7 @@ fn check_octets<O: Sink, N: Sink>(
     Ok(())
 }
 
-// Writes where the certificate is cut at its end, or what it comes to. Answers what came of it by that.
+// Writes where the certificate is cut at its end, or what it comes to. Returns what came of it by that.
 fn write_end<N: Sink>(reader: &Reader, progress: Progress, notes: &mut N) -> Result<Outcome, Failed>
     requires { IsOpen reader.now }
     ensures finished { IfOk result (λ outcome. (out : Option (List ℕ))

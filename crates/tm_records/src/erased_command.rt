@@ -57,7 +57,7 @@ fn is_beyond(answer: ErasedAnswer) -> bool
     }
 }
 
-// Writes a line for each record that was decoded, and answers whether a word is uncorrectable.
+// Writes a line for each record that was decoded, and returns whether a word is uncorrectable.
 fn write_lines<O: Sink>(records: &Records, out: &mut O) -> Result<bool, Failed>
     ensures short { records.now.coding.params.n ≤ LONGEST_WORD }
     ensures ok { IfOk result (λ beyond. Wrote (O.taken out.old) (O.taken out.new)
@@ -78,7 +78,7 @@ fn write_lines<O: Sink>(records: &Records, out: &mut O) -> Result<bool, Failed>
     Ok(beyond)
 }
 
-// Decodes the whole records of a batch and writes their lines. Answers whether a word is uncorrectable.
+// Decodes the whole records of a batch and writes their lines. Returns whether a word is uncorrectable.
 fn answer_batch<R: Threads + Sync, O: Sink>(
     rt: &R,
     records: &mut Records,
@@ -124,7 +124,7 @@ fn end_full<R: Threads + Sync, O: Sink>(
     Ok(beyond | last)
 }
 
-// Takes the next octets of records, and writes the lines of each batch that is full with them. Answers whether a word
+// Takes the next octets of records, and writes the lines of each batch that is full with them. Returns whether a word
 // so far is uncorrectable, `beyond` being whether one of those before is.
 fn take_octets<R: Threads + Sync, O: Sink>(
     rt: &R,
@@ -267,7 +267,7 @@ fn records_by(alloc: Global, config: &Config) -> Result<Records, NoMemory>
 /// or `beyond`. A record is the octets of a word and a flag for each, 0 where its symbol is good and any other where it
 /// is erased. Records are decoded 256 at a time, by the workers of the configuration. At the end of the input it writes
 /// to the notes how many octets follow the last whole record. `Bad` comes where none do and a word is uncorrectable.
-/// After a fault nothing more is read or written. It takes all its memory before it reads, and there alone answers
+/// After a fault nothing more is read or written. It takes all its memory before it reads, and there alone returns
 /// `NoMemory`.
 pub fn erased<R: Threads + Sync, S: Source, O: Sink, N: Sink>(
     rt: &R,

@@ -98,7 +98,7 @@ impl Records {
         })
     }
 
-    /// Takes octets from the start of `piece`, as many as the batch has room for, and answers how many.
+    /// Takes octets from the start of `piece`, as many as the batch has room for, and returns how many.
     pub fn take(&mut self, piece: &[u8]) -> usize
         ensures count { result ≡ min (length piece.now)
             (most_records * record_size self.old.coding - length self.old.octets) }

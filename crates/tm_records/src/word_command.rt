@@ -48,7 +48,7 @@ impl WordRefusal {
     }
 }
 
-// Reads the octets of a text of two digits each, and answers whether all are hexadecimal.
+// Reads the octets of a text of two digits each, and returns whether all are hexadecimal.
 fn read_octets(text: &[u8], octets: &mut [u8]) -> bool
     requires { length text.now ≡ 2 * length octets.old }
     ensures digits { result ≡ list_all is_hex_digit text.now }
@@ -61,7 +61,7 @@ fn read_octets(text: &[u8], octets: &mut [u8]) -> bool
     }
 }
 
-/// Tests the text of a word, and answers the first reason to refuse it.
+/// Tests the text of a word, and returns the first reason to refuse it.
 pub fn test_word(config: &Config, text: &[u8]) -> Option<WordRefusal>
     ensures { result ≡ word_refusal config.now text.now }
 {
@@ -122,7 +122,7 @@ fn word_line<O: Sink>(out: &mut O, answer: Answer, octets: &[u8]) -> Result<(), 
 }
 
 /// Writes the codeword that is nearest to a word within the repair bound, after its distance from the word:
-/// `fixed D HEX`. Where there is none it writes `beyond`, and answers `Bad`. The text has two hexadecimal digits for
+/// `fixed D HEX`. Where there is none it writes `beyond`, and returns `Bad`. The text has two hexadecimal digits for
 /// each octet of the word, as it is received. `SinkFault` comes only where the sink's count of faults rose. It takes no
 /// memory.
 pub fn word<O: Sink>(config: &Config, text: &[u8], out: &mut O) -> Ending

@@ -1,4 +1,4 @@
-// What the decoder answers.
+// What the decoder returns.
 
 /// What became of a word: it is now the codeword that lay at this distance, or no codeword lies within
 /// the bound and it is unchanged.

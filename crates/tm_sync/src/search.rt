@@ -254,7 +254,7 @@ impl Search {
     }
 
     // Takes an octet at once where no place is found with any of its bits: they are too few after a codeblock, or with
-    // each of them the last 32 bits match in no way. Answers whether it did.
+    // each of them the last 32 bits match in no way. Returns whether it did.
     fn pass_octet(&mut self, octet: u8) -> bool
         requires free { inside_of self.old ≡ None }
         requires alone { self.old.rules.verify ≡ 0 }

@@ -26,7 +26,7 @@ fn path_metric(sums: &[u32; 64], metrics: &[u32; 4], p: usize, b: usize) -> u32
 }
 
 /// The path metrics after `sums`, by the four branch metrics of a step, at index 2 * first + second.
-/// Answers the survivors: bit s says whether register s is reached at less cost from the odd one of its two registers.
+/// Returns the survivors: bit s says whether register s is reached at less cost from the odd one of its two registers.
 pub fn plain_column(sums: &[u32; 64], metrics: &[u32; 4], next: &mut [u32; 64]) -> u64
     requires { (s k : ℕ) → s < registers → k < 4 → slice_index sums.now s + slice_index metrics.now k < 2 ^ 32 }
     ensures sums { IsNextSums sums.now metrics.now next.new }

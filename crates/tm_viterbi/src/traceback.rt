@@ -64,7 +64,7 @@ fn trace_each(survivors: &[u64], register: usize, bits: &mut [u8]) -> usize
     s
 }
 
-// The traceback: writes the bits of the path that survivors keep for `register`, at which it ends, and answers the
+// The traceback: writes the bits of the path that survivors keep for `register`, at which it ends, and returns the
 // register from which it starts.
 pub(crate) fn trace_back(survivors: &[u64], register: usize, bits: &mut [u8]) -> usize
     requires { CanTrace survivors.now bits.old register }

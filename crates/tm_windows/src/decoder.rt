@@ -25,7 +25,7 @@ pub enum FeedError {
     /// The taker of the blocks failed.
     #[error("taker")]
     Taker,
-    /// An earlier call answered `Taker`, or `finish` was called.
+    /// An earlier call returned `Taker`, or `finish` was called.
     #[error("stopped")]
     Stopped,
 }
@@ -115,7 +115,7 @@ impl Decoder {
     /// once the step after it is whole.
     ///
     /// `Taker` comes where `blocks` fails; a prefix of the blocks was then handed over. `Stopped` comes where an
-    /// earlier call answered `Taker` or `finish` was called; nothing is handed over then.
+    /// earlier call returned `Taker` or `finish` was called; nothing is handed over then.
     ///
     /// The octets given in all are to be below 2^60.
     pub fn feed<B: BlockTaker>(&mut self, piece: &[u8], blocks: &mut B) -> Result<(), FeedError>
@@ -147,10 +147,10 @@ impl Decoder {
         }
     }
 
-    /// Hands over the block of the last window, where a step is left for it, and answers how many octets are left over
+    /// Hands over the block of the last window, where a step is left for it, and returns how many octets are left over
     /// after the last whole step: none or one. It is called once, at the end of the stream.
     ///
-    /// `Taker` comes where `blocks` fails. `Stopped` comes where an earlier call answered `Taker` or `finish` was
+    /// `Taker` comes where `blocks` fails. `Stopped` comes where an earlier call returned `Taker` or `finish` was
     /// called; nothing is handed over then.
     pub fn finish<B: BlockTaker>(&mut self, blocks: &mut B) -> Result<u8, FeedError>
         ensures call { Calls self.old self.new
@@ -231,7 +231,7 @@ fn hand_closed<B: BlockTaker>(queue: &mut WindowQueue, blocks: &mut B) -> Result
     Ok(())
 }
 
-/// Hands over the blocks of soft octets, fewer than 2^60, and answers how many octets are left over after the last
+/// Hands over the blocks of soft octets, fewer than 2^60, and returns how many octets are left over after the last
 /// whole step: none or one. The settings are those of `Decoder::open`.
 ///
 /// `Memory` comes only where there isn't enough of it. `Taker` comes where `blocks` fails; a prefix of the blocks was

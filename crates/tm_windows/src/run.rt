@@ -51,7 +51,7 @@ fn is_from(candidate: &Candidate, starts: Option<u8>) -> bool
     }
 }
 
-/// Decodes again each window that was decoded from another register than the one after the window before it. Answers
+/// Decodes again each window that was decoded from another register than the one after the window before it. Returns
 /// the register from which the window after them starts.
 pub(crate) fn settle(
     decoder: &mut WindowDecoder,
@@ -80,7 +80,7 @@ pub(crate) fn settle(
 }
 
 /// Has the crew decode a window for each of the first `count` candidates. Those that were decoded from another register
-/// than the one after the window before them are decoded again. `dropped` octets were dropped before the first. Answers
+/// than the one after the window before them are decoded again. `dropped` octets were dropped before the first. Returns
 /// the register from which the window after them starts.
 pub(crate) fn decode_windows<C: Crew>(
     crew: &C,

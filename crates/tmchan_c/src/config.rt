@@ -50,7 +50,7 @@ fn recording(raw: &Raw) -> Raw
     }
 }
 
-/// Answers 0; or that there are more options than are known here, or the first value that is outside its list or range.
+/// Returns 0; or that there are more options than are known here, or the first value that is outside its list or range.
 #[unsafe(no_mangle)]
 pub extern "C" fn tmchan_config_check(options: &[u64]) -> i32
     ensures { result ≡ answered (config_refusal options.now) }

@@ -54,7 +54,7 @@ pub fn put<A>(handle: &mut Handle, stream: Box<Stream>, answer: A) -> A
     answer
 }
 
-/// Opens a handle that is closed. Answers 0, or that there is not enough memory.
+/// Opens a handle that is closed. Returns 0, or that there is not enough memory.
 pub fn open(alloc: Global, handle: &mut Handle, stream: Stream) -> i32
     requires { handle.old.kept.value ≡ None }
     ensures { Opens result handle.new.kept.value (λ held. held ≡ Some stream) }
@@ -89,7 +89,7 @@ fn is_open(handle: &Handle) -> bool
     handle.is_open == 1
 }
 
-/// Closes a stream, whichever it is, and gives its memory back. Answers 0, or that none is open.
+/// Closes a stream, whichever it is, and gives its memory back. Returns 0, or that none is open.
 #[unsafe(no_mangle)]
 pub extern "C" fn tmchan_close(alloc: Global, handle: &mut Handle) -> i32
     ensures answer { result ≡ answered (closed_refusal handle.old.kept.value) }

@@ -2,7 +2,7 @@
 //! what C passed, makes the public calls of the crates below, and states their clauses again. The calls that open a
 //! stream take its memory, and no others take any.
 //!
-//! A call that is refused answers the number of the first reason, and has written nothing.
+//! A call that is refused returns the number of the first reason, and has written nothing.
 #![tactic(auto)]
 
 mod codeblock;

@@ -207,7 +207,7 @@ fn resumed(
     Ok(resumed)
 }
 
-// Reports a place that was found. Answers 1 where one was, and else 0.
+// Reports a place that was found. Returns 1 where one was, and else 0.
 fn report_place(found: Option<Found>, place: &mut PlaceState) -> i32
     ensures answer { result ≡ found_answer found }
     ensures place { place.new ≡ place_after found place.old }

@@ -49,7 +49,7 @@ static TEXTS: [&str; 38] = [
     "bad is neither drop nor pass",
 ];
 
-/// Writes what an answer means to the start of `text`, a sentence and an octet 0. Answers how many octets the sentence
+/// Writes what an answer means to the start of `text`, a sentence and an octet 0. Returns how many octets the sentence
 /// has; or that there is not the room, and writes nothing then.
 #[unsafe(no_mangle)]
 pub extern "C" fn tmchan_text(answer: i64, text: &mut [u8]) -> i32
