@@ -14,3 +14,4 @@ mod KeptSymbols
 mod LanesTaken
 mod OctetPaths
 mod BitsInOrder
+mod Counted

@@ -53,7 +53,7 @@ impl Encoder {
         }
     }
 
-    /// Takes the next bit, and answers the symbols that its step sends (CCSDS 131.0-B, Convolutional Coding).
+    /// Takes the next bit, and returns the symbols that its step sends (CCSDS 131.0-B, Convolutional Coding).
     pub fn step(&mut self, bit: bool) -> Symbols
         ensures rate { self.new.rate ≡ self.old.rate }
         ensures invert { self.new.invert ≡ self.old.invert }
@@ -71,7 +71,7 @@ impl Encoder {
     }
 
     /// Takes the bits of octets, the most significant bit of each first, and writes their symbols to the start of
-    /// `out`, each as an octet: a 0 as the octet `low`, and a 1 as its complement. Answers how many symbols these are,
+    /// `out`, each as an octet: a 0 as the octet `low`, and a 1 as its complement. Returns how many symbols these are,
     /// at most 16 for each octet. `out` has at least 16 octets for each octet; what follows the symbols there means
     /// nothing (CCSDS 131.0-B, Convolutional Coding).
     pub fn encode(&mut self, octets: &[u8], low: u8, out: &mut [u8]) -> usize
@@ -102,7 +102,7 @@ impl Encoder {
 }
 
 // The two sums of a step.
-fn sums(register: u8, bit: bool) -> (bool, bool)
+pub(crate) fn sums(register: u8, bit: bool) -> (bool, bool)
     requires { register < registers }
     ensures first { bit_number result.0 ≡ c1 register (bit_number bit) }
     ensures second { bit_number result.1 ≡ c2 register (bit_number bit) }
@@ -114,7 +114,13 @@ fn sums(register: u8, bit: bool) -> (bool, bool)
 }
 
 // What a step at this position of the pattern sends of its two sums.
-fn symbols_kept(rate: Rate, invert: bool, position: u8, first: bool, second: bool) -> Symbols
+pub(crate) fn symbols_kept(
+    rate: Rate,
+    invert: bool,
+    position: u8,
+    first: bool,
+    second: bool,
+) -> Symbols
     ensures { symbol_list result ≡ sent rate invert position (bit_number first) (bit_number second) }
 {
     let sent_second = second != invert;

@@ -3,12 +3,14 @@
 //! stand. It stands on the bits of tm_base.
 #![tactic(auto)]
 
+mod counts;
 mod encoder;
 mod laws;
 mod octets;
 mod plain;
 mod rates;
 
+pub use counts::{SymbolCounts, symbol_counts};
 pub use encoder::{Encoder, Symbols};
 pub use laws::{best_path_law, clean_symbols_law, columns_law, complement_law, six_pairs_law};
 pub use plain::plain_encode;
