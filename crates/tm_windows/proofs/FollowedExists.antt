@@ -16,7 +16,7 @@ use Rattle.tm_viterbi.proofs.HasBlocks.{HasBest, HasStart, whole_steps, has_bloc
 use Rattle.tm_viterbi.proofs.OneList.{many}
 use Rattle.tm_windows.specs.Slip.{octets_seen}
 use Rattle.tm_windows.specs.Windows.{Windows, Beginning, Spot, first_spot, moved, DropsBy, Begins, IsUnseen, BeginsLast, undropped, ClosesAt, spot_after, Followed, closing_size, IsLast, AreBlocksIn, IsSeen}
-use Rattle.tm_windows.proofs.Phases.{period_size-most}
+use Rattle.tm_windows.proofs.Phases.{period_size_most}
 use Rattle.tm_windows.proofs.Slips.{IsSlip-exists}
 use Rattle.tm_windows.proofs.Beginnings.{begins-within}
 use Rattle.tm_windows.proofs.Existing.{some_start, has_block}
@@ -121,7 +121,7 @@ seen-first s t steps few =
       ap (steps_size s.rate t) sum,
       steps_size-least s.rate (t + steps) more,
       long,
-      period_size-most s.rate,
+      period_size_most s.rate,
     )
 
 pub unseen-open : (w : Windows) (spot : Spot) → IsSeen w → IsUnseen w spot

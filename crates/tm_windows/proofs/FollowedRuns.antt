@@ -10,7 +10,7 @@ use Rattle.tm_viterbi.specs.WindowBlock.{WindowBlock}
 use Rattle.tm_viterbi.specs.Due.{Place, Closes, Closed, after_block}
 use Rattle.tm_viterbi.proofs.Closing.{more_octets, kept_is}
 use Rattle.tm_windows.specs.Slip.{octets_seen}
-use Rattle.tm_windows.specs.Windows.{Windows, Beginning, Spot, DropsBy, Begins, BeginsLast, dropped_at, ClosesAt, spot_after, Followed, slip_at, slips_of, kept_of, undecided, IsUndropped, AreUndropped}
+use Rattle.tm_windows.specs.Windows.{Windows, Beginning, Spot, DropsBy, Begins, BeginsLast, dropped_at, ClosesAt, spot_after, Followed, slip_at, slips_of, dropped_of, kept_of, undecided, IsUndropped, AreUndropped}
 use Rattle.tm_windows.specs.Queue.{IsAt}
 use Rattle.tm_windows.proofs.Beginnings.{begins-one, begins-within, longer_spot, begins-more}
 use Rattle.tm_windows.proofs.FollowedExists.{undropped-same}
@@ -52,6 +52,10 @@ kept-append (x ∷ xs) ys = omega (arith, kept-append xs ys)
 pub slips-append : (xs ys : List WindowBlock) → slips_of (xs ++ ys) ≡ slips_of xs + slips_of ys
 slips-append [] ys = omega arith
 slips-append (x ∷ xs) ys = omega (arith, slips-append xs ys)
+
+pub dropped-append : (xs ys : List WindowBlock) → dropped_of (xs ++ ys) ≡ dropped_of xs + dropped_of ys
+dropped-append [] ys = omega arith
+dropped-append (x ∷ xs) ys = omega (arith, dropped-append xs ys)
 
 -- ---- windows before which nothing is dropped
 
@@ -178,6 +182,12 @@ pub closed-slips : (s : Settings) (from to : Place) (blocks : List WindowBlock)
 closed-slips s from to [] h = refl
 closed-slips s from to (x ∷ xs) h =
     omega (arith, ap slip_at h.0.is_block.dropped, closed-slips s (after_block s.rate from x) to xs h.1)
+
+pub closed-dropped : (s : Settings) (from to : Place) (blocks : List WindowBlock)
+    → Closed s.rate s.invert s.keep s.ahead from blocks to → dropped_of blocks ≡ 0
+closed-dropped s from to [] h = refl
+closed-dropped s from to (x ∷ xs) h =
+    omega (arith, h.0.is_block.dropped, closed-dropped s (after_block s.rate from x) to xs h.1)
 
 -- ---- octets that follow
 

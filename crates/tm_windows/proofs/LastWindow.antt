@@ -1,15 +1,16 @@
 -- The blocks of all octets that were put into a queue, once its last window is decoded.
-use Rattle.std.proofs.Common.{◌≡◌, ℕ, zero, suc, ◌+◌, ◌-◌, ◌<◌, ◌≤◌, ◌∙◌, ◌++◌, refl, sym, ap, subst, arith, unwrap_or, List, [], ◌∷◌, length}
+use Rattle.std.proofs.Common.{◌≡◌, ℕ, zero, suc, ◌+◌, ◌-◌, ◌*◌, ◌<◌, ◌≤◌, ◌∙◌, ◌++◌, refl, sym, ap, subst, arith, unwrap_or, List, [], ◌∷◌, length, take}
 use Rattle.std.proofs.lemmas.List.{append-nil}
-use Rattle.tm_conv.specs.Path.{steps_size}
+use Rattle.tm_conv.specs.Path.{farthest_step, steps_size}
 use Rattle.tm_conv.proofs.Sizes.{steps_size-add, steps_size-most}
 use Rattle.tm_viterbi.specs.Settings.{Settings}
 use Rattle.tm_viterbi.specs.WindowBlock.{WindowBlock}
 use Rattle.tm_viterbi.specs.Blocks.{IsBlock}
-use Rattle.tm_windows.specs.Windows.{Beginning, IsLast, undropped, slip_at, slips_of, kept_of}
-use Rattle.tm_windows.specs.Queue.{Queueing, AwaitsPhase, IsOpen, QueueStandsFor, QueueEndsFor}
-use Rattle.tm_windows.proofs.FollowedRuns.{kept-append, slips-append}
+use Rattle.tm_windows.specs.Windows.{Beginning, IsLast, undropped, slip_at, slips_of, dropped_of, kept_of}
+use Rattle.tm_windows.specs.Queue.{Queueing, AwaitsPhase, IsOpen, IsRead, IsThere, QueueStandsFor, QueueEndsFor}
+use Rattle.tm_windows.proofs.FollowedRuns.{dropped-append, kept-append, slips-append}
 use Rattle.tm_windows.proofs.HeldOctets.{after_phase, open-few, open-decided, last_whole, last_beginning, ended}
+use Rattle.tm_windows.proofs.ReadOctets.{path-last, read-octets}
 
 -- the octets that are held have n whole steps, and `size` octets have these
 pub record AreWhole (q : Queueing) (n size : ℕ) : Type 0 where
@@ -37,10 +38,10 @@ few_left q n size are =
     omega (arith, are.is, are.most, steps_size-add rate q.t n 1, steps_size-most rate (q.t + n) 1)
 
 -- there is no step
-pub ends-none : (q : Queueing) (left given : List ℕ) (done ready : List WindowBlock) (n size : ℕ)
+pub ends-none : (q : Queueing) (left given read : List ℕ) (done ready : List WindowBlock) (n size : ℕ)
     → AreWhole q n size → n ≡ 0 → IsOpen q → (AwaitsPhase q → ⊥) → QueueStandsFor q given done
-    → QueueEndsFor (record q { held = left; ready = ready }) given (done ++ []) (length q.held - size)
-ends-none q left given done ready n size are none is chosen stands =
+    → QueueEndsFor (record q { held = left; ready = ready; read = read }) given (done ++ []) (length q.held - size)
+ends-none q left given read done ready n size are none is chosen stands =
     let r = after_phase q given done stands chosen in
     let last = subst (λ (m : ℕ). IsLast q.windows.settings (last_beginning q) m []) (sym none) refl in
     record {
@@ -48,6 +49,7 @@ ends-none q left given done ready n size are none is chosen stands =
       blocks = ended q given done [] n size are.is are.whole are.most are.few (open-decided q is chosen) r last;
       kept = ap kept_of (append-nil done) ∙ r.kept;
       slips = ap slips_of (append-nil done) ∙ r.slips;
+      lost = r.lost ∙ sym (ap dropped_of (append-nil done));
     }
 
 is-last : (s : Settings) (b : Beginning) (n : ℕ) (block : WindowBlock) → 0 < n → block.dropped ≡ b.dropped
@@ -56,16 +58,27 @@ is-last : (s : Settings) (b : Beginning) (n : ℕ) (block : WindowBlock) → 0 <
 is-last s b zero block some is_dropped is = absurd (omega (arith, some))
 is-last s b (suc n) block some is_dropped is = (block, refl, is_dropped, is)
 
+abbrev pub after_last : Queueing → (n slips lost : ℕ) → (left read : List ℕ) → List WindowBlock → Queueing
+after_last q n slips lost left read ready = record q {
+  t = q.t + n;
+  slips = q.slips + slips;
+  lost = q.lost + lost;
+  held = left;
+  ready = ready;
+  run_t = q.t;
+  read = read;
+}
+
 -- there is one, or more
-pub ends-one : (q : Queueing) (left given : List ℕ) (done ready : List WindowBlock) (n size k slips : ℕ)
-    (block : WindowBlock) → ready ≡ block ∷ [] → AreWhole q n size → 0 < n → IsOpen q → (AwaitsPhase q → ⊥) → k ≡ unwrap_or q.dropped 0 → slips ≡ slip_at k
+pub ends-one : (q : Queueing) (left given read : List ℕ) (done ready : List WindowBlock) (n size k slips lost : ℕ)
+    (block : WindowBlock) → ready ≡ block ∷ [] → AreWhole q n size → 0 < n → IsOpen q → (AwaitsPhase q → ⊥) → k ≡ unwrap_or q.dropped 0 → slips ≡ slip_at k → lost ≡ k
     → block.dropped ≡ k → block.kept ≡ n
     → IsBlock q.windows.settings.rate q.windows.settings.invert q.windows.settings.keep q.windows.settings.ahead
     q.starts q.t n q.held (undropped block)
     → QueueStandsFor q given done
-    → QueueEndsFor (record q { t = q.t + n; slips = q.slips + slips; held = left; ready = ready }) given
+    → QueueEndsFor (after_last q n slips lost left read ready) given
     (done ++ ready) (length q.held - size)
-ends-one q left given done ready n size k slips block one are some is chosen ek es is_dropped kept is_block stands =
+ends-one q left given read done ready n size k slips lost block one are some is chosen ek es el is_dropped kept is_block stands =
     let r = after_phase q given done stands chosen in
     let last = subst (λ (v : List WindowBlock). IsLast q.windows.settings (last_beginning q) n v) (sym one)
     (is-last q.windows.settings (last_beginning q) n block some (is_dropped ∙ ek) is_block) in
@@ -74,4 +87,41 @@ ends-one q left given done ready n size k slips block one are some is chosen ek 
       blocks = ended q given done ready n size are.is are.whole are.most are.few (open-decided q is chosen) r last;
       kept = omega (arith, r.kept, kept-append done ready, ap kept_of one, kept);
       slips = omega (arith, r.slips, slips-append done ready, ap slips_of one, ap slip_at is_dropped, es);
+      lost = omega (arith, r.lost, dropped-append done ready, ap dropped_of one, is_dropped, el);
+    }
+
+-- its octets were held
+pub last-there : (q : Queueing) (left read : List ℕ) (ready : List WindowBlock) (n size slips lost : ℕ)
+    (block : WindowBlock) → ready ≡ block ∷ [] → AreWhole q n size → 0 < n → read ≡ q.held → block.kept ≡ n
+    → IsBlock q.windows.settings.rate q.windows.settings.invert q.windows.settings.keep q.windows.settings.ahead
+    q.starts q.t n q.held (undropped block)
+    → q.t + n ≤ farthest_step → IsThere (after_last q n slips lost left read ready)
+last-there q left read ready n size slips lost block one are some read_is kept is_block few =
+    let s = q.windows.settings in
+    let all : kept_of (block ∷ []) ≡ n = omega (arith, kept) in
+    subst (λ (v : List WindowBlock). IsThere (after_last q n slips lost left read v)) (sym one) (record {
+      some = omega (arith, all, some);
+      octets = omega (arith, ap (steps_size s.rate q.t) all, are.is, are.whole, ap length read_is);
+      few = omega (arith, all);
+      bound = few;
+      paths = path-last s q.starts q.t n q.held block is_block;
+      kept = none-before;
+    })
+  where
+    none-before : (index : ℕ) → index < length (block ∷ []) → kept_of (take index (block ∷ []))
+        ≡ index * q.windows.settings.keep
+    none-before zero less = omega arith
+    none-before (suc n) less = absurd (omega (arith, less))
+
+pub last-read : (q : Queueing) (left read given : List ℕ) (done ready : List WindowBlock) (n size k slips lost : ℕ)
+    (block : WindowBlock) → ready ≡ block ∷ [] → AreWhole q n size → (AwaitsPhase q → ⊥)
+    → k ≡ unwrap_or q.dropped 0 → read ≡ q.held → block.dropped ≡ k → block.kept ≡ n → QueueStandsFor q given done
+    → IsRead (after_last q n slips lost left read ready) given done
+last-read q left read given done ready n size k slips lost block one are chosen ek read_is is_dropped kept stands =
+    let r = after_phase q given done stands chosen in
+    record {
+      step = sym r.kept;
+      octets =
+          read-octets q given read done ready size n k r ek (omega (arith, ap dropped_of one, is_dropped))
+          (omega (arith, ap kept_of one, kept)) are.is (ap (take size) read_is);
     }

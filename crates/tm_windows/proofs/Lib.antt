@@ -13,8 +13,9 @@ pub mod Undisturbed
 pub mod FollowedRuns
 pub mod PlainWindows
 pub mod HeldOctets
+mod ReadOctets
 mod QueueRuns
 mod Queues
 mod LastWindow
 mod GivenPhase
-mod KeptBits
+pub mod KeptBits

@@ -25,12 +25,12 @@ period_size-is R34 = refl
 period_size-is R56 = refl
 period_size-is R78 = refl
 
-pub period_size-most : (rate : Rate) → period_size rate ≤ 8
-period_size-most R12 = omega (arith, period_size-is R12)
-period_size-most R23 = omega (arith, period_size-is R23)
-period_size-most R34 = omega (arith, period_size-is R34)
-period_size-most R56 = omega (arith, period_size-is R56)
-period_size-most R78 = omega (arith, period_size-is R78)
+pub period_size_most : (rate : Rate) → period_size rate ≤ 8
+period_size_most R12 = omega (arith, period_size-is R12)
+period_size_most R23 = omega (arith, period_size-is R23)
+period_size_most R34 = omega (arith, period_size-is R34)
+period_size_most R56 = omega (arith, period_size-is R56)
+period_size_most R78 = omega (arith, period_size-is R78)
 
 -- ---- the steps that are compared
 

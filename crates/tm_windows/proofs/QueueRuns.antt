@@ -1,20 +1,23 @@
 -- Runs of windows that are decoded at once, of which the first may begin after dropped octets.
-use Rattle.std.proofs.Common.{◌≡◌, ◌⊎◌, inl, inr, ℕ, ◌+◌, ◌*◌, ◌<◌, ◌≤◌, ◌∙◌, ◌++◌, refl, sym, ap, subst, arith, List, [], ◌∷◌, Option, Some, None, is_some, drop, length, length-drop, map, mul-le-mul_right, set, get_or, take, unwrap_or}
-use Rattle.std.proofs.lemmas.List.{drop-append-le, length-take-le, take-append-drop}
-use Rattle.tm_conv.specs.Path.{steps_size}
+use Rattle.std.proofs.Common.{◌≡◌, ◌⊎◌, inl, inr, Bool, true, false, ℕ, ◌+◌, ◌*◌, ◌<◌, ◌≤◌, ◌∙◌, ◌++◌, refl, sym, ap, subst, arith, List, [], ◌∷◌, Option, Some, None, is_some, drop, length, length-drop, map, mul-le-mul_right, set, get_or, take, unwrap_or}
+use Rattle.std.specs.Option.{ForSome}
+use Rattle.std.proofs.lemmas.List.{drop-append-le, length-take-le, take-append-drop, take-take}
+use Rattle.tm_conv.specs.Path.{farthest_step, steps_size}
 use Rattle.tm_conv.proofs.Sizes.{steps_size-le, steps_size-add, steps_size-least}
 use Rattle.tm_viterbi.specs.WindowBlock.{WindowBlock}
 use Rattle.tm_viterbi.specs.Due.{Place, Closed, after_block}
 use Rattle.tm_viterbi.specs.declared.window_decoder.WindowShape.{WindowShape}
 use Rattle.tm_viterbi.proofs.Closing.{Closed-append, kept_is, more_octets}
 use Rattle.tm_windows.specs.Candidates.{ClosedWith, after_windows, block_of}
-use Rattle.tm_windows.specs.Queue.{Queueing, AfterPhase, AwaitsPhase, HoldsNoMore, HoldsRun, IsAt, IsOpen, QueueStandsFor, phase_size, skip_of}
+use Rattle.tm_windows.specs.Queue.{Queueing, AfterPhase, AwaitsPhase, HoldsNoMore, HoldsRun, IsAt, IsOpen, IsRead, IsThere, QueueStandsFor, phase_size, skip_of}
+use Rattle.tm_windows.specs.Phase.{most_period_size}
 use Rattle.tm_windows.specs.Slip.{octets_seen}
-use Rattle.tm_windows.specs.Windows.{Windows, Spot, Begins, Followed, AreUndropped, IsSeen, dropped_at, first_spot, kept_of, slip_at, slips_of, undecided}
+use Rattle.tm_windows.specs.Windows.{Windows, Spot, Begins, Followed, AreUndropped, IsSeen, dropped_at, dropped_of, first_spot, kept_of, slip_at, slips_of, undecided}
 use Rattle.tm_windows.specs.declared.candidate.Candidate.{Candidate}
 use Rattle.tm_windows.proofs.FollowedExists.{seen-first}
-use Rattle.tm_windows.proofs.FollowedRuns.{place_of, at-undecided, closed-kept, closed-slips, closes-dropped, followed-both, kept-append, later-undropped, next-undropped, run-followed, slips-append, undropped-begins}
+use Rattle.tm_windows.proofs.FollowedRuns.{place_of, at-undecided, closed-dropped, closed-kept, closed-slips, closed-steps, closes-dropped, dropped-append, followed-both, kept-append, later-undropped, next-undropped, run-followed, slips-append, undropped-begins}
 use Rattle.tm_windows.proofs.HeldOctets.{held_place}
+use Rattle.tm_windows.proofs.ReadOctets.{kept-ready, paths-ready, read-octets}
 
 -- ---- the octets of a run
 
@@ -129,6 +132,16 @@ dropped_first (x ∷ xs) k c d some is same = record {
   after = λ i. (same ∙ ap (λ (v : Candidate). dropped_at k (block_of v)) is) i ∷ map block_of xs;
 }
 
+-- nothing is dropped before those after the first
+pub later-undropped_of : (s : WindowShape) (k : ℕ) (at to : Place) (x : WindowBlock) (xs ready : List WindowBlock)
+    → ready ≡ dropped_at k x ∷ xs → ClosedWith s at (x ∷ xs) to → dropped_of (drop 1 ready) ≡ 0
+later-undropped_of s k at to x xs ready are h =
+    ap (λ (l : List WindowBlock). dropped_of (drop 1 l)) are ∙ others xs (after_block s.rate at x) h.1
+  where
+    others : (xs : List WindowBlock) (from : Place) → ClosedWith s from xs to → dropped_of xs ≡ 0
+    others [] from h = refl
+    others (x ∷ xs) from h = omega (arith, h.0.is_block.dropped, others xs (after_block s.rate from x) h.1)
+
 -- ---- the queue after a run
 
 -- the run that it holds: `count` windows, the first of them after k dropped octets
@@ -141,6 +154,10 @@ pub record IsRun (q : Queueing) (k count : ℕ) : Type 0 where
 
 pub is_decided : (dropped : Option ℕ) (d k : ℕ) → dropped ≡ Some d → k ≡ unwrap_or dropped 0 → dropped ≡ Some k
 is_decided dropped d k is es = is ∙ ap (λ (n : ℕ). Some n) (sym (es ∙ ap (λ (o : Option ℕ). unwrap_or o 0) is))
+
+pub undecided-few : (looks : Bool) → ForSome (undecided looks) (λ count. count ≤ most_period_size)
+undecided-few false count is = omega (arith, ap (λ (o : Option ℕ). unwrap_or o 0) is)
+undecided-few true count is = absurd (let both = is in cc)
 
 -- it stands for octets after the phase
 pub decided_after : (q : Queueing) (given : List ℕ) (done : List WindowBlock) (k : ℕ) → q.dropped ≡ Some k
@@ -164,25 +181,29 @@ ClosesRun q count m blocks next = ClosedWith (shape_of q) (place_of q.starts q.t
     (after_windows (shape_of q) q.t (take m q.held) count next)
 
 -- where they are decoded
-abbrev pub after_run : Queueing → (count slips : ℕ) → (next dropped : Option ℕ) → List ℕ → List WindowBlock → Queueing
-after_run q count slips next dropped left ready = record q {
+abbrev pub after_run : Queueing → (count slips lost : ℕ) → (next dropped : Option ℕ) → (left read : List ℕ)
+    → List WindowBlock → Queueing
+after_run q count slips lost next dropped left read ready = record q {
   starts = next;
   t = q.t + count * q.windows.settings.keep;
   dropped = dropped;
   slips = q.slips + slips;
+  lost = q.lost + lost;
   held = left;
   ready = ready;
+  run_t = q.t;
+  read = read;
 }
 
-pub run-decoded : (q : Queueing) (given : List ℕ) (done : List WindowBlock) (k count m slips : ℕ)
-    (next dropped : Option ℕ) (left : List ℕ) (x : WindowBlock) (xs ready : List WindowBlock) → IsRun q k count
+pub run-decoded : (q : Queueing) (given : List ℕ) (done : List WindowBlock) (k count m slips lost : ℕ)
+    (next dropped : Option ℕ) (left read : List ℕ) (x : WindowBlock) (xs ready : List WindowBlock) → IsRun q k count
     → m ≡ steps_size q.windows.settings.rate q.t (count * q.windows.settings.keep + q.windows.settings.ahead + 1)
     → left ≡ drop (steps_size q.windows.settings.rate q.t (count * q.windows.settings.keep)) q.held
-    → slips ≡ slip_at k → dropped ≡ undecided (is_some q.windows.seen)
+    → slips ≡ slip_at k → lost ≡ k → dropped ≡ undecided (is_some q.windows.seen)
     → ready ≡ dropped_at k x ∷ xs → length ready ≡ count → ClosesRun q count m (x ∷ xs) next
     → AfterPhase q given done
-    → AfterPhase (after_run q count slips next dropped left ready) given (done ++ ready)
-run-decoded q given done k count m slips next dropped left x xs ready run is left_is slips_is undecided_is are long
+    → AfterPhase (after_run q count slips lost next dropped left read ready) given (done ++ ready)
+run-decoded q given done k count m slips lost next dropped left read x xs ready run is left_is slips_is lost_is undecided_is are long
     closes r =
     let w = q.windows in
     let s = w.settings in
@@ -221,6 +242,67 @@ run-decoded q given done k count m slips next dropped left x xs ready run is lef
             closed-slips s at to (x ∷ xs) here,
             slips_is,
           );
+      lost =
+          omega (
+            arith,
+            r.lost,
+            dropped-append done ready,
+            ap dropped_of are,
+            closed-dropped s at to (x ∷ xs) here,
+            lost_is,
+          );
+    }
+
+-- ---- the octets of a run
+
+-- they are there once its windows are decoded
+pub run-there : (q : Queueing) (k count m size slips lost : ℕ) (next dropped : Option ℕ) (left read : List ℕ)
+    (x : WindowBlock) (xs ready : List WindowBlock) → IsRun q k count
+    → m ≡ steps_size q.windows.settings.rate q.t (count * q.windows.settings.keep + q.windows.settings.ahead + 1)
+    → size ≡ steps_size q.windows.settings.rate q.t (count * q.windows.settings.keep) → read ≡ take size q.held
+    → ready ≡ dropped_at k x ∷ xs → length ready ≡ count → ClosesRun q count m (x ∷ xs) next
+    → q.t + length q.held < farthest_step
+    → IsThere (after_run q count slips lost next dropped left read ready)
+run-there q k count m size slips lost next dropped left read x xs ready run is size_is read_is are long closes few =
+    let s = q.windows.settings in
+    let cut = is_cut q count m size run.wide run.some run.room is size_is in
+    let from = place_of q.starts q.t (take m q.held) in
+    let to = after_windows (shape_of q) q.t (take m q.held) count next in
+    let many : length (x ∷ xs) ≡ count = sym (ap length are) ∙ long in
+    let kept : kept_of (x ∷ xs) ≡ count * s.keep =
+    closed-steps s from to (x ∷ xs) closes ∙ ap (λ (n : ℕ). n * s.keep) many in
+    let all : length read ≡ size =
+    ap length read_is ∙ length-take-le size q.held (omega (arith, cut.within, cut.inside)) in
+    subst (λ (v : List WindowBlock). IsThere (after_run q count slips lost next dropped left read v)) (sym are) (record {
+      some = omega (arith, kept, cut.wide);
+      octets = omega (arith, all, size_is, ap (steps_size s.rate q.t) kept);
+      few = omega (arith, kept);
+      bound = omega (arith, cut.long, cut.within, cut.inside, few);
+      paths = paths-ready s k from to x xs closes;
+      kept = kept-ready s k from to x xs closes;
+    })
+
+-- and they are those that were put in
+pub run-read : (q : Queueing) (given : List ℕ) (done : List WindowBlock) (k count m size slips lost : ℕ)
+    (next dropped : Option ℕ) (left read : List ℕ) (x : WindowBlock) (xs ready : List WindowBlock) → IsRun q k count
+    → size ≡ steps_size q.windows.settings.rate q.t (count * q.windows.settings.keep) → read ≡ take size q.held
+    → ready ≡ dropped_at k x ∷ xs → length ready ≡ count → ClosesRun q count m (x ∷ xs) next
+    → AfterPhase q given done
+    → IsRead (after_run q count slips lost next dropped left read ready) given done
+run-read q given done k count m size slips lost next dropped left read x xs ready run size_is read_is are long closes r =
+    let s = q.windows.settings in
+    let from = place_of q.starts q.t (take m q.held) in
+    let to = after_windows (shape_of q) q.t (take m q.held) count next in
+    let many : length (x ∷ xs) ≡ count = sym (ap length are) ∙ long in
+    let kept : kept_of ready ≡ count * s.keep =
+    ap kept_of are ∙ closed-steps s from to (x ∷ xs) closes ∙ ap (λ (n : ℕ). n * s.keep) many in
+    let lost_is : dropped_of ready ≡ k =
+    omega (arith, ap dropped_of are, closed-dropped s from to (x ∷ xs) closes) in
+    record {
+      step = sym r.kept;
+      octets =
+          read-octets q given read done ready size (count * s.keep) k r (sym (ap (λ (o : Option ℕ). unwrap_or o 0)
+          run.dropped)) lost_is kept size_is (ap (take size) read_is ∙ take-take size size q.held (omega arith));
     }
 
 -- ---- what a queue stands for
@@ -238,6 +320,7 @@ stands-ready q given done ready by (inl b) = inl (record {
   first = b.first;
   undecided = b.undecided;
   undropped = b.undropped;
+  nothing_lost = b.nothing_lost;
 })
 stands-ready q given done ready by (inr a) = inr (record {
   choice = a.choice;
@@ -248,6 +331,7 @@ stands-ready q given done ready by (inr a) = inr (record {
   few = a.few;
   kept = a.kept;
   slips = a.slips;
+  lost = a.lost;
 })
 
 -- too few octets are held to decide how many are dropped before the next window

@@ -13,10 +13,10 @@ use Rattle.tm_viterbi.specs.WindowBlock.{WindowBlock}
 use Rattle.tm_viterbi.specs.Settings.{Settings}
 use Rattle.tm_windows.specs.Phase.{IsPhase, octets_needed}
 use Rattle.tm_windows.specs.Slip.{octets_seen, IsSlip}
-use Rattle.tm_windows.specs.Windows.{Windows, Spot, first_spot, starts_after, DropsBy, Begins, Followed, slips_of, kept_of, undecided}
+use Rattle.tm_windows.specs.Windows.{Windows, Spot, first_spot, starts_after, DropsBy, Begins, Followed, slips_of, dropped_of, kept_of, undecided}
 use Rattle.tm_windows.specs.Queue.{Queueing, phase_steps, phase_size, AwaitsPhase, IsChoice, skip_of, room_of, fill_room, fill_room_by, HoldsNoMore, IsOpen, IsAt, AfterPhase, QueueStandsFor}
 use Rattle.tm_windows.specs.declared.choosing.Chosen.{Chosen}
-use Rattle.tm_windows.proofs.Phases.{IsPhase-prefix, IsPhase-within, period_size-is, period_size-most}
+use Rattle.tm_windows.proofs.Phases.{IsPhase-prefix, IsPhase-within, period_size-is, period_size_most}
 use Rattle.tm_windows.proofs.Beginnings.{longer_spot}
 use Rattle.tm_windows.proofs.FollowedOnce.{closed-more}
 use Rattle.tm_windows.proofs.FollowedRuns.{place_of, at-more}
@@ -40,7 +40,7 @@ few-chosen q len some wide first few =
     omega (
       arith,
       few,
-      period_size-most s.rate,
+      period_size_most s.rate,
       steps_size-add s.rate 0 steps 8,
       steps_size-least s.rate (0 + steps) 8,
       steps_size-le s.rate 0 (steps + 8) more (omega (arith, two, wide)),
@@ -48,15 +48,21 @@ few-chosen q len some wide first few =
     )
 
 -- the phase of all octets that are held is chosen
-pub chosen-stands : (q : Queueing) (chosen : Chosen) (ended : Bool) (left given : List ℕ) (done : List WindowBlock)
+pub chosen-stands : (q : Queueing) (chosen : Chosen) (ended : Bool) (left given read : List ℕ) (done : List WindowBlock)
     → 0 < q.most → 8 ≤ q.windows.settings.keep → AwaitsPhase q
     → IsPhase q.windows.settings.rate q.windows.settings.invert (phase_steps q) q.held chosen
     → left ≡ drop chosen.skip q.held
     → (ended ≡ false → phase_size q ≤ length q.held) → QueueStandsFor q given done
-    → AfterPhase (record q { chosen = Some chosen; dropped = Some 0; held = left; has_ended = ended }) given done
-chosen-stands q chosen ended left given done some wide awaits is el many (inr after) =
+    → AfterPhase (record q {
+      chosen = Some chosen;
+      dropped = Some 0;
+      held = left;
+      has_ended = ended;
+      read = read;
+    }) given done
+chosen-stands q chosen ended left given read done some wide awaits is el many (inr after) =
     absurd (choice-made q given after.choice awaits)
-chosen-stands q chosen ended left given done some wide awaits is el many (inl before) =
+chosen-stands q chosen ended left given read done some wide awaits is el many (inl before) =
     let w = q.windows in
     let from = first_spot w (drop chosen.skip given) in
     let all : left ≡ drop chosen.skip given = el ∙ ap (drop chosen.skip) before.held in
@@ -73,6 +79,7 @@ chosen-stands q chosen ended left given done some wide awaits is el many (inl be
           (omega (arith, before.few, ap length el, length-drop chosen.skip q.held));
       kept = ap kept_of before.nothing ∙ sym before.first;
       slips = ap slips_of before.nothing ∙ sym before.undropped;
+      lost = before.nothing_lost ∙ sym (ap dropped_of before.nothing);
     }
 
 -- no octets come any more
@@ -89,6 +96,7 @@ ended-stands q given done stands chosen =
       few = after.few;
       kept = after.kept;
       slips = after.slips;
+      lost = after.lost;
     }
 
 -- ---- octets before a window are dropped
@@ -103,13 +111,13 @@ moved-begins w steps starts now t k held left seen many slip el es =
     (record { dropped = k; place = place_of now t left })) (sym seen)
     (many, slip, λ i. place_of (es i) t (el i))
 
-pub moved-stands : (q : Queueing) (steps k : ℕ) (now : Option ℕ) (left given : List ℕ) (done : List WindowBlock)
+pub moved-stands : (q : Queueing) (steps k : ℕ) (now : Option ℕ) (left given read : List ℕ) (done : List WindowBlock)
     → (AwaitsPhase q → ⊥) → q.dropped ≡ None → q.windows.seen ≡ Some steps
     → octets_seen q.windows.settings.rate q.t steps ≤ length q.held
     → IsSlip q.windows.settings.rate q.windows.settings.invert q.t steps q.held k → left ≡ drop k q.held
     → now ≡ starts_after k q.starts → QueueStandsFor q given done
-    → QueueStandsFor (record q { starts = now; dropped = Some k; held = left }) given done
-moved-stands q steps k now left given done chosen none seen many slip el es stands =
+    → QueueStandsFor (record q { starts = now; dropped = Some k; held = left; read = read }) given done
+moved-stands q steps k now left given read done chosen none seen many slip el es stands =
     let w = q.windows in
     let after = after_phase q given done stands chosen in
     let there = subst (λ (o : Option ℕ). IsAt w after.to o (place_of q.starts q.t q.held)) none after.at in
@@ -123,6 +131,7 @@ moved-stands q steps k now left given done chosen none seen many slip el es stan
       few = omega (arith, after.few, ap length el, length-drop k q.held);
       kept = after.kept;
       slips = after.slips;
+      lost = after.lost;
     })
 
 -- ---- more octets
@@ -163,10 +172,10 @@ few-more q more wide few room =
       | inr le ↦ most_held p wide le
     ]
 
-pub filled-stands : (q : Queueing) (more given : List ℕ) (done : List WindowBlock) → 0 < q.windows.settings.keep
+pub filled-stands : (q : Queueing) (more given read : List ℕ) (done : List WindowBlock) → 0 < q.windows.settings.keep
     → q.has_ended ≡ false → length more ≤ fill_room q - length q.held → QueueStandsFor q given done
-    → QueueStandsFor (record q { held = q.held ++ more }) (given ++ more) done
-filled-stands q more given done wide going room (inl before) = inl (record {
+    → QueueStandsFor (record q { held = q.held ++ more; read = read }) (given ++ more) done
+filled-stands q more given read done wide going room (inl before) = inl (record {
   awaits = before.awaits;
   going = before.going;
   held = ap (λ (o : List ℕ). o ++ more) before.held;
@@ -176,8 +185,9 @@ filled-stands q more given done wide going room (inl before) = inl (record {
   first = before.first;
   undecided = before.undecided;
   undropped = before.undropped;
+  nothing_lost = before.nothing_lost;
 })
-filled-stands q more given done wide going room (inr after) =
+filled-stands q more given read done wide going room (inr after) =
     let w = q.windows in
     let skip : ℕ = skip_of q.chosen in
     let octets = drop skip given in
@@ -194,6 +204,7 @@ filled-stands q more given done wide going room (inr after) =
           (omega (arith, room, room-after q (choice-made q given after.choice)));
       kept = after.kept;
       slips = after.slips;
+      lost = after.lost;
     })
 
 -- ---- room
@@ -203,7 +214,7 @@ needed-most : (rate : Rate) (window : ℕ) → 8 ≤ window → octets_needed ra
 needed-most rate window wide =
     let size : ℕ = period rate in
     let rest : ℕ = window - size in
-    let sum : size + rest ≡ window = omega (arith, wide, period_size-is rate, period_size-most rate) in
+    let sum : size + rest ≡ window = omega (arith, wide, period_size-is rate, period_size_most rate) in
     omega (
       arith,
       period_size-is rate,
@@ -286,9 +297,9 @@ fresh-open q wide none nothing first = go q.find refl
     }
 
 pub fresh-stands : (q : Queueing) → q.chosen ≡ None → q.held ≡ [] → q.dropped ≡ undecided q.find
-    → q.has_ended ≡ false → q.starts ≡ first_start q.windows.settings.start → q.t ≡ 0 → q.slips ≡ 0
+    → q.has_ended ≡ false → q.starts ≡ first_start q.windows.settings.start → q.t ≡ 0 → q.slips ≡ 0 → q.lost ≡ 0
     → QueueStandsFor q [] []
-fresh-stands q none nothing undone going starts first still = go q.find refl
+fresh-stands q none nothing undone going starts first still all = go q.find refl
   where
     w : Windows
     w = q.windows
@@ -310,6 +321,7 @@ fresh-stands q none nothing undone going starts first still = go q.find refl
       first = first;
       undecided = undone ∙ ap undecided is;
       undropped = still;
+      nothing_lost = all;
     })
     go false is = inr (record {
       choice = subst (λ (c : Option Chosen). IsChoice q [] c) (sym none)
@@ -326,4 +338,5 @@ fresh-stands q none nothing undone going starts first still = go q.find refl
       );
       kept = sym first;
       slips = sym still;
+      lost = all;
     })

@@ -1,14 +1,15 @@
 -- What contracts see of a queue of windows, and for which octets, put in so far, and which blocks,
 -- decoded so far, it stands.
-use Rattle.std.specs.Prelude.{ℕ, ◌≡◌, ◌⊎◌, ◌+◌, ◌*◌, ◌<◌, ◌≤◌, Bool, true, false, List, [], drop, length, Option, Some, None}
-use Rattle.tm_conv.specs.Path.{steps_size}
+use Rattle.std.specs.Prelude.{ℕ, ◌≡◌, ◌⊎◌, ◌+◌, ◌*◌, ◌<◌, ◌≤◌, ◌++◌, Bool, true, false, List, [], drop, length, take, Option, Some, None}
+use Rattle.std.specs.List.{All}
+use Rattle.tm_conv.specs.Path.{AreBits, farthest_step, registers, steps_size}
 use Rattle.tm_viterbi.specs.Due.{Place}
 use Rattle.tm_viterbi.specs.Starts.{first_start}
 use Rattle.tm_viterbi.specs.WindowBlock.{WindowBlock}
 use Rattle.tm_windows.specs.Phase.{IsPhase, octets_needed}
-use Rattle.tm_windows.specs.Sharing.{most_window_steps}
+use Rattle.tm_windows.specs.Sharing.{least_shared_ahead, most_window_steps, worker_steps}
 use Rattle.tm_windows.specs.Slip.{octets_seen}
-use Rattle.tm_windows.specs.Windows.{Windows, Spot, first_spot, Begins, Followed, closing_size, AreBlocksIn, slips_of, kept_of}
+use Rattle.tm_windows.specs.Windows.{Windows, Spot, first_spot, Begins, Followed, closing_size, AreBlocksIn, slips_of, dropped_of, kept_of}
 use Rattle.tm_windows.specs.declared.choosing.Chosen.{Chosen}
 use Rattle.tm_windows.specs.declared.queue.QueueSettings.{QueueSettings}
 
@@ -41,8 +42,9 @@ pub record Queueing : Type 0 where
   pub starts : Option ℕ
   pub t : ℕ
   pub dropped : Option ℕ
-  -- before how many of the windows so far octets were dropped
+  -- before how many of the windows so far octets were dropped, and how many
   pub slips : ℕ
+  pub lost : ℕ
   -- the octets of windows that are not decoded yet
   pub held : List ℕ
   -- no octets come any more
@@ -50,6 +52,10 @@ pub record Queueing : Type 0 where
   -- the blocks of the windows that were decoded last, and by how many workers at most
   pub ready : List WindowBlock
   pub by : ℕ
+  -- the step at which the first of these windows begins, and its octets and those after it, as long
+  -- as no more are put in
+  pub run_t : ℕ
+  pub read : List ℕ
 
 -- ---- the symbol phase
 
@@ -125,6 +131,7 @@ pub record BeforePhase (q : Queueing) (given : List ℕ) (done : List WindowBloc
   pub first : q.t ≡ 0
   pub undecided : q.dropped ≡ None
   pub undropped : q.slips ≡ 0
+  pub nothing_lost : q.lost ≡ 0
 
 -- after it, or where it is given, the windows of the octets after the phase are closed, with these
 -- blocks, up to those that are held; before the end the octets are enough to choose the phase,
@@ -139,6 +146,7 @@ pub record AfterPhase (q : Queueing) (given : List ℕ) (done : List WindowBlock
   pub few : HoldsNoMore q
   pub kept : kept_of done ≡ q.t
   pub slips : slips_of done ≡ q.slips
+  pub lost : q.lost ≡ dropped_of done
 
 -- these octets and no others were put in, and these blocks were decoded, the ready ones last
 abbrev pub QueueStandsFor : Queueing → List ℕ → List WindowBlock → Type 0
@@ -151,6 +159,7 @@ pub record QueueEndsFor (q : Queueing) (given : List ℕ) (done : List WindowBlo
   pub blocks : AreBlocksIn q.windows (drop (skip_of q.chosen) given) done left
   pub kept : kept_of done ≡ q.t
   pub slips : slips_of done ≡ q.slips
+  pub lost : q.lost ≡ dropped_of done
 
 -- it cuts octets as before, with the same room and workers
 pub record IsSameQueue (before now : Queueing) : Type 0 where
@@ -166,7 +175,8 @@ HoldsRun q count = steps_size q.windows.settings.rate q.t
 
 -- it is for `workers` workers, where windows that keep `waiting` bits may be buffered: there are as
 -- many workers, with a window each at a time at least, and one worker has just one; there are no
--- more windows than one each, or than it takes to keep these bits and one more
+-- more windows than one each, or than it takes to keep these bits and one more; where they are
+-- shared out they keep more than these bits, or have `worker_steps` steps a worker, up to a window
 pub record SharesAmong (workers waiting : ℕ) (q : Queueing) : Type 0 where
   pub all : q.workers ≡ workers
   pub each : workers ≤ q.most
@@ -174,3 +184,40 @@ pub record SharesAmong (workers waiting : ℕ) (q : Queueing) : Type 0 where
   pub bound : q.most * (q.windows.settings.keep + q.windows.settings.ahead) ≤ most_window_steps
   pub few : (q.most ≤ workers)
       ⊎ (q.most * q.windows.settings.keep ≤ waiting + q.windows.settings.keep)
+  pub enough : 1 < workers → least_shared_ahead ≤ q.windows.settings.ahead
+      → (waiting < q.most * q.windows.settings.keep) ⊎ (workers * worker_steps
+      < (q.most + workers) * (q.windows.settings.keep + q.windows.settings.ahead))
+
+-- ---- the octets of what is ready
+
+-- the step at which the window of a ready block begins
+abbrev pub step_of : Queueing → (index : ℕ) → ℕ
+step_of q index = q.run_t + kept_of (take index q.ready)
+
+-- the octets from there on
+abbrev pub octets_of : Queueing → (index : ℕ) → List ℕ
+octets_of q index =
+    drop (steps_size q.windows.settings.rate q.run_t (kept_of (take index q.ready))) q.read
+
+-- a path's start and bits
+abbrev pub IsPathOf : WindowBlock → Type 0
+IsPathOf block = (block.start < registers) × AreBits (take block.kept block.bits)
+
+-- blocks are ready, and the octets of the steps that they keep are there: none was put in since
+pub record IsThere (q : Queueing) : Type 0 where
+  pub some : 0 < kept_of q.ready
+  pub octets : steps_size q.windows.settings.rate q.run_t (kept_of q.ready) ≤ length q.read
+  pub few : q.run_t + kept_of q.ready ≤ q.t
+  pub bound : q.t ≤ farthest_step
+  pub paths : All IsPathOf q.ready
+  pub kept : (index : ℕ) → index < length q.ready
+      → kept_of (take index q.ready) ≡ index * q.windows.settings.keep
+
+-- they come after these blocks, and their octets are those that were put in
+pub record IsRead (q : Queueing) (given : List ℕ) (done : List WindowBlock) : Type 0 where
+  pub step : q.run_t ≡ kept_of done
+  pub octets :
+      take (steps_size q.windows.settings.rate (kept_of done) (kept_of q.ready)) q.read
+      ≡ take (steps_size q.windows.settings.rate (kept_of done) (kept_of q.ready))
+      (drop (skip_of q.chosen + dropped_of (done ++ q.ready)
+      + steps_size q.windows.settings.rate 0 (kept_of done)) given)

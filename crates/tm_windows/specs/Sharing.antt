@@ -16,3 +16,12 @@ most_octets = 2 ^ 62
 -- there is room for no more windows than this
 abbrev pub most_candidates : ℕ
 most_candidates = 2 ^ 32
+
+-- the least steps ahead with which windows are shared out: with fewer their starts are guessed wrong
+-- too often
+abbrev pub least_shared_ahead : ℕ
+least_shared_ahead = 64
+
+-- the steps up to which a worker has windows at a time: enough that making a thread costs little
+abbrev pub worker_steps : ℕ
+worker_steps = 2 ^ 20

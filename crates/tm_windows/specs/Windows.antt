@@ -1,8 +1,10 @@
 -- Windows before which octets may be dropped: where each begins, and the blocks of octets in them.
 -- Where none is ever dropped they are the plain list of blocks (`plain_windows_law`).
-use Rattle.std.specs.Prelude.{ℕ, zero, suc, ◌≡◌, ◌+◌, ◌*◌, ◌==◌, ◌<◌, ◌≤◌, ◌⊎◌, ◌++◌, List, [], ◌∷◌, Bool, true, false, Option, Some, None, if◌then◌else◌, length, drop}
+use Rattle.std.specs.Prelude.{ℕ, zero, suc, ◌≡◌, ◌+◌, ◌*◌, ◌==◌, ◌<◌, ◌≤◌, ◌⊎◌, ◌++◌, ◌-◌, List, [], ◌∷◌, Bool, true, false, Option, Some, None, if◌then◌else◌, length, drop, take, nat_lt}
 use Rattle.std.specs.Option.{ForSome}
-use Rattle.tm_conv.specs.Path.{steps_size}
+use Rattle.tm_conv.specs.Counts.{counts_of}
+use Rattle.tm_conv.specs.declared.counts.SymbolCounts.{SymbolCounts}
+use Rattle.tm_conv.specs.Path.{path, steps_size}
 use Rattle.tm_viterbi.specs.Settings.{Settings}
 use Rattle.tm_viterbi.specs.WindowBlock.{WindowBlock}
 use Rattle.tm_viterbi.specs.Blocks.{AreSteps, IsBlock}
@@ -143,10 +145,27 @@ abbrev pub slips_of : List WindowBlock → ℕ
 slips_of [] = 0
 slips_of (block ∷ blocks) = slip_at block.dropped + slips_of blocks
 
+-- how many octets were dropped before the windows of these blocks
+abbrev pub dropped_of : List WindowBlock → ℕ
+dropped_of [] = 0
+dropped_of (block ∷ blocks) = block.dropped + dropped_of blocks
+
+-- and up to the window that keeps step n
+abbrev pub dropped_to : List WindowBlock → ℕ → ℕ
+dropped_to [] n = 0
+dropped_to (block ∷ blocks) n =
+    block.dropped + (if nat_lt n block.kept then 0 else dropped_to blocks (n - block.kept))
+
 -- how many steps they keep
 abbrev pub kept_of : List WindowBlock → ℕ
 kept_of [] = 0
 kept_of (block ∷ blocks) = block.kept + kept_of blocks
+
+-- what octets say against the symbols of the steps that a block keeps, whose window begins at step t
+-- with them
+abbrev pub block_counts : Settings → (t : ℕ) → List ℕ → WindowBlock → SymbolCounts
+block_counts s t octets block =
+    counts_of (path s.rate s.invert t block.start (take block.kept block.bits)) octets
 
 -- before a window that is still to be looked at nothing is dropped, where it is not looked for
 abbrev pub undecided : Bool → Option ℕ

@@ -12,9 +12,10 @@ ghost use Rattle.tm_viterbi.specs.Due.{AreDue};
 ghost use Rattle.tm_viterbi.specs.WindowBlock.{WindowBlock};
 ghost use Rattle.tm_viterbi.specs.WindowSizes.{least_keep, most_keep, most_ahead, most_window, stream_bound};
 ghost use Rattle.tm_windows.specs.Candidates.{HaveRoom};
+ghost use Rattle.tm_windows.specs.Phase.{most_period_size};
 ghost use Rattle.tm_windows.specs.Slip.{octets_seen, steps_seen};
-ghost use Rattle.tm_windows.specs.Windows.{slip_at, starts_after, undecided};
-ghost use Rattle.tm_windows.specs.Sharing.{most_windows, most_window_steps};
+ghost use Rattle.tm_windows.specs.Windows.{dropped_of, slip_at, starts_after, undecided};
+ghost use Rattle.tm_windows.specs.Sharing.{least_shared_ahead, most_windows, most_window_steps, worker_steps};
 
 use crate::candidate::Candidate;
 use crate::choosing::{Chosen, choose, octets_needed};
@@ -26,7 +27,7 @@ use crate::window_run::WindowRun;
 use std::alloc::{AllocError, Global};
 use std::marker::Model;
 use tm_base::{Failed, Held, NoMemory};
-use tm_conv::{Rate, best_path_law, steps_len};
+use tm_conv::{Rate, SymbolCounts, best_path_law, steps_len, symbol_counts};
 use tm_viterbi::{Block, BlockTaker, Start, WindowDecoder, WindowShape, first_start};
 
 /// The octets given to a decoder in all are fewer.
@@ -65,8 +66,9 @@ pub struct WindowQueue {
     starts: Option<u8>,
     t: u64,
     dropped: Option<u8>,
-    // Before how many of the windows so far octets were dropped.
+    // Before how many of the windows so far octets were dropped, and how many.
     slips: u64,
+    lost: u64,
     held: Held,
     decoders: Vec<WindowDecoder>,
     candidates: Vec<Candidate>,
@@ -74,12 +76,15 @@ pub struct WindowQueue {
     has_ended: bool,
     // How many candidates are the blocks of the last run.
     ready: usize,
+    // The step at which it begins, and where its octets stand among those that were dropped last.
+    run_t: u64,
+    run_at: usize,
     // By how many workers at most: what clauses alone read.
     by: usize,
 }
 
 impl Model for WindowQueue {
-    ghost use Rattle.std.specs.Prelude.{◌≡◌, ◌⊎◌, ◌+◌, ◌*◌, ◌^◌, ◌<◌, ◌≤◌, None, Some, map, take, true, vec_len};
+    ghost use Rattle.std.specs.Prelude.{◌≡◌, ◌⊎◌, ◌+◌, ◌*◌, ◌^◌, ◌<◌, ◌≤◌, None, Some, drop, map, take, true, vec_len};
     ghost use Rattle.std.specs.List.{All};
     ghost use Rattle.std.specs.Option.{ForSome};
     ghost use Rattle.tm_base.specs.Limits.{most_workers};
@@ -103,10 +108,13 @@ impl Model for WindowQueue {
       t = q.t;
       dropped = q.dropped;
       slips = q.slips;
+      lost = q.lost;
       held = q.held.octets;
       has_ended = q.has_ended;
       ready = map block_of (take q.ready q.candidates.items);
       by = q.by;
+      run_t = q.run_t;
+      read = drop q.run_at q.held.behind;
     } };
 
     ghost invariant = { λ q.
@@ -121,6 +129,7 @@ impl Model for WindowQueue {
         × (q.seen ≡ None → ((q.settings.find ≡ true) × (q.chosen ≡ None)) ⊎ (q.dropped ≡ Some 0))
         × (q.settings.find ≡ true → q.chosen ≡ None → q.dropped ≡ None)
         × (q.slips ≤ q.t) × (q.ready ≤ vec_len q.candidates)
+        × ForSome q.dropped (λ count. count ≤ most_period_size) × (q.lost ≤ most_period_size * q.t)
         × (2 * (vec_len q.candidates * q.settings.shape.keep + q.settings.shape.ahead + 1) ≤ q.held.room)
         × (q.held.room ≤ 2 ^ 40) };
 }
@@ -163,7 +172,7 @@ pub(crate) fn new_candidates(
 }
 
 // How many windows `workers` workers have at a time: one each, and more where windows are shared out, but then no more
-// than it takes to keep `waiting` bits and one more.
+// than it takes to keep `waiting` bits and one more: as many as that, or as have `STEPS_EACH` steps a worker.
 fn window_count(workers: u8, shape: WindowShape, waiting: u64) -> usize
     requires workers { (0 < workers) × (workers ≤ most_workers) }
     requires keep { (least_keep ≤ shape.keep) × (shape.keep ≤ most_keep) }
@@ -173,6 +182,8 @@ fn window_count(workers: u8, shape: WindowShape, waiting: u64) -> usize
     ensures small { result ≤ most_windows }
     ensures bound { result * (shape.keep + shape.ahead) ≤ most_window_steps }
     ensures few { (result ≤ workers) ⊎ (result * shape.keep ≤ waiting + shape.keep) }
+    ensures enough { 1 < workers → least_shared_ahead ≤ shape.ahead → (waiting < result * shape.keep)
+        ⊎ (workers * worker_steps < (result + workers) * (shape.keep + shape.ahead)) }
 {
     let each = usize::from(workers);
     if workers == 1 || !are_shared(shape) {
@@ -258,13 +269,14 @@ fn convert(held: &mut Held, is_signed: bool, first: usize)
 }
 
 impl WindowQueue {
-    ghost use Rattle.tm_windows.specs.Queue.{AfterPhase, AwaitsPhase, BeforePhase, HoldsRun, IsOpen, IsSameQueue, QueueEndsFor, QueueStandsFor, SharesAmong, fill_room, phase_size, reached, skip_of, windows_of};
-    ghost use Rattle.tm_windows.specs.Windows.{AreDueIn, AreUndropped, IsUndropped};
+    ghost use Rattle.tm_windows.specs.Queue.{AfterPhase, AwaitsPhase, BeforePhase, HoldsRun, IsOpen, IsRead, IsSameQueue, IsThere, QueueEndsFor, QueueStandsFor, SharesAmong, fill_room, octets_of, phase_size, reached, skip_of, step_of, windows_of};
+    ghost use Rattle.tm_windows.specs.Windows.{AreDueIn, AreUndropped, IsUndropped, block_counts};
     ghost use Rattle.tm_windows.specs.declared.choosing.Chosen.{Chosen};
 
     /// A queue with no octets, for 1 to 64 workers, where windows that keep at most `waiting` bits may be buffered.
     /// There is room for a window for each worker at least, and for one alone where there is one worker; for no more
-    /// than one each, or than it takes to keep these bits and one more. It fails only where there isn't enough memory.
+    /// than one each, or than it takes to keep these bits and one more; where windows are shared out for as many, or for
+    /// those of 2^20 steps a worker. It fails only where there isn't enough memory.
     pub fn open(
         alloc: Global,
         settings: QueueSettings,
@@ -305,11 +317,14 @@ impl WindowQueue {
             t: 0,
             dropped: undecided(settings.find),
             slips: 0,
+            lost: 0,
             held,
             decoders,
             candidates,
             has_ended: false,
             ready: 0,
+            run_t: 0,
+            run_at: 0,
             by: 0,
         })
     }
@@ -343,7 +358,7 @@ impl WindowQueue {
         steps_len(shape.rate, self.t, steps)
     }
 
-    /// Takes as many of the next soft octets as there is room for, signed or not, decodes none, and answers how many.
+    /// Takes as many of the next soft octets as there is room for, signed or not, decodes none, and returns how many.
     /// Where no window was closed, some are taken. The octets given in all are to be below 2^60.
     pub fn fill(&mut self, is_signed: bool, octets: &[u8]) -> usize
         requires going { self.old.has_ended ≡ false }
@@ -365,7 +380,7 @@ impl WindowQueue {
         count
     }
 
-    /// Decodes the next windows that the octets held close, up to the next before which octets are dropped, and answers
+    /// Decodes the next windows that the octets held close, up to the next before which octets are dropped, and returns
     /// how many. Their blocks are ready then, and no others. With none ready, all that is due was decoded; the symbol
     /// phase may have been chosen.
     pub fn decode<C: Crew>(&mut self, crew: &C) -> usize
@@ -374,6 +389,10 @@ impl WindowQueue {
         ensures count { result ≡ length self.new.ready }
         ensures stands { (given : List ℕ) (done : List WindowBlock) → QueueStandsFor self.old given done
             → QueueStandsFor self.new given (done ++ self.new.ready) }
+        ensures later { dropped_of (drop 1 self.new.ready) ≡ 0 }
+        ensures there { 0 < result → IsThere self.new }
+        ensures read { 0 < result → (given : List ℕ) (done : List WindowBlock) → QueueStandsFor self.old given done
+            → IsRead self.new given done }
         ensures is_open { result ≡ 0 → IsOpen self.new }
         ensures waits { result ≡ 0 → (given : List ℕ) (done : List WindowBlock) → BeforePhase self.new given done
             → length self.new.held < phase_size self.new }
@@ -399,8 +418,9 @@ impl WindowQueue {
         count
     }
 
-    // Decides how many octets are dropped before the next window, and drops them, where enough are there. Answers
+    // Decides how many octets are dropped before the next window, and drops them, where enough are there. Returns
     // whether it is decided.
+    #[tactic(auto, using(crate::proofs::Phases::period_size_most))]
     fn decide(&mut self) -> bool
         requires few { self.old.t < stream_bound }
         ensures stands { (given : List ℕ) (done : List WindowBlock) → QueueStandsFor self.old given done
@@ -543,6 +563,10 @@ impl WindowQueue {
         requires undropped { AreUndropped self.old.windows self.old.t self.old.held count }
         requires few { reached self.old < stream_bound }
         ensures count { length self.new.ready ≡ count }
+        ensures later { dropped_of (drop 1 self.new.ready) ≡ 0 }
+        ensures there { IsThere self.new }
+        ensures read { (given : List ℕ) (done : List WindowBlock) → QueueStandsFor self.old given done
+            → IsRead self.new given done }
         ensures stands { (given : List ℕ) (done : List WindowBlock) → QueueStandsFor self.old given done
             → QueueStandsFor self.new given (done ++ self.new.ready) }
         ensures shorter { length self.new.held < length self.old.held }
@@ -565,14 +589,17 @@ impl WindowQueue {
         let decoders = self.decoders.as_mut_slice();
         let candidates = self.candidates.as_mut_slice();
         self.starts = decode_windows(crew, decoders, candidates, count, &run, dropped);
+        self.run_t = self.t;
+        self.run_at = self.held.behind().len();
         self.held.drop_first(steps_len(shape.rate, self.t, steps));
         self.t += steps as u64;
         self.slips += slip_at(dropped);
+        self.lost += u64::from(dropped);
         self.dropped = undecided(self.seen.is_some());
         self.ready = count;
     }
 
-    /// Decodes the last window, where a step is left for it: its block is ready then. Answers how many octets are left
+    /// Decodes the last window, where a step is left for it: its block is ready then. Returns how many octets are left
     /// over after the last whole step: none or one. It is called once no window is closed and no octets come.
     pub fn last(&mut self) -> u8
         requires settled { AwaitsPhase self.old → ⊥ }
@@ -582,6 +609,9 @@ impl WindowQueue {
             → QueueEndsFor self.new given (done ++ self.new.ready) result }
         ensures left { result ≤ 1 }
         ensures one { length self.new.ready ≤ 1 }
+        ensures there { 0 < length self.new.ready → IsThere self.new }
+        ensures read { 0 < length self.new.ready → (given : List ℕ) (done : List WindowBlock)
+            → QueueStandsFor self.old given done → IsRead self.new given done }
         ensures counted { reached self.new ≤ reached self.old }
         ensures phase { self.new.chosen ≡ self.old.chosen }
         ensures ended { self.new.has_ended ≡ self.old.has_ended }
@@ -610,8 +640,11 @@ impl WindowQueue {
             steps,
             dropped,
         );
+        self.run_t = self.t;
+        self.run_at = self.held.behind().len();
         self.t += steps as u64;
         self.slips += slip_at(dropped);
+        self.lost += u64::from(dropped);
         self.ready = 1;
         self.held.clear();
         left
@@ -639,6 +672,32 @@ impl WindowQueue {
             (slice_index_or self.now.ready index block).bits }
     {
         self.candidates[index].kept_bits()
+    }
+
+    /// What the octets of the steps that it keeps say against the symbols of its path. No octet may have been put in
+    /// since it was decoded.
+    pub fn counts(&self, index: usize) -> SymbolCounts
+        requires index { index < length self.now.ready }
+        requires there { IsThere self.now }
+        ensures { (block : WindowBlock) → result ≡ block_counts self.now.windows.settings (step_of self.now index)
+            (octets_of self.now index) (slice_index_or self.now.ready index block) }
+    {
+        let shape = self.settings.shape;
+        let register = self.block(index).start;
+        let bits = self.kept_bits(index);
+        let t = self.step(index);
+        let read = &self.held.behind()[self.run_at..];
+        let octets = &read[steps_len(shape.rate, self.run_t, index * shape.keep)..];
+        symbol_counts(shape.rate, shape.invert, t, register, bits, octets)
+    }
+
+    /// The step at which the window of a block that is ready begins.
+    pub fn step(&self, index: usize) -> u64
+        requires index { index < length self.now.ready }
+        requires there { IsThere self.now }
+        ensures { result ≡ step_of self.now index }
+    {
+        self.run_t + (index * self.settings.shape.keep) as u64
     }
 
     /// Hands over the blocks that are ready.
@@ -707,6 +766,14 @@ impl WindowQueue {
         ensures { result ≡ self.now.slips }
     {
         self.slips
+    }
+
+    /// How many octets were dropped before the windows that were decoded.
+    pub fn lost(&self) -> u64
+        ensures value { result ≡ self.now.lost }
+        ensures few { result ≤ most_period_size * self.now.t }
+    {
+        self.lost
     }
 
     /// How many steps the windows keep that were decoded.

@@ -1,5 +1,5 @@
 // Windows decoded side by side.
-ghost use Rattle.std.specs.Prelude.{◌≡◌, ◌+◌, ◌*◌, ◌<◌, ◌≤◌, IsTrue, drop, length};
+ghost use Rattle.std.specs.Prelude.{◌≡◌, ◌↔◌, ◌+◌, ◌*◌, ◌<◌, ◌≤◌, IsTrue, drop, length};
 ghost use Rattle.std.specs.List.{All};
 ghost use Rattle.std.specs.Option.{ForSome};
 ghost use Rattle.std.specs.Thread.{IsSync};
@@ -7,7 +7,7 @@ ghost use Rattle.tm_base.specs.Limits.{most_workers};
 ghost use Rattle.tm_conv.specs.Path.{steps_size, registers};
 ghost use Rattle.tm_viterbi.specs.WindowSizes.{window_bound};
 ghost use Rattle.tm_windows.specs.Candidates.{AreCandidates, HaveRoom, HoldsWindows};
-ghost use Rattle.tm_windows.specs.Sharing.{most_octets, most_candidates};
+ghost use Rattle.tm_windows.specs.Sharing.{least_shared_ahead, most_octets, most_candidates};
 
 use crate::candidate::Candidate;
 use crate::guessing::known_or_guessed;
@@ -181,7 +181,9 @@ fn decode_both<R: Threads + Sync, G: Gate + Sync>(
 }
 
 /// Whether windows of this shape are shared out, where they have enough steps together.
-pub(crate) fn are_shared(shape: WindowShape) -> bool {
+pub(crate) fn are_shared(shape: WindowShape) -> bool
+    ensures { IsTrue result ↔ (least_shared_ahead ≤ shape.ahead) }
+{
     shape.ahead >= LEAST_SHARED_AHEAD
 }
 

@@ -1,7 +1,8 @@
-use Rattle.std.proofs.Common.{ℕ, ◌+◌, ◌*◌, ◌/◌, ◌<◌, ◌≤◌, arith}
-use Rattle.std.proofs.Math.Nat.{div-mul-le_self, mul-le-mul, mul-le-mul_left, mul-le-mul_right}
+use Rattle.std.proofs.Common.{◌⊎◌, inl, inr, ℕ, ◌+◌, ◌*◌, ◌/◌, ◌<◌, ◌≤◌, arith, min, subst}
+use Rattle.std.proofs.Math.Nat.{div-mul-le_self, lt-mul-div-succ, mul-le-mul, mul-le-mul_left, mul-le-mul_right}
+use Rattle.std.proofs.lemmas.Bool.{cases_lt}
 use Rattle.std.proofs.lemmas.Nat.{le-div}
-use Rattle.tm_windows.specs.Sharing.{most_window_steps}
+use Rattle.tm_windows.specs.Sharing.{most_window_steps, worker_steps}
 use Rattle.tm_windows.proofs.queue.window_count.Goals as goal
 
 -- each of `workers` workers has a window of `steps` steps at least, and all of theirs have few steps
@@ -32,3 +33,34 @@ returns-clause-bound c =
       at_least_one workers steps (omega (arith, c.requires.keep))
           (omega (arith, c.requires.keep, c.requires.ahead)),
     ))
+
+-- windows that keep more than `waiting` bits, or have nearly 2^20 steps a worker
+enough : (count workers keep steps waiting : ℕ) → 0 < workers → 0 < keep → 0 < steps
+    → min (waiting / keep + 1) (workers * (1048576 / steps)) ≤ count
+    → (waiting < count * keep) ⊎ (workers * worker_steps < (count + workers) * steps)
+enough count workers keep steps waiting some wide long all =
+    elim (cases_lt (workers * (1048576 / steps)) (waiting / keep + 1))
+    as (λ _. (waiting < count * keep) ⊎ (workers * worker_steps < (count + workers) * steps)) [
+      | inl less ↦ inr (
+          let each : 1048576 + 1 ≤ steps * (1048576 / steps + 1) = lt-mul-div-succ 1048576 long in
+          let most : workers * (1048576 + 1) ≤ workers * (steps * (1048576 / steps + 1)) = mul-le-mul_left workers each in
+          let as_many : workers * (1048576 / steps) ≤ count = omega (arith, all, less) in
+          let together : workers * (1048576 / steps) * steps ≤ count * steps = mul-le-mul_right steps as_many in
+          omega (arith, most, together, some)
+          )
+      | inr more ↦ inl (
+          let fewer : waiting < keep * (waiting / keep + 1) = lt-mul-div-succ waiting wide in
+          let as_many : waiting / keep + 1 ≤ count = omega (arith, all, more) in
+          let together : (waiting / keep + 1) * keep ≤ count * keep = mul-le-mul_right keep as_many in
+          omega (arith, fewer, together)
+          )
+    ]
+
+pub returns-clause-enough : goal.returns-clause-enough
+returns-clause-enough c = λ several ahead.
+    let steps = c.args.shape.keep + c.args.shape.ahead in
+    let count = c.max.result in
+    subst (λ (n : ℕ). (c.args.waiting < count * c.args.shape.keep) ⊎ (n * worker_steps < (count + n) * steps))
+    c.from-each.ensures
+    (enough count c.from-each.result c.args.shape.keep steps c.args.waiting (omega (arith, several, c.from-each.ensures))
+    (omega (arith, c.requires.keep)) (omega (arith, c.requires.keep)) (omega (arith, c.max.ensures, c.min.ensures)))

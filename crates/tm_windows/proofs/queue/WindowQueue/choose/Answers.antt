@@ -8,7 +8,7 @@ pub returns-clause-stands : goal.returns-clause-stands
 returns-clause-stands c = λ given done stands.
     let s = c.self.inside in
     let shape = s.settings.shape in
-    chosen-stands _ c.choose-chosen.result true c.drop_first.new.self.octets given done
+    chosen-stands _ c.choose-chosen.result true c.drop_first.new.self.octets given _ done
     (omega (arith, c.self.invariant)) (omega (arith, c.self.invariant))
     (subst (λ (q : Queueing). AwaitsPhase q) (sym c.self.view_is) c.requires.awaits)
     (subst (λ (o : List ℕ). IsPhase shape.rate shape.invert (shape.keep + shape.ahead) o c.choose-chosen.result)
@@ -21,7 +21,7 @@ pub returns-clause-lasts : goal.returns-clause-lasts
 returns-clause-lasts c = λ many given done stands.
     let s = c.self.inside in
     let shape = s.settings.shape in
-    chosen-stands _ c.choose-chosen.result s.has_ended c.drop_first.new.self.octets given done
+    chosen-stands _ c.choose-chosen.result s.has_ended c.drop_first.new.self.octets given _ done
     (omega (arith, c.self.invariant)) (omega (arith, c.self.invariant))
     (subst (λ (q : Queueing). AwaitsPhase q) (sym c.self.view_is) c.requires.awaits)
     (subst (λ (o : List ℕ). IsPhase shape.rate shape.invert (shape.keep + shape.ahead) o c.choose-chosen.result)

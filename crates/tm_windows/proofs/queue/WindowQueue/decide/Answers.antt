@@ -12,7 +12,7 @@ returns-clause-stands c = λ given done stands.
     let octets = c.as_slice-octets.ensures.octets in
     let many : octets_seen shape.rate s.t steps ≤ length s.held.octets =
     omega (arith, c.if-octets-octets_seen.false, c.octets_seen.ensures.value, ap length octets) in
-    moved-stands _ steps c.slip-count.result c.starts_after-self-inside.result c.drop_first.new.self.octets given done
+    moved-stands _ steps c.slip-count.result c.starts_after-self-inside.result c.drop_first.new.self.octets given _ done
     (λ awaits. let both : IsTrue false = c.if-awaits_phase.ensures.1
     (subst (λ (q : Queueing). AwaitsPhase q) c.self.view_is awaits) in absurd cc)
     c.in_default.is c.in-Some-seen.is many

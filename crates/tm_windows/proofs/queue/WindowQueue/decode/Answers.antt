@@ -34,3 +34,8 @@ pub returns-clause-stands : goal.returns-clause-stands
 returns-clause-stands g c = λ given done stands.
     c.decode_run.ensures.stands given done (still c.self-2.inside c.decide-is_decided.new.self given done
     c.share-workers.result c.self-2.view_is (c.decide-is_decided.ensures.stands given done stands))
+
+pub returns-clause-read : goal.returns-clause-read
+returns-clause-read g c = λ some given done stands.
+    c.decode_run.ensures.read given done (still c.self-2.inside c.decide-is_decided.new.self given done
+    c.share-workers.result c.self-2.view_is (c.decide-is_decided.ensures.stands given done stands))

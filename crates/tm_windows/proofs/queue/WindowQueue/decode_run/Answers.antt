@@ -1,19 +1,20 @@
 use Rattle.std.proofs.Common.{◌≡◌, ◌∙◌, ◌++◌, ◌∷◌, ◌+◌, ◌*◌, All, ℕ, List, Some, None, inr, sym, ap, subst, arith, drop, is_some, length, length-drop, map, take, unwrap_or}
+use Rattle.std.proofs.Math.Seq.{drop-append_seam}
 use Rattle.std.specs.Vec.{with_items}
 use Rattle.std.proofs.lemmas.List.{length-map, length-take-le, with_items_is}
 use Rattle.tm_conv.specs.Path.{steps_size}
 use Rattle.tm_viterbi.specs.declared.window_decoder.WindowShape.{WindowShape}
 use Rattle.tm_windows.specs.Candidates.{ClosedWith, HaveRoom, after_windows, block_of}
 use Rattle.tm_windows.specs.declared.candidate.Candidate.{Candidate}
-use Rattle.tm_windows.specs.Queue.{Queueing, AfterPhase}
+use Rattle.tm_windows.specs.Queue.{Queueing, AfterPhase, IsRead, IsThere}
 use Rattle.tm_windows.specs.Windows.{dropped_at, undecided}
-use Rattle.tm_windows.proofs.QueueRuns.{ClosesRun, IsCut, IsRun, after_run, decided_after, is_cut, is_decided, run-decoded}
+use Rattle.tm_windows.proofs.QueueRuns.{ClosesRun, IsCut, IsRun, after_run, decided_after, is_cut, is_decided, later-undropped_of, run-decoded, run-read, run-there, undecided-few}
 use Rattle.tm_windows.proofs.FollowedRuns.{place_of}
 use Rattle.tm_windows.proofs.queue.WindowQueue.decode_run.Given.{Over}
 use Rattle.tm_windows.proofs.queue.WindowQueue.decode_run.Goals as goal
 
 -- the run that is held
-is_run : (g : Over) (c : goal.After-self-7-1 g) → IsRun c.args.self.now c.unwrap_or-dropped.result c.args.count
+is_run : (g : Over) (c : goal.After-self-10-1 g) → IsRun c.args.self.now c.unwrap_or-dropped.result c.args.count
 is_run g c =
     let s = c.args.self.now in
     record {
@@ -28,7 +29,7 @@ is_run g c =
     }
 
 -- its octets
-cut : (g : Over) (c : goal.After-self-7-1 g)
+cut : (g : Over) (c : goal.After-self-10-1 g)
     → IsCut c.args.self.now c.args.count c.steps_len-size.result c.steps_len.result
 cut g c =
     let count = c.args.count in
@@ -40,7 +41,7 @@ cut g c =
     (subst (λ (q : Queueing). c.steps_len.result
     ≡ steps_size q.windows.settings.rate q.t (count * q.windows.settings.keep)) c.self.view_is c.steps_len.ensures)
 
-left_is : (g : Over) (c : goal.After-self-7-1 g)
+left_is : (g : Over) (c : goal.After-self-10-1 g)
     → length c.drop_first.new.self.octets + c.steps_len.result ≡ length c.args.self.now.held
 left_is g c =
     let held = c.self.inside.held.octets in
@@ -68,7 +69,7 @@ returns-clause-counted g c =
       ap (λ (q : Queueing). c.args.count * q.windows.settings.keep) c.self.view_is,
     )
 
-candidates_is : (g : Over) (c : goal.After-self-7-1 g)
+candidates_is : (g : Over) (c : goal.After-self-10-1 g)
     → (with_items c.self.inside.candidates c.decode_windows-self-inside.new.candidates).items
     ≡ c.decode_windows-self-inside.new.candidates
 candidates_is g c =
@@ -84,7 +85,9 @@ invariant_of-self g c =
     let decoders = with_items_is s.decoders windows.new.decoders (omega (arith, c.as_mut_slice-decoders.ensures.len)) in
     let wide = ap (λ (q : Queueing). c.args.count * q.windows.settings.keep) c.self.view_is in
     let decided : s.dropped ≡ Some c.requires.decided.0 =
-    ap (λ (q : Queueing). q.dropped) c.self.view_is ∙ c.requires.decided.1 in (
+    ap (λ (q : Queueing). q.dropped) c.self.view_is ∙ c.requires.decided.1 in
+    let k = c.unwrap_or-dropped.result in
+    let both = c.undecided-self-inside.ensures ∙ ap undecided c.is_some.ensures in (
       i.0,
       i.1,
       i.2,
@@ -97,8 +100,10 @@ invariant_of-self g c =
       λ find none. absurd (let both : Some c.requires.decided.0 ≡ None = sym decided ∙ i.8 find none in cc),
       omega (arith, i.9, c.slip_at.ensures.small, are.wide, wide),
       omega (arith, ap (λ (q : Queueing). q.most) c.self.view_is, c.requires.some.1),
-      omega (arith, i.11, c.drop_first.ensures.room),
-      omega (arith, i.12, c.drop_first.ensures.room),
+      λ count is. undecided-few (is_some s.seen) count (sym both ∙ is),
+      omega (arith, i.12, i.11 k (ap (λ (q : Queueing). q.dropped) c.self.view_is ∙ (is_run g c).dropped), c.from.ensures, are.wide, wide),
+      omega (arith, i.13, c.drop_first.ensures.room),
+      omega (arith, i.14, c.drop_first.ensures.room),
     )
 
 pub returns-clause-count : goal.returns-clause-count
@@ -115,6 +120,84 @@ returns-clause-count g c =
       c.requires.some.1,
     ))
 
+pub returns-clause-later : goal.returns-clause-later
+returns-clause-later g c =
+    let blocks = c.decode_windows-self-inside.ensures.blocks in
+    later-undropped_of _ c.unwrap_or-dropped.result _ _ blocks.0 blocks.1 _
+    (ap (λ (u : List Candidate). map block_of (take c.args.count u)) (candidates_is g c) ∙ blocks.2) blocks.3
+
+-- the octets that are dropped with the run are those of its kept steps
+read_is : (g : Over) (c : goal.After-self-10-1 g)
+    → drop (length c.behind.result.now) c.drop_first.new.self.behind ≡ take c.steps_len.result c.args.self.now.held
+read_is g c =
+    let held = c.self.inside.held in
+    (λ i. drop (length (c.behind.ensures i)) (c.drop_first.ensures.behind i))
+    ∙ drop-append_seam held.behind (take c.steps_len.result held.octets)
+    ∙ ap (λ (q : Queueing). take c.steps_len.result q.held) c.self.view_is
+
+-- the candidates' blocks, of windows that the octets held close
+closes : (g : Over) (c : goal.After-self-10-1 g)
+    → (let blocks = c.decode_windows-self-inside.ensures.blocks in ClosesRun c.args.self.now c.args.count
+    c.steps_len-size.result (blocks.0 ∷ blocks.1) c.decode_windows-self-inside.result)
+closes g c =
+    let v = c.self.inside in
+    let shape = v.settings.shape in
+    let count = c.args.count in
+    let m = c.steps_len-size.result in
+    let next = c.decode_windows-self-inside.result in
+    let blocks = c.decode_windows-self-inside.ensures.blocks in
+    subst (λ (q : Queueing). ClosesRun q count m (blocks.0 ∷ blocks.1) next) c.self.view_is
+    (subst (λ (o : List ℕ). ClosedWith shape (place_of v.starts v.t (take m o)) (blocks.0 ∷ blocks.1)
+    (after_windows shape v.t (take m o) count next)) c.as_slice.ensures.octets blocks.3)
+
+ready_are : (g : Over) (c : goal.After-self-10-1 g)
+    → (let blocks = c.decode_windows-self-inside.ensures.blocks in
+    map block_of (take c.args.count (with_items c.self.inside.candidates c.decode_windows-self-inside.new.candidates).items)
+    ≡ dropped_at c.unwrap_or-dropped.result blocks.0 ∷ blocks.1)
+ready_are g c =
+    ap (λ (u : List Candidate). map block_of (take c.args.count u)) (candidates_is g c)
+    ∙ c.decode_windows-self-inside.ensures.blocks.2
+
+size_is : (g : Over) (c : goal.After-self-10-1 g) → c.steps_len.result
+    ≡ steps_size c.args.self.now.windows.settings.rate c.args.self.now.t
+    (c.args.count * c.args.self.now.windows.settings.keep)
+size_is g c =
+    subst (λ (q : Queueing). c.steps_len.result
+    ≡ steps_size q.windows.settings.rate q.t (c.args.count * q.windows.settings.keep)) c.self.view_is c.steps_len.ensures
+
+pub returns-clause-there : goal.returns-clause-there
+returns-clause-there g c =
+    let s = c.args.self.now in
+    let blocks = c.decode_windows-self-inside.ensures.blocks in
+    let next = c.decode_windows-self-inside.result in
+    let m = c.steps_len-size.result in
+    let held_is = subst (λ (q : Queueing). m ≡ steps_size q.windows.settings.rate q.t
+    (c.args.count * q.windows.settings.keep + q.windows.settings.ahead + 1)) c.self.view_is c.steps_len-size.ensures in
+    subst (λ (q : Queueing). IsThere (after_run q c.args.count c.slip_at.result c.from.result next
+    c.undecided-self-inside.result c.drop_first.new.self.octets
+    (drop (length c.behind.result.now) c.drop_first.new.self.behind)
+    (map block_of (take c.args.count (with_items c.self.inside.candidates c.decode_windows-self-inside.new.candidates).items))))
+    (sym c.self.view_is)
+    (run-there s c.unwrap_or-dropped.result c.args.count m c.steps_len.result c.slip_at.result c.from.result next
+    c.undecided-self-inside.result c.drop_first.new.self.octets _ blocks.0 blocks.1 _ (is_run g c) held_is (size_is g c)
+    (read_is g c) (ready_are g c) (returns-clause-count g c) (closes g c) (omega (arith, c.requires.few)))
+
+pub returns-clause-read : goal.returns-clause-read
+returns-clause-read g c = λ given done stands.
+    let s = c.args.self.now in
+    let blocks = c.decode_windows-self-inside.ensures.blocks in
+    let next = c.decode_windows-self-inside.result in
+    let run = is_run g c in
+    subst (λ (q : Queueing). IsRead (after_run q c.args.count c.slip_at.result c.from.result next
+    c.undecided-self-inside.result c.drop_first.new.self.octets
+    (drop (length c.behind.result.now) c.drop_first.new.self.behind)
+    (map block_of (take c.args.count (with_items c.self.inside.candidates c.decode_windows-self-inside.new.candidates).items)))
+    given done) (sym c.self.view_is)
+    (run-read s given done c.unwrap_or-dropped.result c.args.count c.steps_len-size.result c.steps_len.result
+    c.slip_at.result c.from.result next c.undecided-self-inside.result c.drop_first.new.self.octets _ blocks.0 blocks.1 _
+    run (size_is g c) (read_is g c) (ready_are g c) (returns-clause-count g c) (closes g c)
+    (decided_after s given done c.unwrap_or-dropped.result run.dropped stands))
+
 pub returns-clause-stands : goal.returns-clause-stands
 returns-clause-stands g c = λ given done stands.
     let s = c.args.self.now in
@@ -123,28 +206,21 @@ returns-clause-stands g c = λ given done stands.
     let m = c.steps_len-size.result in
     let k = c.unwrap_or-dropped.result in
     let left = c.drop_first.new.self.octets in
-    let windows = c.decode_windows-self-inside in
-    let next = windows.result in
-    let blocks = windows.ensures.blocks in
-    let ready = map block_of (take count (with_items v.candidates windows.new.candidates).items) in
-    let shape = v.settings.shape in
-    let closes : ClosesRun s count m (blocks.0 ∷ blocks.1) next = subst (λ (q : Queueing). ClosesRun q count m
-    (blocks.0 ∷ blocks.1) next) c.self.view_is
-    (subst (λ (o : List ℕ). ClosedWith shape (place_of v.starts v.t (take m o)) (blocks.0 ∷ blocks.1)
-    (after_windows shape v.t (take m o) count next)) c.as_slice.ensures.octets blocks.3) in
+    let read = drop (length c.behind.result.now) c.drop_first.new.self.behind in
+    let next = c.decode_windows-self-inside.result in
+    let blocks = c.decode_windows-self-inside.ensures.blocks in
+    let ready = map block_of (take count (with_items v.candidates c.decode_windows-self-inside.new.candidates).items) in
     let cut_off : left ≡ drop (steps_size s.windows.settings.rate s.t (count * s.windows.settings.keep)) s.held =
     subst (λ (q : Queueing). left ≡ drop (steps_size q.windows.settings.rate q.t (count * q.windows.settings.keep))
     q.held) c.self.view_is
     (c.drop_first.ensures.octets ∙ ap (λ (n : ℕ). drop n v.held.octets) c.steps_len.ensures) in
-    let size_is = subst (λ (q : Queueing). m ≡ steps_size q.windows.settings.rate q.t
+    let held_is = subst (λ (q : Queueing). m ≡ steps_size q.windows.settings.rate q.t
     (count * q.windows.settings.keep + q.windows.settings.ahead + 1)) c.self.view_is c.steps_len-size.ensures in
     let undecided_is = subst (λ (q : Queueing). c.undecided-self-inside.result ≡ undecided (is_some q.windows.seen))
     c.self.view_is (c.undecided-self-inside.ensures ∙ ap undecided c.is_some.ensures) in
-    let are : ready ≡ dropped_at k blocks.0 ∷ blocks.1 =
-    ap (λ (u : List Candidate). map block_of (take count u)) (candidates_is g c) ∙ blocks.2 in
     let run = is_run g c in
-    inr (subst (λ (q : Queueing). AfterPhase (after_run q count c.slip_at.result next c.undecided-self-inside.result left
-    ready) given (done ++ ready)) (sym c.self.view_is)
-    (run-decoded s given done k count m c.slip_at.result next c.undecided-self-inside.result left blocks.0 blocks.1 ready
-    run size_is cut_off c.slip_at.ensures.value undecided_is are (returns-clause-count g c) closes
-    (decided_after s given done k run.dropped stands)))
+    inr (subst (λ (q : Queueing). AfterPhase (after_run q count c.slip_at.result c.from.result next
+    c.undecided-self-inside.result left read ready) given (done ++ ready)) (sym c.self.view_is)
+    (run-decoded s given done k count m c.slip_at.result c.from.result next c.undecided-self-inside.result left read
+    blocks.0 blocks.1 ready run held_is cut_off c.slip_at.ensures.value c.from.ensures undecided_is (ready_are g c)
+    (returns-clause-count g c) (closes g c) (decided_after s given done k run.dropped stands)))

@@ -32,6 +32,7 @@ returns-clause-some c = λ is more.
 pub returns-clause-stands : goal.returns-clause-stands
 returns-clause-stands c = λ given done stands.
     let held = c.self.inside.held.octets in
+    let read = drop c.self.inside.run_at c.convert.new.held.behind in
     let n = c.fill-count.result in
     let octets = c.args.octets.now in
     let form = c.args.is_signed in
@@ -42,10 +43,11 @@ returns-clause-stands c = λ given done stands.
     ∙ converted form (length first) held (take n octets) (ap length c.as_slice-before.ensures.octets) in
     let few : length more ≡ n = length-map (take n octets) (λ octet. unsigned_value form octet)
     ∙ length-take-le n octets (omega (arith, returns-clause-count c)) in
-    subst (λ (q : Queueing). QueueStandsFor (record q { held = c.convert.new.held.octets }) (given ++ more) done)
+    subst (λ (q : Queueing). QueueStandsFor (record q { held = c.convert.new.held.octets; read = read }) (given ++ more)
+    done)
     (sym c.self.view_is)
-    (subst (λ (o : List ℕ). QueueStandsFor (record c.args.self.now { held = o }) (given ++ more) done)
+    (subst (λ (o : List ℕ). QueueStandsFor (record c.args.self.now { held = o; read = read }) (given ++ more) done)
     (ap (λ (q : Queueing). q.held ++ more) (sym c.self.view_is) ∙ sym is)
-    (filled-stands c.args.self.now more given done
+    (filled-stands c.args.self.now more given read done
     (omega (arith, c.self.invariant, ap (λ (q : Queueing). q.windows.settings.keep) c.self.view_is)) c.requires.going
     (omega (arith, few, returns-clause-count c)) stands))

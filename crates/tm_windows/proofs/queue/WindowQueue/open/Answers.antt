@@ -4,7 +4,7 @@ use Rattle.tm_windows.proofs.queue.WindowQueue.open.Goals as goal
 
 pub returns-clause-stands : goal.returns-clause-stands
 returns-clause-stands c =
-    fresh-stands _ refl c.in-Ok-open.ensures.0 c.undecided.ensures refl c.first_start.ensures.value refl refl
+    fresh-stands _ refl c.in-Ok-open.ensures.0 c.undecided.ensures refl c.first_start.ensures.value refl refl refl
 
 pub returns-clause-is_open : goal.returns-clause-is_open
 returns-clause-is_open c =
