@@ -2,6 +2,7 @@
 use Rattle.std.proofs.Common.{◌≡◌, inl, inr, ℕ, zero, suc, ◌+◌, ◌-◌, ◌<◌, ◌≤◌, ◌++◌, refl, sym, ap, subst, arith, List, [], ◌∷◌, Option, Some, None, length, length-drop}
 use Rattle.std.specs.Option.{ForSome}
 use Rattle.std.proofs.lemmas.Bool.{cases_lt}
+use Rattle.tm_conv.specs.declared.rates.Rate.{Rate}
 use Rattle.tm_conv.specs.Path.{steps_size}
 use Rattle.tm_conv.proofs.Sizes.{steps_size-add, steps_size-least}
 use Rattle.tm_viterbi.specs.declared.block.Start.{Start}
@@ -109,20 +110,24 @@ closed-exists best s b may room =
     }
 
 -- a window that is closed has been looked at
-pub seen-first : (s : Settings) (t steps : ℕ) → steps + 8 ≤ s.keep + s.ahead
-    → octets_seen s.rate t steps ≤ closing_size s t
-seen-first s t steps few =
-    let more : ℕ = s.keep + s.ahead + 1 - steps in
-    let sum : steps + more ≡ s.keep + s.ahead + 1 = omega (arith, few) in
+pub seen-before : (rate : Rate) (t steps wide : ℕ) → steps + 8 ≤ wide
+    → octets_seen rate t steps ≤ steps_size rate t (wide + 1)
+seen-before rate t steps wide few =
+    let more : ℕ = wide + 1 - steps in
+    let sum : steps + more ≡ wide + 1 = omega (arith, few) in
     let long : 9 ≤ more = omega (arith, few) in
     omega (
       arith,
-      steps_size-add s.rate t steps more,
-      ap (steps_size s.rate t) sum,
-      steps_size-least s.rate (t + steps) more,
+      steps_size-add rate t steps more,
+      ap (steps_size rate t) sum,
+      steps_size-least rate (t + steps) more,
       long,
-      period_size_most s.rate,
+      period_size_most rate,
     )
+
+pub seen-first : (s : Settings) (t steps : ℕ) → steps + 8 ≤ s.keep + s.ahead
+    → octets_seen s.rate t steps ≤ closing_size s t
+seen-first s t steps few = seen-before s.rate t steps (s.keep + s.ahead) few
 
 pub unseen-open : (w : Windows) (spot : Spot) → IsSeen w → IsUnseen w spot
     → length spot.place.octets < closing_size w.settings spot.place.t

@@ -69,42 +69,49 @@ after_last q n slips lost left read ready = record q {
   read = read;
 }
 
--- there is one, or more
-pub ends-one : (q : Queueing) (left given read : List ℕ) (done ready : List WindowBlock) (n size k slips lost : ℕ)
-    (block : WindowBlock) → ready ≡ block ∷ [] → AreWhole q n size → 0 < n → IsOpen q → (AwaitsPhase q → ⊥) → k ≡ unwrap_or q.dropped 0 → slips ≡ slip_at k → lost ≡ k
-    → block.dropped ≡ k → block.kept ≡ n
-    → IsBlock q.windows.settings.rate q.windows.settings.invert q.windows.settings.keep q.windows.settings.ahead
-    q.starts q.t n q.held (undropped block)
-    → QueueStandsFor q given done
-    → QueueEndsFor (after_last q n slips lost left read ready) given
-    (done ++ ready) (length q.held - size)
-ends-one q left given read done ready n size k slips lost block one are some is chosen ek es el is_dropped kept is_block stands =
+-- the block of n steps, at least one, and the octets that were held
+pub record IsLastBlock (q : Queueing) (n size k : ℕ) (read : List ℕ) (ready : List WindowBlock) (block : WindowBlock)
+    : Type 0 where
+  pub one : ready ≡ block ∷ []
+  pub whole : AreWhole q n size
+  pub some : 0 < n
+  pub drops : k ≡ unwrap_or q.dropped 0
+  pub dropped : block.dropped ≡ k
+  pub kept : block.kept ≡ n
+  pub is : IsBlock q.windows.settings.rate q.windows.settings.invert q.windows.settings.keep q.windows.settings.ahead
+      q.starts q.t n q.held (undropped block)
+  pub read_is : read ≡ q.held
+
+pub ends-one : (q : Queueing) (n size k : ℕ) (read : List ℕ) (ready : List WindowBlock) (block : WindowBlock)
+    → IsLastBlock q n size k read ready block → (left given : List ℕ) (done : List WindowBlock) (slips lost : ℕ)
+    → IsOpen q → (AwaitsPhase q → ⊥) → slips ≡ slip_at k → lost ≡ k → QueueStandsFor q given done
+    → QueueEndsFor (after_last q n slips lost left read ready) given (done ++ ready) (length q.held - size)
+ends-one q n size k read ready block b left given done slips lost is chosen es el stands =
     let r = after_phase q given done stands chosen in
-    let last = subst (λ (v : List WindowBlock). IsLast q.windows.settings (last_beginning q) n v) (sym one)
-    (is-last q.windows.settings (last_beginning q) n block some (is_dropped ∙ ek) is_block) in
+    let are = b.whole in
+    let last = subst (λ (v : List WindowBlock). IsLast q.windows.settings (last_beginning q) n v) (sym b.one)
+    (is-last q.windows.settings (last_beginning q) n block b.some (b.dropped ∙ b.drops) b.is) in
     record {
       choice = r.choice;
       blocks = ended q given done ready n size are.is are.whole are.most are.few (open-decided q is chosen) r last;
-      kept = omega (arith, r.kept, kept-append done ready, ap kept_of one, kept);
-      slips = omega (arith, r.slips, slips-append done ready, ap slips_of one, ap slip_at is_dropped, es);
-      lost = omega (arith, r.lost, dropped-append done ready, ap dropped_of one, is_dropped, el);
+      kept = omega (arith, r.kept, kept-append done ready, ap kept_of b.one, b.kept);
+      slips = omega (arith, r.slips, slips-append done ready, ap slips_of b.one, ap slip_at b.dropped, es);
+      lost = omega (arith, r.lost, dropped-append done ready, ap dropped_of b.one, b.dropped, el);
     }
 
--- its octets were held
-pub last-there : (q : Queueing) (left read : List ℕ) (ready : List WindowBlock) (n size slips lost : ℕ)
-    (block : WindowBlock) → ready ≡ block ∷ [] → AreWhole q n size → 0 < n → read ≡ q.held → block.kept ≡ n
-    → IsBlock q.windows.settings.rate q.windows.settings.invert q.windows.settings.keep q.windows.settings.ahead
-    q.starts q.t n q.held (undropped block)
-    → q.t + n ≤ farthest_step → IsThere (after_last q n slips lost left read ready)
-last-there q left read ready n size slips lost block one are some read_is kept is_block few =
+-- its octets are there
+pub last-there : (q : Queueing) (n size k : ℕ) (read : List ℕ) (ready : List WindowBlock) (block : WindowBlock)
+    → IsLastBlock q n size k read ready block → (left : List ℕ) (slips lost : ℕ) → q.t + n ≤ farthest_step
+    → IsThere (after_last q n slips lost left read ready)
+last-there q n size k read ready block b left slips lost few =
     let s = q.windows.settings in
-    let all : kept_of (block ∷ []) ≡ n = omega (arith, kept) in
-    subst (λ (v : List WindowBlock). IsThere (after_last q n slips lost left read v)) (sym one) (record {
-      some = omega (arith, all, some);
-      octets = omega (arith, ap (steps_size s.rate q.t) all, are.is, are.whole, ap length read_is);
+    let all : kept_of (block ∷ []) ≡ n = omega (arith, b.kept) in
+    subst (λ (v : List WindowBlock). IsThere (after_last q n slips lost left read v)) (sym b.one) (record {
+      some = omega (arith, all, b.some);
+      octets = omega (arith, ap (steps_size s.rate q.t) all, b.whole.is, b.whole.whole, ap length b.read_is);
       few = omega (arith, all);
       bound = few;
-      paths = path-last s q.starts q.t n q.held block is_block;
+      paths = path-last s q.starts q.t n q.held block b.is;
       kept = none-before;
     })
   where
@@ -113,15 +120,16 @@ last-there q left read ready n size slips lost block one are some read_is kept i
     none-before zero less = omega arith
     none-before (suc n) less = absurd (omega (arith, less))
 
-pub last-read : (q : Queueing) (left read given : List ℕ) (done ready : List WindowBlock) (n size k slips lost : ℕ)
-    (block : WindowBlock) → ready ≡ block ∷ [] → AreWhole q n size → (AwaitsPhase q → ⊥)
-    → k ≡ unwrap_or q.dropped 0 → read ≡ q.held → block.dropped ≡ k → block.kept ≡ n → QueueStandsFor q given done
+-- and they are those that were put in
+pub last-read : (q : Queueing) (n size k : ℕ) (read : List ℕ) (ready : List WindowBlock) (block : WindowBlock)
+    → IsLastBlock q n size k read ready block → (left given : List ℕ) (done : List WindowBlock) (slips lost : ℕ)
+    → (AwaitsPhase q → ⊥) → QueueStandsFor q given done
     → IsRead (after_last q n slips lost left read ready) given done
-last-read q left read given done ready n size k slips lost block one are chosen ek read_is is_dropped kept stands =
+last-read q n size k read ready block b left given done slips lost chosen stands =
     let r = after_phase q given done stands chosen in
     record {
       step = sym r.kept;
       octets =
-          read-octets q given read done ready size n k r ek (omega (arith, ap dropped_of one, is_dropped))
-          (omega (arith, ap kept_of one, kept)) are.is (ap (take size) read_is);
+          read-octets q given read done ready size n k r b.drops (omega (arith, ap dropped_of b.one, b.dropped))
+          (omega (arith, ap kept_of b.one, b.kept)) b.whole.is (ap (take size) b.read_is);
     }

@@ -4,6 +4,7 @@ pub mod Phases
 pub mod Slips
 mod Runs
 mod WindowRuns
+mod FirstDrops
 mod Endings
 mod Existing
 pub mod Beginnings
@@ -13,7 +14,7 @@ pub mod Undisturbed
 pub mod FollowedRuns
 pub mod PlainWindows
 pub mod HeldOctets
-mod ReadOctets
+pub mod ReadOctets
 mod QueueRuns
 mod Queues
 mod LastWindow

@@ -203,8 +203,8 @@ pub run-decoded : (q : Queueing) (given : List ℕ) (done : List WindowBlock) (k
     → ready ≡ dropped_at k x ∷ xs → length ready ≡ count → ClosesRun q count m (x ∷ xs) next
     → AfterPhase q given done
     → AfterPhase (after_run q count slips lost next dropped left read ready) given (done ++ ready)
-run-decoded q given done k count m slips lost next dropped left read x xs ready run is left_is slips_is lost_is undecided_is are long
-    closes r =
+run-decoded q given done k count m slips lost next dropped left read x xs ready run is left_is slips_is lost_is
+    undecided_is are long closes r =
     let w = q.windows in
     let s = w.settings in
     let size : ℕ = steps_size s.rate q.t (count * s.keep) in
@@ -273,7 +273,8 @@ run-there q k count m size slips lost next dropped left read x xs ready run is s
     closed-steps s from to (x ∷ xs) closes ∙ ap (λ (n : ℕ). n * s.keep) many in
     let all : length read ≡ size =
     ap length read_is ∙ length-take-le size q.held (omega (arith, cut.within, cut.inside)) in
-    subst (λ (v : List WindowBlock). IsThere (after_run q count slips lost next dropped left read v)) (sym are) (record {
+    subst (λ (v : List WindowBlock). IsThere (after_run q count slips lost next dropped left read v)) (sym are)
+    (record {
       some = omega (arith, kept, cut.wide);
       octets = omega (arith, all, size_is, ap (steps_size s.rate q.t) kept);
       few = omega (arith, kept);
@@ -289,7 +290,8 @@ pub run-read : (q : Queueing) (given : List ℕ) (done : List WindowBlock) (k co
     → ready ≡ dropped_at k x ∷ xs → length ready ≡ count → ClosesRun q count m (x ∷ xs) next
     → AfterPhase q given done
     → IsRead (after_run q count slips lost next dropped left read ready) given done
-run-read q given done k count m size slips lost next dropped left read x xs ready run size_is read_is are long closes r =
+run-read q given done k count m size slips lost next dropped left read x xs ready run size_is read_is are long
+    closes r =
     let s = q.windows.settings in
     let from = place_of q.starts q.t (take m q.held) in
     let to = after_windows (shape_of q) q.t (take m q.held) count next in

@@ -17,8 +17,8 @@ most_octets = 2 ^ 62
 abbrev pub most_candidates : ℕ
 most_candidates = 2 ^ 32
 
--- the least steps ahead with which windows are shared out: with fewer their starts are guessed wrong
--- too often
+-- the least steps ahead with which windows are shared out: with fewer a start is guessed wrong too
+-- often
 abbrev pub least_shared_ahead : ℕ
 least_shared_ahead = 64
 

@@ -2,11 +2,13 @@
 ghost use Rattle.std.specs.Prelude.{◌≡◌, ◌+◌, ◌*◌, ◌<◌, ◌≤◌, ℕ, length};
 ghost use Rattle.std.specs.List.{All};
 ghost use Rattle.tm_base.specs.Limits.{most_workers};
-ghost use Rattle.tm_viterbi.specs.WindowSizes.{window_bound};
+ghost use Rattle.tm_viterbi.specs.WindowSizes.{stream_bound, window_bound};
 ghost use Rattle.tm_windows.specs.Candidates.{AreCandidates, HaveRoom, HoldsWindows};
+ghost use Rattle.tm_windows.specs.Looks.{HoldLooks, IsFirstDrop};
 ghost use Rattle.tm_windows.specs.Sharing.{most_candidates, most_octets};
 
 use crate::candidate::Candidate;
+use crate::looks::{Looks, first_drop_shared};
 use crate::run::decode_each;
 use crate::sharing::decode_shared;
 use crate::window_run::WindowRun;
@@ -47,6 +49,16 @@ pub trait Crew {
             candidates.new }
         ensures bits { HaveRoom (run.now.shape.keep + run.now.shape.ahead) candidates.new }
         ensures shape { All (λ d. d ≡ run.now.shape) decoders.new };
+
+    /// The first of the windows from number `first` on, up to number `last`, before which octets are dropped, or `last`
+    /// where there is none, by at most `workers` workers.
+    fn first_drop(&self, looks: &Looks<'_>, workers: usize, first: usize, last: usize) -> usize
+        requires ready { is_ready self.now }
+        requires workers { (0 < workers) × (workers ≤ most_workers) }
+        requires within { first ≤ last }
+        requires room { HoldLooks looks.now last }
+        requires few { looks.now.t + last * looks.now.shape.keep < stream_bound }
+        ensures { IsFirstDrop looks.now first last result };
 }
 
 /// The caller alone. It starts no thread.
@@ -71,6 +83,10 @@ impl Crew for Alone {
         run: &WindowRun<'_>,
     ) {
         decode_each(&OpenGate, &mut decoders[0], candidates, run);
+    }
+
+    fn first_drop(&self, looks: &Looks<'_>, _workers: usize, first: usize, last: usize) -> usize {
+        looks.first_drop(&OpenGate, first, last)
     }
 }
 
@@ -100,5 +116,9 @@ impl<'a, R: Threads + Sync, W> Crew for Threaded<'a, R, W> {
         run: &WindowRun<'_>,
     ) {
         decode_shared(self.rt, &OpenGate, decoders, candidates, run);
+    }
+
+    fn first_drop(&self, looks: &Looks<'_>, workers: usize, first: usize, last: usize) -> usize {
+        first_drop_shared(self.rt, &OpenGate, looks, workers, first, last)
     }
 }

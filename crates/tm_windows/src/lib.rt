@@ -13,6 +13,7 @@ mod crew;
 mod decoder;
 mod guessing;
 mod laws;
+mod looks;
 mod phase_laws;
 mod queue;
 mod run;

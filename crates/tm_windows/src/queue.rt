@@ -20,6 +20,7 @@ ghost use Rattle.tm_windows.specs.Sharing.{least_shared_ahead, most_windows, mos
 use crate::candidate::Candidate;
 use crate::choosing::{Chosen, choose, octets_needed};
 use crate::crew::Crew;
+use crate::looks::{Looks, next_drop};
 use crate::run::decode_windows;
 use crate::sharing::are_shared;
 use crate::slipping::{octets_seen, slip, steps_seen};
@@ -270,13 +271,13 @@ fn convert(held: &mut Held, is_signed: bool, first: usize)
 
 impl WindowQueue {
     ghost use Rattle.tm_windows.specs.Queue.{AfterPhase, AwaitsPhase, BeforePhase, HoldsRun, IsOpen, IsRead, IsSameQueue, IsThere, QueueEndsFor, QueueStandsFor, SharesAmong, fill_room, octets_of, phase_size, reached, skip_of, step_of, windows_of};
-    ghost use Rattle.tm_windows.specs.Windows.{AreDueIn, AreUndropped, IsUndropped, block_counts};
+    ghost use Rattle.tm_windows.specs.Windows.{AreDueIn, AreUndropped, block_counts};
     ghost use Rattle.tm_windows.specs.declared.choosing.Chosen.{Chosen};
 
     /// A queue with no octets, for 1 to 64 workers, where windows that keep at most `waiting` bits may be buffered.
     /// There is room for a window for each worker at least, and for one alone where there is one worker; for no more
-    /// than one each, or than it takes to keep these bits and one more; where windows are shared out for as many, or for
-    /// those of 2^20 steps a worker. It fails only where there isn't enough memory.
+    /// than one each, or than it takes to keep these bits and one more; where windows are shared out, for as many, or
+    /// for those of 2^20 steps a worker. It fails only where there isn't enough memory.
     pub fn open(
         alloc: Global,
         settings: QueueSettings,
@@ -410,7 +411,7 @@ impl WindowQueue {
         if !is_decided {
             return 0;
         }
-        let count = self.count_run();
+        let count = self.count_run(crew);
         if count == 0 {
             return 0;
         }
@@ -500,8 +501,10 @@ impl WindowQueue {
         self.has_ended = true;
     }
 
-    // How many windows the octets held close from the next one on, with nothing dropped before any but the next.
-    fn count_run(&self) -> usize
+    // How many windows the octets held close from the next one on, with nothing dropped before any but the next. Where
+    // the phase is followed the crew looks for the next drop.
+    fn count_run<C: Crew>(&self, crew: &C) -> usize
+        requires ready { C.is_ready crew.now }
         requires decided { (dropped : ℕ) × (self.now.dropped ≡ Some dropped) }
         requires few { reached self.now < stream_bound }
         ensures most { result ≤ self.now.most }
@@ -511,46 +514,22 @@ impl WindowQueue {
         ensures longest { result < self.now.most → HoldsRun self.now (result + 1)
             → AreUndropped self.now.windows self.now.t self.now.held (result + 1) → ⊥ }
     {
-        let most = closed_windows(
-            self.settings.shape,
-            self.t,
-            self.held.as_slice().len(),
-            self.candidates.len(),
-        );
+        let shape = self.settings.shape;
+        let octets = self.held.as_slice();
+        let most = closed_windows(shape, self.t, octets.len(), self.candidates.len());
+        if most < 2 {
+            return most;
+        }
         let Some(steps) = self.seen else {
             return most;
         };
-        for number in 1..most {
-            if !self.is_undropped(steps, number) {
-                return number;
-            }
-        }
-        most
-    }
-
-    // Whether nothing is dropped before the window which is `number` windows after the next one, where nothing is
-    // dropped before those between and a slip is looked for over `steps` steps.
-    fn is_undropped(&self, steps: usize, number: usize) -> bool
-        requires followed { self.now.windows.seen ≡ Some steps }
-        requires number { number < self.now.most }
-        requires room { HoldsRun self.now (number + 1) }
-        requires few { reached self.now < stream_bound }
-        ensures { IsTrue result ↔ IsUndropped self.now.windows
-            (self.now.t + number * self.now.windows.settings.keep)
-            (drop (steps_size self.now.windows.settings.rate self.now.t
-            (number * self.now.windows.settings.keep)) self.now.held) }
-    {
-        let shape = self.settings.shape;
-        let kept = number * shape.keep;
-        let size = steps_len(shape.rate, self.t, kept);
-        let octets = &self.held.as_slice()[size..];
-        slip(
-            shape.rate,
-            shape.invert,
-            self.t + kept as u64,
+        let looks = Looks {
+            shape,
             steps,
+            t: self.t,
             octets,
-        ) == 0
+        };
+        next_drop(crew, &looks, self.decoders.len(), most)
     }
 
     // Has the crew decode `count` windows, which the octets held close. Those that were decoded from another register

@@ -1,6 +1,6 @@
 // Tests of what only this crate can see. Windows that were each begun from a wrong register: settled, their blocks are
-// those of the decoder. Runs that are shared out, whatever the workers. And a queue whose windows are decoded really
-// side by side, where these have enough steps.
+// those of the decoder. Runs that are shared out, whatever the workers. A queue whose windows are decoded really side by
+// side, where these have enough steps, and looks that are made so, where there are enough.
 ghost use Rattle.std.specs.Prelude.{◌+◌, ◌*◌, ◌^◌, ◌<◌, ◌≤◌, ◌≡◌, length};
 ghost use Rattle.tm_base.specs.Limits.{most_workers};
 ghost use Rattle.tm_conv.specs.Path.{steps_size};
@@ -11,6 +11,7 @@ use crate::candidate::Candidate;
 use crate::crew::{Alone, Crew};
 use crate::decoder::Decoder;
 use crate::guessing::known_or_guessed;
+use crate::looks::{Looks, first_drop_shared, look_evenly};
 use crate::queue::{QueueSettings, WindowQueue, new_candidates};
 use crate::run::settle;
 use crate::sharing::{decode_evenly, decode_shared};
@@ -357,6 +358,10 @@ impl<'a, R: Threads + Sync> Crew for PastHolding<'a, R> {
     ) {
         decode_shared(self.rt, self.gate, decoders, candidates, run);
     }
+
+    fn first_drop(&self, looks: &Looks<'_>, _workers: usize, first: usize, last: usize) -> usize {
+        looks.first_drop(&OpenGate, first, last)
+    }
 }
 
 // Shares each run out, however few its steps are.
@@ -393,6 +398,10 @@ impl<'a, R: Threads + Sync> Crew for AlwaysShared<'a, R> {
             0,
             candidates,
         );
+    }
+
+    fn first_drop(&self, looks: &Looks<'_>, workers: usize, first: usize, last: usize) -> usize {
+        look_evenly(self.rt, &OpenGate, looks, workers, first, last)
     }
 }
 
@@ -506,6 +515,41 @@ fn windows_of_enough_steps_are_decoded_side_by_side(rt: HostRuntime) -> Result<(
     assert!(rt; !is_freed(&rt, rt.alloc(), 8, 8_192, 63)?);
     assert!(rt; is_freed(&rt, rt.alloc(), 1_024, 64, 64)?);
     assert!(rt; !is_freed(&rt, rt.alloc(), 1_022, 64, 64)?);
+    Ok(())
+}
+
+// Whether the first of `count` looks of two workers is held, and freed by those of the other, half of all. They are
+// before undisturbed windows, and find no slip.
+fn is_look_freed<R: Abort + Threads + Sync>(
+    rt: &R,
+    octets: &[u8],
+    count: usize,
+) -> Result<bool, Fail>
+    requires { count ≤ 64 }
+{
+    assert!(rt; steps_len(Rate::R12, 0, count * KEEP + AHEAD + 1) <= octets.len());
+    let looks = Looks {
+        shape: WindowShape {
+            rate: Rate::R12,
+            invert: false,
+            keep: KEEP,
+            ahead: AHEAD,
+        },
+        steps: KEEP + AHEAD - 8,
+        t: 0,
+        octets,
+    };
+    let gate = gate_that_holds(0, (count / 2) as u64);
+    assert!(rt; first_drop_shared(rt, &gate, &looks, 2, 0, count) == count);
+    Ok(gate.freed.load(Ordering::SeqCst) == 1)
+}
+
+// 64 looks are just enough to share out, and one less are too few.
+#[test]
+fn enough_looks_are_made_side_by_side(rt: HostRuntime) -> Result<(), Fail> {
+    let octets = sent(rt.alloc(), 64 * KEEP + AHEAD + 1)?;
+    assert!(rt; is_look_freed(&rt, &octets, 64)?);
+    assert!(rt; !is_look_freed(&rt, &octets, 63)?);
     Ok(())
 }
 

@@ -37,7 +37,7 @@ enum Way {
 
 const WAYS: [Way; 3] = [Way::Once, Way::Gathered, Way::Alone];
 
-// What came of a stream: the blocks, and what the last call answered.
+// What came of a stream: the blocks, and what the last call returned.
 #[derive(Debug, PartialEq, Eq, Drop)]
 struct Outcome {
     digest: Digest,
@@ -422,12 +422,13 @@ const UPRIGHT: WindowShape = WindowShape {
 fn followed<R: Abort + Threads + Sync>(
     rt: &R,
     alloc: Global,
+    shape: WindowShape,
     workers: u8,
     octets: &[u8],
     way: Way,
     room: u64,
 ) -> Result<(Outcome, u64), Fail> {
-    let mut queue = opened(rt, alloc, UPRIGHT, Start::Zero, workers, true)?;
+    let mut queue = opened(rt, alloc, shape, Start::Zero, workers, true)?;
     assert!(rt; (octets.len() as u64) < STREAM_BOUND);
     let mut digest = with_room(room);
     let answer = put_all(rt, &mut queue, octets, way, &mut digest);
@@ -441,17 +442,17 @@ fn followed_streams_drop_octets(rt: HostRuntime) -> Result<(), Fail> {
     let alloc = rt.alloc();
     let mut octets = octets_for(&rt, alloc, Kind::Clean, UPRIGHT)?;
     let whole = alone(&rt, alloc, UPRIGHT, Start::Zero, &octets, u64::MAX)?;
-    let (outcome, slips) = followed(&rt, alloc, 1, &octets, Way::Once, u64::MAX)?;
+    let (outcome, slips) = followed(&rt, alloc, UPRIGHT, 1, &octets, Way::Once, u64::MAX)?;
     assert!(rt; outcome == whole);
     assert!(rt; slips == 0);
     assert!(rt; octets.len() > 3000);
     octets.remove(3000);
-    let (wanted, slips) = followed(&rt, alloc, 1, &octets, Way::Once, u64::MAX)?;
+    let (wanted, slips) = followed(&rt, alloc, UPRIGHT, 1, &octets, Way::Once, u64::MAX)?;
     assert!(rt; wanted.digest.blocks == WINDOWS as u64 + 1);
     assert!(rt; slips == 1);
     for workers in [1, 2, 7] {
         for way in WAYS {
-            let (outcome, slips) = followed(&rt, alloc, workers, &octets, way, u64::MAX)?;
+            let (outcome, slips) = followed(&rt, alloc, UPRIGHT, workers, &octets, way, u64::MAX)?;
             assert!(rt; outcome == wanted);
             assert!(rt; slips == 1);
         }
@@ -466,15 +467,75 @@ fn followed_streams_are_shared_out(rt: HostRuntime) -> Result<(), Fail> {
     let mut octets = soft_octets(alloc, Rate::R12, Kind::Clean, 68 * 1024 + 500)?;
     assert!(rt; octets.len() > 135_000);
     octets.remove(135_000);
-    let (wanted, slips) = followed(&rt, alloc, 1, &octets, Way::Once, u64::MAX)?;
+    let (wanted, slips) = followed(&rt, alloc, UPRIGHT, 1, &octets, Way::Once, u64::MAX)?;
     assert!(rt; wanted.digest.blocks == 69);
     assert!(rt; slips == 1);
-    let (outcome, slips) = followed(&rt, alloc, 3, &octets, Way::Gathered, u64::MAX)?;
+    let (outcome, slips) = followed(&rt, alloc, UPRIGHT, 3, &octets, Way::Gathered, u64::MAX)?;
     assert!(rt; outcome == wanted);
     assert!(rt; slips == 1);
-    let (outcome, slips) = followed(&rt, alloc, 2, &octets, Way::Once, 40)?;
+    let (outcome, slips) = followed(&rt, alloc, UPRIGHT, 2, &octets, Way::Once, 40)?;
     assert!(rt; outcome.digest.blocks == 40);
     assert!(rt; outcome.answer == Err(FeedError::Taker));
     assert!(rt; slips == 0);
+    Ok(())
+}
+
+const SHORT: WindowShape = WindowShape {
+    rate: Rate::R12,
+    invert: false,
+    keep: 64,
+    ahead: 64,
+};
+
+// The windows before which octets are dropped in a stream of 450: each ends a run, and they are 1, 95, 96, 127 and 128
+// windows after the one before. So it is window 1 of a run; the last one of a worker's part and the first one of the
+// next, where two share out the looks before windows 64 to 127; and the last of these, and the first after them.
+const DROPS: [usize; 5] = [1, 96, 192, 319, 447];
+
+// Of that stream symbols are lost near the end of the window before each of these.
+fn octets_with_drops(rt: &impl Abort, alloc: Global) -> Result<Vec<u8>, Fail> {
+    let mut octets = soft_octets(alloc, Rate::R12, Kind::Clean, 450 * 64 + 90)?;
+    for number in 0..DROPS.len() {
+        let window = DROPS[number];
+        assert!(rt; 0 < window && window < 450);
+        let place = 128 * window - 6 + number;
+        assert!(rt; place < octets.len());
+        octets.remove(place);
+    }
+    Ok(octets)
+}
+
+// How many windows each run has.
+fn run_lengths<R: Abort + Threads + Sync>(
+    rt: &R,
+    alloc: Global,
+    workers: u8,
+    octets: &[u8],
+) -> Result<Vec<usize>, Fail> {
+    let mut queue = opened(rt, alloc, SHORT, Start::Zero, workers, true)?;
+    assert!(rt; (octets.len() as u64) < STREAM_BOUND);
+    assert!(rt; queue.fill(false, octets) == octets.len());
+    let threads = Threaded { rt, words: () };
+    let mut lengths = Vec::new(alloc);
+    while queue.decode(&threads) > 0 {
+        lengths.push(queue.count())?;
+    }
+    Ok(lengths)
+}
+
+#[test]
+fn drops_at_the_ends_of_parts_and_rounds(rt: HostRuntime) -> Result<(), Fail> {
+    let alloc = rt.alloc();
+    let octets = octets_with_drops(&rt, alloc)?;
+    let (wanted, slips) = followed(&rt, alloc, SHORT, 1, &octets, Way::Once, u64::MAX)?;
+    assert!(rt; wanted.digest.blocks == 451);
+    assert!(rt; slips == DROPS.len() as u64);
+    for workers in [2, 3, 7, 64] {
+        let (outcome, slips) = followed(&rt, alloc, SHORT, workers, &octets, Way::Once, u64::MAX)?;
+        assert!(rt; outcome == wanted);
+        assert!(rt; slips == DROPS.len() as u64);
+        let lengths = run_lengths(&rt, alloc, workers, &octets)?;
+        assert!(rt; lengths.as_slice() == [1, 95, 96, 127, 128, 3].as_slice());
+    }
     Ok(())
 }

@@ -48,9 +48,10 @@ inside q index size read block there less same is =
     )
 
 are_inside : (c : After-steps_len)
-    → (let read = take (length c.behind.result.now - c.self.inside.run_at) (drop c.self.inside.run_at c.behind.result.now)
-    in (c.steps_len.result ≤ length read) × (steps_size c.args.self.now.windows.settings.rate
-    (step_of c.args.self.now c.args.index) (slice_index_or c.args.self.now.ready c.args.index c.block.result).kept
+    → (let q = c.args.self.now in let read = take (length c.behind.result.now - c.self.inside.run_at)
+    (drop c.self.inside.run_at c.behind.result.now) in (c.steps_len.result ≤ length read)
+    × (steps_size q.windows.settings.rate (step_of q c.args.index)
+    (slice_index_or q.ready c.args.index c.block.result).kept
     ≤ length (take (length read - c.steps_len.result) (drop c.steps_len.result read))))
 are_inside c =
     let v = c.self.inside in

@@ -3,6 +3,7 @@ use Rattle.std.proofs.Math.Seq.{drop-append_seam}
 use Rattle.std.specs.Vec.{with_items}
 use Rattle.std.proofs.lemmas.List.{length-map, length-take-le, with_items_is}
 use Rattle.tm_conv.specs.Path.{steps_size}
+use Rattle.tm_viterbi.specs.WindowBlock.{WindowBlock}
 use Rattle.tm_viterbi.specs.declared.window_decoder.WindowShape.{WindowShape}
 use Rattle.tm_windows.specs.Candidates.{ClosedWith, HaveRoom, after_windows, block_of}
 use Rattle.tm_windows.specs.declared.candidate.Candidate.{Candidate}
@@ -29,17 +30,26 @@ is_run g c =
     }
 
 -- its octets
+held_is : (g : Over) (c : goal.After-self-10-1 g) → c.steps_len-size.result
+    ≡ steps_size c.args.self.now.windows.settings.rate c.args.self.now.t
+    (c.args.count * c.args.self.now.windows.settings.keep + c.args.self.now.windows.settings.ahead + 1)
+held_is g c =
+    subst (λ (q : Queueing). c.steps_len-size.result ≡ steps_size q.windows.settings.rate q.t
+    (c.args.count * q.windows.settings.keep + q.windows.settings.ahead + 1)) c.self.view_is c.steps_len-size.ensures
+
+size_is : (g : Over) (c : goal.After-self-10-1 g) → c.steps_len.result
+    ≡ steps_size c.args.self.now.windows.settings.rate c.args.self.now.t
+    (c.args.count * c.args.self.now.windows.settings.keep)
+size_is g c =
+    subst (λ (q : Queueing). c.steps_len.result ≡ steps_size q.windows.settings.rate q.t
+    (c.args.count * q.windows.settings.keep)) c.self.view_is c.steps_len.ensures
+
 cut : (g : Over) (c : goal.After-self-10-1 g)
     → IsCut c.args.self.now c.args.count c.steps_len-size.result c.steps_len.result
 cut g c =
-    let count = c.args.count in
     let is = is_run g c in
-    is_cut c.args.self.now count c.steps_len-size.result c.steps_len.result is.wide is.some is.room
-    (subst (λ (q : Queueing). c.steps_len-size.result
-    ≡ steps_size q.windows.settings.rate q.t (count * q.windows.settings.keep + q.windows.settings.ahead + 1))
-    c.self.view_is c.steps_len-size.ensures)
-    (subst (λ (q : Queueing). c.steps_len.result
-    ≡ steps_size q.windows.settings.rate q.t (count * q.windows.settings.keep)) c.self.view_is c.steps_len.ensures)
+    is_cut c.args.self.now c.args.count c.steps_len-size.result c.steps_len.result is.wide is.some is.room
+    (held_is g c) (size_is g c)
 
 left_is : (g : Over) (c : goal.After-self-10-1 g)
     → length c.drop_first.new.self.octets + c.steps_len.result ≡ length c.args.self.now.held
@@ -101,7 +111,14 @@ invariant_of-self g c =
       omega (arith, i.9, c.slip_at.ensures.small, are.wide, wide),
       omega (arith, ap (λ (q : Queueing). q.most) c.self.view_is, c.requires.some.1),
       λ count is. undecided-few (is_some s.seen) count (sym both ∙ is),
-      omega (arith, i.12, i.11 k (ap (λ (q : Queueing). q.dropped) c.self.view_is ∙ (is_run g c).dropped), c.from.ensures, are.wide, wide),
+      omega (
+        arith,
+        i.12,
+        i.11 k (ap (λ (q : Queueing). q.dropped) c.self.view_is ∙ (is_run g c).dropped),
+        c.from.ensures,
+        are.wide,
+        wide,
+      ),
       omega (arith, i.13, c.drop_first.ensures.room),
       omega (arith, i.14, c.drop_first.ensures.room),
     )
@@ -150,77 +167,61 @@ closes g c =
     (subst (λ (o : List ℕ). ClosedWith shape (place_of v.starts v.t (take m o)) (blocks.0 ∷ blocks.1)
     (after_windows shape v.t (take m o) count next)) c.as_slice.ensures.octets blocks.3)
 
+-- the octets of the run, its blocks, and the queue with them
+abbrev read_of : (g : Over) → goal.After-self-10-1 g → List ℕ
+read_of g c = drop (length c.behind.result.now) c.drop_first.new.self.behind
+
+abbrev ready_of : (g : Over) → goal.After-self-10-1 g → List WindowBlock
+ready_of g c = map block_of
+    (take c.args.count (with_items c.self.inside.candidates c.decode_windows-self-inside.new.candidates).items)
+
+abbrev after_of : (g : Over) → goal.After-self-10-1 g → Queueing → Queueing
+after_of g c q = after_run q c.args.count c.slip_at.result c.from.result c.decode_windows-self-inside.result
+    c.undecided-self-inside.result c.drop_first.new.self.octets (read_of g c) (ready_of g c)
+
 ready_are : (g : Over) (c : goal.After-self-10-1 g)
     → (let blocks = c.decode_windows-self-inside.ensures.blocks in
-    map block_of (take c.args.count (with_items c.self.inside.candidates c.decode_windows-self-inside.new.candidates).items)
-    ≡ dropped_at c.unwrap_or-dropped.result blocks.0 ∷ blocks.1)
+    ready_of g c ≡ dropped_at c.unwrap_or-dropped.result blocks.0 ∷ blocks.1)
 ready_are g c =
     ap (λ (u : List Candidate). map block_of (take c.args.count u)) (candidates_is g c)
     ∙ c.decode_windows-self-inside.ensures.blocks.2
 
-size_is : (g : Over) (c : goal.After-self-10-1 g) → c.steps_len.result
-    ≡ steps_size c.args.self.now.windows.settings.rate c.args.self.now.t
-    (c.args.count * c.args.self.now.windows.settings.keep)
-size_is g c =
-    subst (λ (q : Queueing). c.steps_len.result
-    ≡ steps_size q.windows.settings.rate q.t (c.args.count * q.windows.settings.keep)) c.self.view_is c.steps_len.ensures
-
 pub returns-clause-there : goal.returns-clause-there
 returns-clause-there g c =
-    let s = c.args.self.now in
     let blocks = c.decode_windows-self-inside.ensures.blocks in
-    let next = c.decode_windows-self-inside.result in
-    let m = c.steps_len-size.result in
-    let held_is = subst (λ (q : Queueing). m ≡ steps_size q.windows.settings.rate q.t
-    (c.args.count * q.windows.settings.keep + q.windows.settings.ahead + 1)) c.self.view_is c.steps_len-size.ensures in
-    subst (λ (q : Queueing). IsThere (after_run q c.args.count c.slip_at.result c.from.result next
-    c.undecided-self-inside.result c.drop_first.new.self.octets
-    (drop (length c.behind.result.now) c.drop_first.new.self.behind)
-    (map block_of (take c.args.count (with_items c.self.inside.candidates c.decode_windows-self-inside.new.candidates).items))))
-    (sym c.self.view_is)
-    (run-there s c.unwrap_or-dropped.result c.args.count m c.steps_len.result c.slip_at.result c.from.result next
-    c.undecided-self-inside.result c.drop_first.new.self.octets _ blocks.0 blocks.1 _ (is_run g c) held_is (size_is g c)
+    subst (λ (q : Queueing). IsThere (after_of g c q)) (sym c.self.view_is)
+    (run-there c.args.self.now c.unwrap_or-dropped.result c.args.count c.steps_len-size.result c.steps_len.result
+    c.slip_at.result c.from.result c.decode_windows-self-inside.result c.undecided-self-inside.result
+    c.drop_first.new.self.octets (read_of g c) blocks.0 blocks.1 (ready_of g c) (is_run g c) (held_is g c) (size_is g c)
     (read_is g c) (ready_are g c) (returns-clause-count g c) (closes g c) (omega (arith, c.requires.few)))
 
 pub returns-clause-read : goal.returns-clause-read
 returns-clause-read g c = λ given done stands.
     let s = c.args.self.now in
+    let k = c.unwrap_or-dropped.result in
     let blocks = c.decode_windows-self-inside.ensures.blocks in
-    let next = c.decode_windows-self-inside.result in
     let run = is_run g c in
-    subst (λ (q : Queueing). IsRead (after_run q c.args.count c.slip_at.result c.from.result next
-    c.undecided-self-inside.result c.drop_first.new.self.octets
-    (drop (length c.behind.result.now) c.drop_first.new.self.behind)
-    (map block_of (take c.args.count (with_items c.self.inside.candidates c.decode_windows-self-inside.new.candidates).items)))
-    given done) (sym c.self.view_is)
-    (run-read s given done c.unwrap_or-dropped.result c.args.count c.steps_len-size.result c.steps_len.result
-    c.slip_at.result c.from.result next c.undecided-self-inside.result c.drop_first.new.self.octets _ blocks.0 blocks.1 _
-    run (size_is g c) (read_is g c) (ready_are g c) (returns-clause-count g c) (closes g c)
-    (decided_after s given done c.unwrap_or-dropped.result run.dropped stands))
+    subst (λ (q : Queueing). IsRead (after_of g c q) given done) (sym c.self.view_is)
+    (run-read s given done k c.args.count c.steps_len-size.result c.steps_len.result c.slip_at.result c.from.result
+    c.decode_windows-self-inside.result c.undecided-self-inside.result c.drop_first.new.self.octets (read_of g c)
+    blocks.0 blocks.1 (ready_of g c) run (size_is g c) (read_is g c) (ready_are g c) (returns-clause-count g c) (closes g c)
+    (decided_after s given done k run.dropped stands))
 
 pub returns-clause-stands : goal.returns-clause-stands
 returns-clause-stands g c = λ given done stands.
     let s = c.args.self.now in
-    let v = c.self.inside in
-    let count = c.args.count in
-    let m = c.steps_len-size.result in
     let k = c.unwrap_or-dropped.result in
     let left = c.drop_first.new.self.octets in
-    let read = drop (length c.behind.result.now) c.drop_first.new.self.behind in
-    let next = c.decode_windows-self-inside.result in
     let blocks = c.decode_windows-self-inside.ensures.blocks in
-    let ready = map block_of (take count (with_items v.candidates c.decode_windows-self-inside.new.candidates).items) in
-    let cut_off : left ≡ drop (steps_size s.windows.settings.rate s.t (count * s.windows.settings.keep)) s.held =
-    subst (λ (q : Queueing). left ≡ drop (steps_size q.windows.settings.rate q.t (count * q.windows.settings.keep))
-    q.held) c.self.view_is
-    (c.drop_first.ensures.octets ∙ ap (λ (n : ℕ). drop n v.held.octets) c.steps_len.ensures) in
-    let held_is = subst (λ (q : Queueing). m ≡ steps_size q.windows.settings.rate q.t
-    (count * q.windows.settings.keep + q.windows.settings.ahead + 1)) c.self.view_is c.steps_len-size.ensures in
+    let cut_off : left ≡ drop (steps_size s.windows.settings.rate s.t (c.args.count * s.windows.settings.keep)) s.held =
+    subst (λ (q : Queueing). left ≡ drop (steps_size q.windows.settings.rate q.t
+    (c.args.count * q.windows.settings.keep)) q.held) c.self.view_is
+    (c.drop_first.ensures.octets ∙ ap (λ (n : ℕ). drop n c.self.inside.held.octets) c.steps_len.ensures) in
     let undecided_is = subst (λ (q : Queueing). c.undecided-self-inside.result ≡ undecided (is_some q.windows.seen))
     c.self.view_is (c.undecided-self-inside.ensures ∙ ap undecided c.is_some.ensures) in
     let run = is_run g c in
-    inr (subst (λ (q : Queueing). AfterPhase (after_run q count c.slip_at.result c.from.result next
-    c.undecided-self-inside.result left read ready) given (done ++ ready)) (sym c.self.view_is)
-    (run-decoded s given done k count m c.slip_at.result c.from.result next c.undecided-self-inside.result left read
-    blocks.0 blocks.1 ready run held_is cut_off c.slip_at.ensures.value c.from.ensures undecided_is (ready_are g c)
+    inr (subst (λ (q : Queueing). AfterPhase (after_of g c q) given (done ++ ready_of g c)) (sym c.self.view_is)
+    (run-decoded s given done k c.args.count c.steps_len-size.result c.slip_at.result c.from.result
+    c.decode_windows-self-inside.result c.undecided-self-inside.result left (read_of g c) blocks.0 blocks.1
+    (ready_of g c) run (held_is g c) cut_off c.slip_at.ensures.value c.from.ensures undecided_is (ready_are g c)
     (returns-clause-count g c) (closes g c) (decided_after s given done k run.dropped stands)))

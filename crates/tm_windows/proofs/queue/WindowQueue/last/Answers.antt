@@ -1,14 +1,15 @@
-use Rattle.std.proofs.Common.{◌≡◌, ◌-◌, ◌≤◌, ◌∙◌, ◌++◌, [], ◌∷◌, ℕ, List, length, drop, map, take, set, unwrap_or, sym, ap, subst, arith}
+use Rattle.std.proofs.Common.{◌-◌, ◌≤◌, ◌∙◌, ◌++◌, [], ℕ, List, length, drop, map, take, set, unwrap_or, sym, ap, subst, arith}
 use Rattle.std.proofs.Math.Seq.{drop-append_seam}
 use Rattle.std.proofs.lemmas.Grind.{take-set_at}
 use Rattle.tm_conv.proofs.Sizes.{steps_size-least}
 use Rattle.tm_viterbi.specs.Blocks.{IsBlock}
+use Rattle.tm_viterbi.specs.WindowBlock.{WindowBlock}
 use Rattle.tm_windows.specs.Candidates.{block_of}
 use Rattle.tm_windows.specs.Windows.{undropped}
 use Rattle.tm_windows.specs.Queue.{Queueing, AwaitsPhase, IsOpen, IsRead, IsThere, QueueEndsFor}
-use Rattle.tm_windows.proofs.LastWindow.{AreWhole, after_last, are_whole, few_left, ends-none, ends-one, last-read, last-there}
+use Rattle.tm_windows.proofs.LastWindow.{AreWhole, IsLastBlock, after_last, are_whole, few_left, ends-none, ends-one, last-read, last-there}
 use Rattle.tm_windows.proofs.queue.WindowQueue.last.Goals as goal
-use Rattle.tm_windows.proofs.queue.WindowQueue.last.Goals.{After-steps_len}
+use Rattle.tm_windows.proofs.queue.WindowQueue.last.Goals.{After-clear-2, After-steps_len}
 
 whole : (c : After-steps_len) → AreWhole c.args.self.now c.whole_steps-steps.result c.steps_len.result
 whole c =
@@ -43,40 +44,62 @@ returns-then-steps-eq0-clause-ends c = λ given done stands.
     let q = c.args.self.now in
     subst (λ (p : Queueing). QueueEndsFor (record p { held = held; ready = []; read = read }) given (done ++ [])
     (length c.as_slice-octets.result.now - c.steps_len.result)) (sym c.self.view_is)
-    (subst (λ (n : ℕ). QueueEndsFor (record q { held = held; ready = []; read = read }) given (done ++ []) (n - c.steps_len.result))
+    (subst (λ (n : ℕ). QueueEndsFor (record q { held = held; ready = []; read = read }) given (done ++ [])
+    (n - c.steps_len.result))
     (ap (λ (p : Queueing). length p.held) (sym c.self.view_is) ∙ ap length (sym c.as_slice-octets.ensures.octets))
     (ends-none q held given read done [] c.whole_steps-steps.result c.steps_len.result (whole k) c.if-steps-eq0.true
     c.requires.is_open c.requires.settled stands))
+
+-- the octets that were held, the block that is ready, and the queue with them
+abbrev read_of : After-clear-2 → List ℕ
+read_of c = drop (length c.behind.result.now) c.clear-2.new.self.behind
+
+abbrev ready_of : After-clear-2 → List WindowBlock
+ready_of c = map block_of (take 1 (set c.self.inside.candidates.items 0 c.decode_last.new.candidate))
+
+abbrev after_of : After-clear-2 → Queueing → Queueing
+after_of c q = after_last q c.whole_steps-steps.result c.slip_at.result c.from.result
+    c.clear-2.new.self.octets (read_of c) (ready_of c)
+
+is_last : (c : After-clear-2) → IsLastBlock c.args.self.now c.whole_steps-steps.result c.steps_len.result
+    c.unwrap_or-dropped.result (read_of c) (ready_of c) (block_of c.decode_last.new.candidate)
+is_last c =
+    let s = c.self.inside in
+    let n = c.whole_steps-steps.result in
+    let last = c.decode_last.new.candidate in
+    record {
+      one =
+          ap (map block_of) (take-set_at s.candidates.items 0 1 last (omega arith)
+          (omega (arith, s.candidates.ok.0, c.self.invariant)));
+      whole = whole (goal.at.returns-clause-there c).After-steps_len;
+      some = omega (arith, c.if-steps-eq0.false);
+      drops = c.unwrap_or-dropped.ensures ∙ ap (λ (p : Queueing). unwrap_or p.dropped 0) c.self.view_is;
+      dropped = c.decode_last.ensures.dropped;
+      kept = c.decode_last.ensures.kept;
+      is =
+          subst (λ (p : Queueing). IsBlock p.windows.settings.rate p.windows.settings.invert
+          p.windows.settings.keep p.windows.settings.ahead p.starts p.t n p.held (undropped (block_of last)))
+          c.self.view_is
+          (subst (λ (o : List ℕ). IsBlock s.settings.shape.rate s.settings.shape.invert s.settings.shape.keep
+          s.settings.shape.ahead s.starts s.t n o (undropped (block_of last))) c.as_slice-octets.ensures.octets
+          c.decode_last.ensures.block);
+      read_is =
+          (λ i. drop (length (c.behind.ensures i)) (c.clear-2.ensures.behind i))
+          ∙ drop-append_seam s.held.behind s.held.octets ∙ ap (λ (p : Queueing). p.held) c.self.view_is;
+    }
 
 pub returns-clause-left : goal.returns-clause-left
 returns-clause-left c = few (goal.at.returns-clause-left c).After-steps_len
 
 pub returns-clause-ends : goal.returns-clause-ends
 returns-clause-ends c = λ given done stands.
-    let k = (goal.at.returns-clause-ends c).After-steps_len in
-    let s = c.self.inside in
     let q = c.args.self.now in
-    let n = c.whole_steps-steps.result in
-    let slips = c.slip_at.result in
-    let lost = c.from.result in
-    let held = c.clear-2.new.self.octets in
-    let read = drop (length c.behind.result.now) c.clear-2.new.self.behind in
-    let last = c.decode_last.new.candidate in
-    let ready = map block_of (take 1 (set s.candidates.items 0 last)) in
-    let one : ready ≡ block_of last ∷ [] = ap (map block_of) (take-set_at s.candidates.items 0 1 last (omega arith)
-    (omega (arith, s.candidates.ok.0, c.self.invariant))) in
-    let is = subst (λ (p : Queueing). IsBlock p.windows.settings.rate p.windows.settings.invert p.windows.settings.keep
-    p.windows.settings.ahead p.starts p.t n p.held (undropped (block_of last))) c.self.view_is
-    (subst (λ (o : List ℕ). IsBlock s.settings.shape.rate s.settings.shape.invert s.settings.shape.keep
-    s.settings.shape.ahead s.starts s.t n o (undropped (block_of last))) c.as_slice-octets.ensures.octets
-    c.decode_last.ensures.block) in
-    subst (λ (p : Queueing). QueueEndsFor (after_last p n slips lost held read ready) given (done ++ ready) (length c.as_slice-octets.result.now - c.steps_len.result)) (sym c.self.view_is)
-    (subst (λ (m : ℕ). QueueEndsFor (after_last q n slips lost held read ready) given (done ++ ready) (m - c.steps_len.result))
+    subst (λ (p : Queueing). QueueEndsFor (after_of c p) given (done ++ ready_of c)
+    (length c.as_slice-octets.result.now - c.steps_len.result)) (sym c.self.view_is)
+    (subst (λ (m : ℕ). QueueEndsFor (after_of c q) given (done ++ ready_of c) (m - c.steps_len.result))
     (ap (λ (p : Queueing). length p.held) (sym c.self.view_is) ∙ ap length (sym c.as_slice-octets.ensures.octets))
-    (ends-one q held given read done ready n c.steps_len.result c.unwrap_or-dropped.result slips lost (block_of last) one (whole k)
-    (omega (arith, c.if-steps-eq0.false)) c.requires.is_open c.requires.settled
-    (c.unwrap_or-dropped.ensures ∙ ap (λ (p : Queueing). unwrap_or p.dropped 0) c.self.view_is)
-    c.slip_at.ensures.value c.from.ensures c.decode_last.ensures.dropped c.decode_last.ensures.kept is stands))
+    (ends-one q _ _ _ _ _ _ (is_last c) c.clear-2.new.self.octets given done c.slip_at.result c.from.result
+    c.requires.is_open c.requires.settled c.slip_at.ensures.value c.from.ensures stands))
 
 pub returns-clause-counted : goal.returns-clause-counted
 returns-clause-counted c =
@@ -92,32 +115,13 @@ returns-clause-counted c =
 
 pub returns-clause-there : goal.returns-clause-there
 returns-clause-there c = λ some.
-    let k = (goal.at.returns-clause-there c).After-steps_len in
-    let s = c.self.inside in
-    let q = c.args.self.now in
-    let n = c.whole_steps-steps.result in
-    let slips = c.slip_at.result in
-    let lost = c.from.result in
-    let held = c.clear-2.new.self.octets in
-    let read = drop (length c.behind.result.now) c.clear-2.new.self.behind in
-    let last = c.decode_last.new.candidate in
-    let ready = map block_of (take 1 (set s.candidates.items 0 last)) in
-    let one : ready ≡ block_of last ∷ [] = ap (map block_of) (take-set_at s.candidates.items 0 1 last (omega arith)
-    (omega (arith, s.candidates.ok.0, c.self.invariant))) in
-    let was_held : read ≡ q.held = (λ i. drop (length (c.behind.ensures i)) (c.clear-2.ensures.behind i))
-    ∙ drop-append_seam s.held.behind s.held.octets ∙ ap (λ (p : Queueing). p.held) c.self.view_is in
-    let is = subst (λ (p : Queueing). IsBlock p.windows.settings.rate p.windows.settings.invert p.windows.settings.keep
-    p.windows.settings.ahead p.starts p.t n p.held (undropped (block_of last))) c.self.view_is
-    (subst (λ (o : List ℕ). IsBlock s.settings.shape.rate s.settings.shape.invert s.settings.shape.keep
-    s.settings.shape.ahead s.starts s.t n o (undropped (block_of last))) c.as_slice-octets.ensures.octets
-    c.decode_last.ensures.block) in
-    subst (λ (p : Queueing). IsThere (after_last p n slips lost held read ready)) (sym c.self.view_is)
-    (last-there q held read ready n c.steps_len.result slips lost (block_of last) one (whole k)
-    (omega (arith, c.if-steps-eq0.false)) was_held c.decode_last.ensures.kept is
+    let last = is_last c in
+    subst (λ (p : Queueing). IsThere (after_of c p)) (sym c.self.view_is)
+    (last-there c.args.self.now _ _ _ _ _ _ last c.clear-2.new.self.octets c.slip_at.result c.from.result
     (omega (
       arith,
       c.requires.few,
-      (whole k).few,
+      last.whole.few,
       c.self.invariant.0,
       ap (λ (p : Queueing). p.windows.settings.keep) c.self.view_is,
       ap (λ (p : Queueing). p.windows.settings.ahead) c.self.view_is,
@@ -125,22 +129,6 @@ returns-clause-there c = λ some.
 
 pub returns-clause-read : goal.returns-clause-read
 returns-clause-read c = λ some given done stands.
-    let k = (goal.at.returns-clause-read c).After-steps_len in
-    let s = c.self.inside in
-    let q = c.args.self.now in
-    let n = c.whole_steps-steps.result in
-    let slips = c.slip_at.result in
-    let lost = c.from.result in
-    let held = c.clear-2.new.self.octets in
-    let read = drop (length c.behind.result.now) c.clear-2.new.self.behind in
-    let last = c.decode_last.new.candidate in
-    let ready = map block_of (take 1 (set s.candidates.items 0 last)) in
-    let one : ready ≡ block_of last ∷ [] = ap (map block_of) (take-set_at s.candidates.items 0 1 last (omega arith)
-    (omega (arith, s.candidates.ok.0, c.self.invariant))) in
-    let was_held : read ≡ q.held = (λ i. drop (length (c.behind.ensures i)) (c.clear-2.ensures.behind i))
-    ∙ drop-append_seam s.held.behind s.held.octets ∙ ap (λ (p : Queueing). p.held) c.self.view_is in
-    subst (λ (p : Queueing). IsRead (after_last p n slips lost held read ready) given done) (sym c.self.view_is)
-    (last-read q held read given done ready n c.steps_len.result c.unwrap_or-dropped.result slips lost (block_of last)
-    one (whole k) c.requires.settled
-    (c.unwrap_or-dropped.ensures ∙ ap (λ (p : Queueing). unwrap_or p.dropped 0) c.self.view_is) was_held
-    c.decode_last.ensures.dropped c.decode_last.ensures.kept stands)
+    subst (λ (p : Queueing). IsRead (after_of c p) given done) (sym c.self.view_is)
+    (last-read c.args.self.now _ _ _ _ _ _ (is_last c) c.clear-2.new.self.octets given done c.slip_at.result
+    c.from.result c.requires.settled stands)
