@@ -9,14 +9,14 @@ use Rattle.tm_conv.specs.declared.rates.Rate.{Rate}
 use Rattle.tm_viterbi.specs.Clean.{kept_bits}
 use Rattle.tm_viterbi.specs.WindowBlock.{WindowBlock}
 use Rattle.tm_windows.specs.declared.choosing.Chosen.{Chosen}
-use Rattle.tm_windows.specs.Windows.{AreDueIn, slips_of}
+use Rattle.tm_windows.specs.Windows.{AreDueIn, dropped_of, slips_of}
 use Rattle.tm_windows.specs.Queue.{Queueing, AfterPhase, AwaitsPhase, BeforePhase, IsSameQueue, QueueEndsFor, QueueStandsFor, phase_size, skip_of as skip_in}
 use Rattle.tm_inner.specs.Inner.{AreInnerBlocks, AreInnerDue, inner_bits, plain_count, reported_slips, soft_value}
-use Rattle.tm_inner.specs.InnerDecoding.{DecodesFor, HasChosen, InnerDecoding, InnerDecoderStandsFor, IsDrained, IsQueueOf, chosen_in, plain_phase, plain_phase_by}
+use Rattle.tm_inner.specs.InnerDecoding.{DecodesFor, HasChosen, InnerDecoding, InnerDecoderStandsFor, IsDrained, IsQueueOf, chosen_in, lost_in, plain_phase, plain_phase_by}
 use Rattle.tm_inner.specs.Phase.{IsChosen, IsSettled, IsSettledBy, IsSoFarBy, phase_octets, skip_of, skipped_at, with_phase}
 use Rattle.tm_inner.specs.Receiving.{HasHanded}
 use Rattle.tm_inner.proofs.Counted.{inner-kept}
-use Rattle.tm_inner.proofs.Decoders.{choice-by, decoding, due-windows, blocks-plain, blocks-queue, settled-chosen, so_far-after, so_far-none, so_far-plain, so_far-queue, stands-plain, stands-queue}
+use Rattle.tm_inner.proofs.Decoders.{choice-by, decoding, due-windows, blocks-plain, blocks-queue, lost-in, settled-chosen, so_far-after, so_far-none, so_far-plain, so_far-queue, stands-plain, stands-queue}
 use Rattle.tm_inner.proofs.GivenPieces.{few-soft, phase_octets-more}
 use Rattle.tm_inner.proofs.HandedPieces.{needed-some}
 use Rattle.tm_inner.proofs.ReceivedBits.{bits-plain}
@@ -159,13 +159,14 @@ takes-plain c count count_now has_phase ended octets none counted = λ given blo
 -- ---- last
 
 -- a decoder that has ended, whose last block is ready, and what is counted
-abbrev pub Ends : InnerDecoding → List WindowBlock → (left bits : ℕ) → Option ℕ → Type 0
-Ends d ready left bits slips =
+abbrev pub Ends : InnerDecoding → List WindowBlock → (left bits : ℕ) → Option ℕ → (lost : ℕ) → Type 0
+Ends d ready left bits slips lost =
     (given : List ℕ) (blocks : List WindowBlock) → InnerDecoderStandsFor d given blocks
     → IsChosen d.config given d.chosen
     → AreInnerBlocks d.config (skip_of d.chosen) given (blocks ++ ready) left
     × (bits ≡ length (inner_bits d.config given (blocks ++ ready)))
     × (slips ≡ reported_slips d.config (blocks ++ ready))
+    × (lost ≡ dropped_of (blocks ++ ready))
 
 coded : (c : Configuration) (q : Queueing) → IsQueueOf c (Some q) → c.inner ≡ None → ⊥
 coded c q of none = let both : Some of.0 ≡ None = sym of.1 ∙ none in absurd cc
@@ -175,6 +176,7 @@ pub ends-queue : (c : Configuration) (q now : Queueing) (count left : ℕ) (has_
     → ((given : List ℕ) (done : List WindowBlock) → QueueStandsFor q given done
     → QueueEndsFor now given (done ++ now.ready) left)
     → Ends (decoding c (Some q) count has_phase ended) now.ready left now.t (if c.follow then Some now.slips else None)
+    now.lost
 ends-queue c q now count left has_phase ended of same chosen ends = λ given blocks s choice.
     let all = blocks ++ now.ready in
     let e = ends (phase_octets c given) blocks s.decodes in
@@ -182,17 +184,19 @@ ends-queue c q now count left has_phase ended of same chosen ends = λ given blo
       are,
       sym (inner-kept c (skip_of q.chosen) given all left (coded c q of) are ∙ e.kept),
       ap (λ (n : ℕ). if c.follow then Some n else None) (sym e.slips),
+      e.lost,
     )
 
 pub ends-plain : (c : Configuration) (count bits : ℕ) (has_phase ended : Bool) → c.inner ≡ None
     → (count < 2 ^ 60 → bits ≡ plain_count c count - c.skip)
-    → Ends (decoding c None count has_phase ended) [] 0 bits (if c.follow then Some 0 else None)
+    → Ends (decoding c None count has_phase ended) [] 0 bits (if c.follow then Some 0 else None) 0
 ends-plain c count bits has_phase ended none counted = λ given blocks s choice.
     let nothing : blocks ++ [] ≡ [] = append-nil blocks ∙ s.decodes in
     let long : length given ≡ count = s.count in (
       blocks-plain c (skip_of (plain_phase c count ended)) given (blocks ++ []) none nothing,
       bits-plain c count bits given (blocks ++ []) none long (counted (omega (arith, s.few, long))),
       ap (λ (l : List WindowBlock). if c.follow then Some (slips_of l) else None) (sym nothing),
+      sym (ap dropped_of nothing),
     )
 
 -- ---- may_wait
@@ -261,6 +265,7 @@ opened c queue has_phase of decodes drained none some given =
           count = refl;
           few = omega arith;
           decodes = subst (λ (l : List ℕ). DecodesFor queue l []) (sym (no-octets c)) decodes;
+          lost = lost queue decodes;
           choice = inl (is, refl, refl);
         };
         read = λ has _. given has;
@@ -276,6 +281,10 @@ opened c queue has_phase of decodes drained none some given =
     same : (queue : Option Queueing) → HasChosen queue (chosen_in c queue 0 false)
     same None = tt
     same (Some q) = refl
+
+    lost : (queue : Option Queueing) → DecodesFor queue [] [] → lost_in queue ≡ 0
+    lost None decodes = refl
+    lost (Some q) decodes = lost-in q [] [] decodes
 
     only : (has : Bool) (chosen : Option Chosen) → chosen ≡ None → (if has then chosen else None) ≡ None
     only true chosen none = none

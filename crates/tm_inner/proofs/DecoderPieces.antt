@@ -257,13 +257,13 @@ ended-are : (d : InnerDecoding) (given : List ℕ) (done : List (Handed WindowBl
     → done ++ map Item ready ≡ with_phase d.chosen (r.blocks ++ ready)
 ended-are d given done ready r all = further d.chosen done r.blocks ready (read-all d given done r all)
 
-pub ended-handed : (d : InnerDecoding) (ready : List WindowBlock) (left bits : ℕ) (slips : Option ℕ)
-    → Ends d ready left bits slips → unread d ≡ None → (given : List ℕ) (done : List (Handed WindowBlock))
+pub ended-handed : (d : InnerDecoding) (ready : List WindowBlock) (left bits : ℕ) (slips : Option ℕ) (lost : ℕ)
+    → Ends d ready left bits slips lost → unread d ≡ None → (given : List ℕ) (done : List (Handed WindowBlock))
     → HasRead d given done → IsChosen d.config given d.chosen
     → AreHanded d.config given (done ++ map Item ready) left
     × (bits ≡ length (inner_bits d.config given (items_of (done ++ map Item ready))))
     × (slips ≡ reported_slips d.config (items_of (done ++ map Item ready)))
-ended-handed d ready left bits slips ends all given done r choice =
+ended-handed d ready left bits slips lost ends all given done r choice =
     let c = d.config in
     let blocks = r.blocks ++ ready in
     let e = ends given r.blocks r.stands choice in
@@ -320,20 +320,20 @@ ended-prefix took broke d ended taker last later stands h given done stood =
 pub ended-all : {T : Type 0} (took : T → Handed WindowBlock → T → Type 0) (d ended now : InnerDecoding)
     → IsLater d ended → Settles d ended → IsSameDecoder ended now → ended.has_ended ≡ true
     → ((given : List ℕ) (done : List (Handed WindowBlock)) → HasRead ended given done → IsKept now given)
-    → (taker middle : T) (ready : List WindowBlock) (left bits : ℕ) (slips : Option ℕ)
-    (h : Hands took HasRead ended now taker middle []) → unread now ≡ None → Ends now ready left bits slips
+    → (taker middle : T) (ready : List WindowBlock) (left bits : ℕ) (slips : Option ℕ) (lost : ℕ)
+    (h : Hands took HasRead ended now taker middle []) → unread now ≡ None → Ends now ready left bits slips lost
     → (given : List ℕ) (done : List (Handed WindowBlock)) → HasHanded d given done
     → AreHanded d.config given (done ++ (h.more ++ map Item ready)) left
     × (bits ≡ length (inner_bits d.config given (items_of (done ++ (h.more ++ map Item ready)))))
     × (slips ≡ reported_slips d.config (items_of (done ++ (h.more ++ map Item ready))))
-ended-all took d ended now later stands same has_ended kept taker middle ready left bits slips h all ends given done
+ended-all took d ended now later stands same has_ended kept taker middle ready left bits slips lost h all ends given done
     stood =
     let Said : Configuration → List (Handed WindowBlock) → Type 0 = λ c handed. AreHanded c given handed left
     × (bits ≡ length (inner_bits c given (items_of handed))) × (slips ≡ reported_slips c (items_of handed)) in
     let r = settled-read d ended later stands given done stood in
     subst (λ (c : Configuration). Said c (done ++ (h.more ++ map Item ready))) (same.config ∙ later.config)
     (subst (Said now.config) (append_assoc done h.more (map Item ready))
-    (ended-handed now ready left bits slips ends all given (done ++ h.more)
+    (ended-handed now ready left bits slips lost ends all given (done ++ h.more)
     (read-before took ended now taker middle h given done r)
     ((kept given done r).at_end (same.ended ∙ has_ended))))
 

@@ -20,7 +20,7 @@ abbrev pub Stays : InnerDecoding → InnerDecoding → Type 0
 Stays before now = (chosen : Chosen) → before.chosen ≡ Some chosen → now.chosen ≡ Some chosen
 
 -- where the phase is given none is chosen
-given-none : (c : Configuration) (soft : List ℕ) (chosen : Option Chosen) (blocks : List WindowBlock) (ended : Bool)
+pub given-none : (c : Configuration) (soft : List ℕ) (chosen : Option Chosen) (blocks : List WindowBlock) (ended : Bool)
     → c.phase ≡ Given → IsOrWaits c soft chosen blocks ended → chosen ≡ None
 given-none c soft chosen blocks ended given (inl waits) = waits.0
 given-none c soft None blocks ended given (inr is) = refl
@@ -121,7 +121,7 @@ read-run d now given done ready config phase stays r s =
     let chosen = read-chosen d now given given done blocks config stays r s in
     let same : c.phase ≡ d.config.phase = ap (λ (c : Configuration). c.phase) config in record {
       blocks = blocks;
-      stands = record { of = s.of; same = s.same; count = s.count; few = s.few; decodes = s.decodes; choice = s.choice };
+      stands = record { of = s.of; same = s.same; count = s.count; few = s.few; decodes = s.decodes; lost = s.lost; choice = s.choice };
       read = λ has none. let was = sym phase ∙ was-read now.has_phase now.chosen has none in
           same ∙ r.read was (chosen was ∙ none);
       after = λ none. elim s.choice as (λ _. (blocks ≡ []) ⊎ (c.phase ≡ Given)) [

@@ -9,7 +9,7 @@ use Rattle.tm_conv.specs.declared.rates.Rate.{Rate}
 use Rattle.tm_viterbi.specs.WindowBlock.{WindowBlock}
 use Rattle.tm_windows.specs.declared.choosing.Chosen.{Chosen}
 use Rattle.tm_windows.specs.Phase.{IsPhase, octets_needed}
-use Rattle.tm_windows.specs.Windows.{Windows, AreBlocksIn, AreDueIn, AreFirstIn}
+use Rattle.tm_windows.specs.Windows.{Windows, AreBlocksIn, AreDueIn, AreFirstIn, dropped_of}
 use Rattle.tm_windows.specs.Queue.{Queueing, AfterPhase, AwaitsPhase, BeforePhase, IsChoice, IsOpen, QueueEndsFor, QueueStandsFor, phase_size, skip_of as skip_in}
 use Rattle.tm_windows.proofs.HeldOctets.{open-due}
 use Rattle.tm_inner.specs.Inner.{AreInnerBlocks, AreInnerDue, BlocksAt, DueAt, soft_octets, windows_of}
@@ -74,6 +74,11 @@ choice-plain c soft blocks false false Find is none nothing = inl (refl, nothing
 
 -- ---- for which octets it stands
 
+pub lost-in : (q : Queueing) (soft : List ℕ) (blocks : List WindowBlock) → QueueStandsFor q soft blocks
+    → q.lost ≡ dropped_of blocks
+lost-in q soft blocks (inl w) = w.nothing_lost ∙ sym (ap dropped_of w.nothing)
+lost-in q soft blocks (inr a) = a.lost
+
 pub stands-queue : (c : Configuration) (q : Queueing) (count : ℕ) (has_phase ended : Bool) (given : List ℕ)
     (blocks : List WindowBlock) → IsQueueOf c (Some q) → q.has_ended ≡ ended → length given ≡ count
     → length given < 2 ^ 60 → QueueStandsFor q (phase_octets c given) blocks
@@ -84,6 +89,7 @@ stands-queue c q count has_phase ended given blocks of same long few stood = rec
   count = long;
   few = few;
   decodes = stood;
+  lost = lost-in q (phase_octets c given) blocks stood;
   choice = choice-queue c q (phase_octets c given) blocks ended of same stood;
 }
 
@@ -96,6 +102,7 @@ stands-plain c count has_phase ended given blocks none long few nothing = record
   count = long;
   few = few;
   decodes = nothing;
+  lost = sym (ap dropped_of nothing);
   choice = choice-plain c (phase_octets c given) blocks (nat_lt 0 count) ended c.phase refl none nothing;
 }
 

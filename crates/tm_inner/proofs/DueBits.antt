@@ -44,6 +44,20 @@ kept-append (b ∷ first) rest =
     ap (λ l. take b.kept b.bits ++ l) (kept-append first rest)
     ∙ sym (append_assoc (take b.kept b.bits) (kept_bits first) (kept_bits rest))
 
+-- the blocks that are due are the first of all, whatever octets come
+pub blocks-first : StayClosed → StandFirst → (rate : Option Rate) (c : Configuration) (phase : ℕ)
+    (octets more : List ℕ) (due blocks : List WindowBlock) (left : ℕ)
+    → DueAt rate c phase octets due → BlocksAt rate c phase (octets ++ more) blocks left
+    → (rest : List WindowBlock) × (blocks ≡ due ++ rest)
+blocks-first stay first None c phase octets more due blocks left is all =
+    ([], all.0 ∙ ap (λ (l : List WindowBlock). l ++ []) (sym is))
+blocks-first stay first (Some rate) c phase octets more due blocks left is all =
+    let w = windows_of c rate in
+    let soft = soft_octets c phase octets in
+    let back = map (soft_value c) (drop (phase - length (drop c.skip octets)) (drop (c.skip - length octets) more)) in
+    first w (soft ++ back) due blocks left (stay w soft back due (is.to, is.closed))
+    (subst (λ (l : List ℕ). AreBlocksIn w l blocks left) (soft-more c phase octets more) all)
+
 due-first : StayClosed → StandFirst → (rate : Option Rate) (c : Configuration) (phase : ℕ) (octets more : List ℕ)
     (due blocks : List WindowBlock) (left : ℕ)
     → DueAt rate c phase octets due → BlocksAt rate c phase (octets ++ more) blocks left
@@ -54,11 +68,7 @@ due-first stay first None c phase octets more due blocks left is all = (
       ∙ drop-split c.skip (plain_bits c octets) (plain_bits c more),
 )
 due-first stay first (Some rate) c phase octets more due blocks left is all =
-    let w = windows_of c rate in
-    let soft = soft_octets c phase octets in
-    let back = map (soft_value c) (drop (phase - length (drop c.skip octets)) (drop (c.skip - length octets) more)) in
-    let split = first w (soft ++ back) due blocks left (stay w soft back due (is.to, is.closed))
-    (subst (λ (l : List ℕ). AreBlocksIn w l blocks left) (soft-more c phase octets more) all) in
+    let split = blocks-first stay first (Some rate) c phase octets more due blocks left is all in
     let is_one : ℕ → Bool = λ bit. bit == 1 in (
       map is_one (kept_bits split.0),
       ap (λ l. map is_one (kept_bits l)) split.1

@@ -1,5 +1,5 @@
 -- What is handed over after the choice of the phase comes to few bits.
-use Rattle.std.proofs.Common.{◌⊎◌, ℕ, ◌≡◌, ◌+◌, ◌-◌, ◌*◌, ◌≤◌, ◌<◌, ◌^◌, ◌∙◌, refl, List, [], ◌∷◌, ◌++◌, length, drop, map, ap, sym, subst, arith, inl, inr, Option, Some, None, length-append, length-drop, min, ◌/◌, ◌%◌}
+use Rattle.std.proofs.Common.{◌⊎◌, ℕ, ◌≡◌, ◌+◌, ◌-◌, ◌*◌, ◌≤◌, ◌<◌, ◌^◌, ◌∙◌, refl, List, [], ◌∷◌, ◌++◌, length, drop, map, ap, sym, subst, arith, inl, inr, Option, Some, None, length-append, length-drop}
 use Rattle.std.proofs.lemmas.List.{append-nil, length-map}
 use Rattle.std.proofs.lemmas.Bool.{cases_lt}
 use Rattle.tm_base.specs.Handed.{Handed, Item, items_of}
@@ -9,13 +9,11 @@ use Rattle.tm_config.specs.Configuration.{Configuration}
 use Rattle.tm_config.specs.declared.values.Sought.TheVariants.{Given, Find}
 use Rattle.tm_config.proofs.Choices.{given_or_find, never_both}
 use Rattle.tm_conv.specs.declared.rates.Rate.{Rate}
-use Rattle.tm_conv.specs.declared.rates.Rate.TheVariants.{R12, R23, R34, R56, R78}
-use Rattle.tm_conv.specs.Path.{steps_size}
-use Rattle.tm_conv.proofs.Sizes.{steps_size-is}
+use Rattle.tm_conv.proofs.Sizes.{steps_size-most}
 use Rattle.tm_viterbi.specs.WindowBlock.{WindowBlock}
 use Rattle.tm_viterbi.specs.Clean.{kept_bits}
 use Rattle.tm_windows.specs.declared.choosing.Chosen.{Chosen}
-use Rattle.tm_windows.specs.Phase.{period_size}
+use Rattle.tm_windows.proofs.Phases.{period_size_most}
 use Rattle.tm_inner.specs.Inner.{windows_of, soft_value, soft_octets, BlocksAt, AreInnerBlocks}
 use Rattle.tm_inner.specs.Phase.{IsChosenBy, IsSettled, needed_at, skipped_at, phase_octets, skip_of, with_phase}
 use Rattle.tm_inner.specs.Receiving.{FirstAt, AreInnerFirst}
@@ -30,24 +28,9 @@ use Rattle.tm_inner.proofs.FewBits.{due-none, first-of-due, more-few, last-few}
 
 -- ---- the phase needs few octets
 
-steps-few : (rate : Rate) (n : ℕ) → steps_size rate 0 n ≤ 2 * n
-steps-few R12 n = let a : steps_size R12 0 n ≡ n + (n / 1 + min 1 (n % 1)) = steps_size-is R12 n in omega (arith, a)
-steps-few R23 n = let a : steps_size R23 0 n ≡ n + (n / 2 + min 1 (n % 2)) = steps_size-is R23 n in omega (arith, a)
-steps-few R34 n = let a : steps_size R34 0 n ≡ n + (n / 3 + min 1 (n % 3)) = steps_size-is R34 n in omega (arith, a)
-steps-few R56 n = let a : steps_size R56 0 n ≡ n + (n / 5 + min 1 (n % 5)) = steps_size-is R56 n in omega (arith, a)
-steps-few R78 n = let a : steps_size R78 0 n ≡ n + (n / 7 + min 1 (n % 7)) = steps_size-is R78 n in omega (arith, a)
-
-period-few : (rate : Rate) → period_size rate ≤ 8
-unfolding steps_size
-period-few R12 = let size : period_size R12 ≡ 2 = refl in omega (arith, size)
-period-few R23 = let size : period_size R23 ≡ 3 = refl in omega (arith, size)
-period-few R34 = let size : period_size R34 ≡ 4 = refl in omega (arith, size)
-period-few R56 = let size : period_size R56 ≡ 6 = refl in omega (arith, size)
-period-few R78 = let size : period_size R78 ≡ 8 = refl in omega (arith, size)
-
 pub needed-few : (rate : Option Rate) (c : Configuration) → needed_at rate c ≤ 2 * (c.keep + c.ahead) + 7
 needed-few None c = omega arith
-needed-few (Some rate) c = omega (arith, steps-few rate (c.keep + c.ahead), period-few rate)
+needed-few (Some rate) c = omega (arith, steps_size-most rate 0 (c.keep + c.ahead), period_size_most rate)
 
 -- ---- the blocks of octets with the phase found
 

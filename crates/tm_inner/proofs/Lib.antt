@@ -9,6 +9,7 @@ pub mod FollowedBits
 pub mod Unfollowed
 pub mod FewBits
 mod Metrics
+pub mod SymbolPlaces
 pub mod GivenPieces
 pub mod Decoders
 pub mod PhasePieces
@@ -21,3 +22,9 @@ pub mod DecoderPieces
 mod Receivers
 pub mod HandedBits
 pub mod WorkedBits
+pub mod WatchedWindows
+pub mod KeptOctets
+mod ReadWindows
+mod DueWindows
+pub mod ToldWindows
+pub mod DecodedWindows

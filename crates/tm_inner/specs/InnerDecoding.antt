@@ -9,9 +9,11 @@ use Rattle.tm_conv.specs.declared.rates.Rate.{Rate}
 use Rattle.tm_viterbi.specs.WindowBlock.{WindowBlock}
 use Rattle.tm_viterbi.specs.WindowSizes.{stream_bound}
 use Rattle.tm_windows.specs.Queue.{Queueing, AwaitsPhase, QueueStandsFor, QueueEndsFor, HoldsRun, IsOpen, SharesAmong, fill_room, reached}
+use Rattle.tm_windows.specs.Windows.{dropped_of}
 use Rattle.tm_windows.specs.declared.choosing.Chosen.{Chosen}
 use Rattle.tm_inner.specs.Inner.{windows_of}
-use Rattle.tm_inner.specs.Phase.{IsChosenBy, phase_octets}
+use Rattle.tm_inner.specs.Phase.{IsChosenBy, phase_octets, skip_of}
+use Rattle.tm_inner.specs.SymbolPlaces.{origin_by}
 
 -- what contracts see of it
 pub record InnerDecoding : Type 0 where
@@ -60,6 +62,11 @@ abbrev pub held_in : Option Queueing → List ℕ
 held_in None = []
 held_in (Some queue) = queue.held
 
+-- how many octets were dropped before the windows that were decoded
+abbrev pub lost_in : Option Queueing → ℕ
+lost_in None = 0
+lost_in (Some queue) = queue.lost
+
 -- the phase is the one that its queue has chosen
 abbrev pub HasChosen : Option Queueing → Option Chosen → Type 0
 HasChosen None chosen = Unit {0}
@@ -74,6 +81,7 @@ pub record InnerDecoderStandsFor (d : InnerDecoding) (given : List ℕ)
   pub count : length given ≡ d.count
   pub few : length given < stream_bound
   pub decodes : DecodesFor d.queue (phase_octets d.config given) blocks
+  pub lost : lost_in d.queue ≡ dropped_of blocks
   pub choice : ((d.chosen ≡ None) × (blocks ≡ []) × (d.has_ended ≡ false)) ⊎
       IsChosenBy d.config (phase_octets d.config given) d.chosen
 
@@ -128,3 +136,8 @@ unread d = if d.has_phase then None else d.chosen
 
 abbrev pub has_phase_now : InnerDecoding → Bool
 has_phase_now d = d.has_phase || is_some d.chosen
+
+-- how many of the symbols that were given stand before the steps of the ready blocks, and are of no
+-- step
+abbrev pub origin_in : InnerDecoding → ℕ
+origin_in d = origin_by d.config.inner d.config (skip_of d.chosen) (lost_in d.queue)

@@ -2,7 +2,9 @@ pub mod Symbols
 pub mod Inner
 pub mod Phase
 pub mod Sending
+pub mod SymbolPlaces
 pub mod InnerDecoding
+pub mod InnerWindows
 pub mod Receiving
 pub mod Handing
 pub mod Calls

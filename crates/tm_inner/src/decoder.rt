@@ -1,5 +1,5 @@
 // The inner code of a configuration over a queue of windows.
-ghost use Rattle.std.specs.Prelude.{◌≡◌, ◌++◌, ◌==◌, ℕ, ◌-◌, ◌+◌, ◌<◌, ◌≤◌, List, [], true, false, IfOk, OnErr, OnOk, IsTrue, Some, drop, length, map, min, slice_index_or, take};
+ghost use Rattle.std.specs.Prelude.{◌≡◌, ◌++◌, ◌==◌, ℕ, ◌-◌, ◌+◌, ◌^◌, ◌<◌, ◌≤◌, List, [], true, false, IfOk, OnErr, OnOk, IsTrue, Some, drop, length, map, min, slice_index_or, take};
 ghost use Rattle.std.specs.Option.{is_some};
 ghost use Rattle.tm_base.specs.Limits.{most_workers};
 ghost use Rattle.tm_base.specs.Outside.{HasCause};
@@ -8,20 +8,23 @@ ghost use Rattle.tm_conv.specs.Path.{AreBits};
 ghost use Rattle.tm_viterbi.specs.Clean.{kept_bits};
 ghost use Rattle.tm_viterbi.specs.WindowBlock.{WindowBlock};
 ghost use Rattle.tm_viterbi.specs.WindowSizes.{stream_bound};
-ghost use Rattle.tm_windows.specs.Windows.{slips_of};
+ghost use Rattle.tm_windows.specs.Windows.{dropped_of, slips_of};
 ghost use Rattle.tm_windows.specs.declared.choosing.Chosen.{Chosen};
 ghost use Rattle.tm_inner.specs.Inner.{AreInnerBlocks, AreInnerDue, inner_bits, nearest_bit, plain_count, reported_slips};
 ghost use Rattle.tm_inner.specs.Phase.{IsChosen, IsSettled, IsSoFarBy, phase_octets, skip_of, skipped_at};
-ghost use Rattle.tm_inner.specs.InnerDecoding.{DecodesFor, GoesWith, HasChosen, HasFilled, HasWorkers, HoldsMore, InnerDecoderStandsFor, IsDrained, IsQueueOf, IsSettledQueue, has_phase_now, held_in, plain_phase, ready_in, unread};
+ghost use Rattle.tm_inner.specs.InnerDecoding.{DecodesFor, GoesWith, HasChosen, HasFilled, HasWorkers, HoldsMore, InnerDecoderStandsFor, IsDrained, IsQueueOf, IsSettledQueue, has_phase_now, held_in, lost_in, origin_in, plain_phase, ready_in, unread};
+ghost use Rattle.tm_inner.specs.InnerWindows.{AreThere, window_in, windows_in, windows_after};
 ghost use Rattle.tm_inner.specs.Receiving.{HasHanded};
 
 use crate::code::{is_packed, is_signed, rate_of, shape_of};
 use crate::counting::{plain_count, reported};
 use crate::nearest::nearest_bits;
+use crate::window::{NO_WINDOW, Window};
 use std::alloc::Global;
 use std::marker::Model;
 use tm_base::{Failed, NoMemory, to_unsigned};
 use tm_config::{Config, Sought};
+use tm_conv::symbols_of;
 use tm_viterbi::BlockTaker;
 use tm_windows::{Chosen, Crew, QueueSettings, STREAM_BOUND, WindowQueue};
 
@@ -151,13 +154,18 @@ impl InnerDecoder {
         taken
     }
 
-    /// Decodes the next windows that are closed, and answers how many. Their blocks are ready then, and no others. With
+    /// Decodes the next windows that are closed, and returns how many. Their blocks are ready then, and no others. With
     /// none ready, all that is due was decoded. The symbol phase may have been chosen: before the end it is, once it is
     /// settled.
     pub fn decode<C: Crew>(&mut self, crew: &C) -> usize
         requires ready { C.is_ready crew.now }
         ensures config { self.new.config ≡ self.old.config }
         ensures count { result ≡ length (ready_in self.new.queue) }
+        ensures later { dropped_of (drop 1 (ready_in self.new.queue)) ≡ 0 }
+        ensures there { AreThere self.new.queue }
+        ensures windows { (given : List ℕ) (blocks : List WindowBlock) → InnerDecoderStandsFor self.old given blocks
+            → windows_in self.new
+            ≡ windows_after self.new.config (skip_of self.new.chosen) given blocks (ready_in self.new.queue) }
         ensures stands { (given : List ℕ) (blocks : List WindowBlock) → InnerDecoderStandsFor self.old given blocks
             → InnerDecoderStandsFor self.new given (blocks ++ ready_in self.new.queue)
             × (self.old.has_ended ≡ false
@@ -191,7 +199,7 @@ impl InnerDecoder {
         }
     }
 
-    /// Decodes the last window, once no other is closed: its block is ready then, where a step is left for it. Answers
+    /// Decodes the last window, once no other is closed: its block is ready then, where a step is left for it. Returns
     /// what came of all octets.
     pub fn last(&mut self) -> InnerEnd
         requires settled { IsSettledQueue self.old.queue }
@@ -202,10 +210,16 @@ impl InnerDecoder {
             → AreInnerBlocks self.old.config (skip_of self.old.chosen) given
             (blocks ++ ready_in self.new.queue) result.leftover
             × (result.bits ≡ length (inner_bits self.old.config given (blocks ++ ready_in self.new.queue)))
-            × (result.slips ≡ reported_slips self.old.config (blocks ++ ready_in self.new.queue)) }
+            × (result.slips ≡ reported_slips self.old.config (blocks ++ ready_in self.new.queue))
+            × (lost_in self.new.queue ≡ dropped_of (blocks ++ ready_in self.new.queue)) }
+        ensures there { AreThere self.new.queue }
+        ensures windows { (given : List ℕ) (blocks : List WindowBlock) → InnerDecoderStandsFor self.old given blocks
+            → windows_in self.new
+            ≡ windows_after self.new.config (skip_of self.new.chosen) given blocks (ready_in self.new.queue) }
         ensures left { result.leftover ≤ 1 }
         ensures one { length (ready_in self.new.queue) ≤ 1 }
         ensures phase { (self.new.chosen ≡ self.old.chosen) × (self.new.has_phase ≡ self.old.has_phase) }
+        ensures ended { self.new.has_ended ≡ self.old.has_ended }
     {
         match &mut self.queue {
             Some(queue) => {
@@ -320,6 +334,49 @@ impl InnerDecoder {
         }
     }
 
+    /// How many of the symbols that were given are of no step, up to those of the ready blocks: those that were skipped,
+    /// of the phase, and dropped. With no inner code the skipped bits.
+    pub fn origin(&self) -> u64
+        ensures value { result ≡ origin_in self.now }
+        ensures few { result < 2 ^ 63 + 2 ^ 62 }
+    {
+        let Some(queue) = &self.queue else {
+            return self.config.skip();
+        };
+        let phase = match queue.chosen() {
+            Some(chosen) => u64::from(chosen.skip),
+            None => 0,
+        };
+        self.config.skip() + phase + queue.lost()
+    }
+
+    /// What is said of the window of a block that is ready. No octet may have been put in since it was decoded.
+    pub fn window(&self, index: usize) -> Window
+        requires index { index < length (ready_in self.now.queue) }
+        requires there { AreThere self.now.queue }
+        ensures { result ≡ window_in self.now index }
+    {
+        let Some(queue) = &self.queue else {
+            return NO_WINDOW;
+        };
+        let Some(rate) = rate_of(&self.config) else {
+            return NO_WINDOW;
+        };
+        let block = queue.block(index);
+        let counts = queue.counts(index);
+        Window {
+            symbol: self.origin() + symbols_of(rate, queue.step(index)),
+            dropped: u64::from(block.dropped),
+            steps: u64::from(block.steps),
+            kept: u64::from(block.kept),
+            metric: block.metric,
+            octets: counts.octets,
+            wrong: counts.wrong,
+            distance: counts.distance,
+            squares: counts.squares,
+        }
+    }
+
     /// Whether the configuration has an inner code. Where it has none, no block comes, and the octets hold the bits.
     pub fn has_inner_code(&self) -> bool
         ensures { result ≡ is_some self.now.config.inner }
@@ -357,7 +414,7 @@ impl InnerDecoder {
     }
 
     /// Converts the next octets, before they are put in, to soft octets of which 0 is the surest 0 and 255 the surest
-    /// 1. Answers how many of the first are still to be skipped. The symbol phase, where it is to be found, is found in
+    /// 1. Returns how many of the first are still to be skipped. The symbol phase, where it is to be found, is found in
     /// those after them.
     pub fn to_soft(&self, octets: &mut [u8]) -> usize
         ensures size { length octets.new ≡ length octets.old }

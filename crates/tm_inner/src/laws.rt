@@ -1,5 +1,5 @@
 // What holds of received octets, over the definitions alone.
-ghost use Rattle.std.specs.Prelude.{◌≡◌, ◌≤◌, ◌++◌, ◌+◌, ◌*◌, ℕ, Bool, List};
+ghost use Rattle.std.specs.Prelude.{◌≡◌, ◌<◌, ◌≤◌, ◌++◌, ◌+◌, ◌*◌, ℕ, Bool, List};
 ghost use Rattle.std.specs.List.{All};
 ghost use Rattle.tm_conv.specs.Cost.{most_branch_metric};
 ghost use Rattle.tm_base.specs.Bits.{AreOctets, bits_of};
@@ -8,10 +8,16 @@ ghost use Rattle.tm_config.specs.Configuration.{Configuration};
 ghost use Rattle.tm_inner.specs.Inner.{IsStartKnown, AreInnerBlocks, AreInnerDue, Inner, inner_bits};
 ghost use Rattle.tm_viterbi.specs.WindowBlock.{WindowBlock};
 ghost use Rattle.tm_viterbi.specs.WindowSizes.{most_window};
+ghost use Rattle.tm_windows.specs.Windows.{kept_of};
+ghost use Rattle.tm_inner.specs.InnerWindows.{AreWindows, AreWindowsDue};
+ghost use Rattle.tm_inner.specs.SymbolPlaces.{symbol_at};
 ghost use Rattle.tm_inner.specs.Symbols.{symbols_of_octets};
+ghost use Rattle.tm_inner.specs.declared.window.Window.{Window};
 
 use tm_viterbi::clean_blocks_law;
-use tm_windows::{closed_prefix_law, due_windows_law, one_windows_law};
+use tm_windows::{
+    closed_prefix_law, due_windows_law, one_windows_law, phase_law, whole_window_law,
+};
 
 /// Received octets come to one list of bits, and of blocks. It does nothing.
 pub fn inner_law()
@@ -44,6 +50,26 @@ pub fn due_bits_law()
 {
     closed_prefix_law();
     due_windows_law();
+}
+
+/// Where the first symbol of a received bit stands hangs on no block after the one that keeps it. It does nothing.
+pub fn symbols_law()
+    ensures { (c : Configuration) (phase n : ℕ) (blocks more : List WindowBlock) → n < kept_of blocks
+        → symbol_at c phase (blocks ++ more) n ≡ symbol_at c phase blocks n }
+{}
+
+/// What is said of the windows that are due is said of them whatever octets come: it stands first in what is said of
+/// those that are due then, and of all. It does nothing.
+pub fn windows_law()
+    ensures due { (c : Configuration) (octets more : List ℕ) (due later : List Window) → AreWindowsDue c octets due
+        → AreWindowsDue c (octets ++ more) later → (rest : List Window) × (later ≡ due ++ rest) }
+    ensures all { (c : Configuration) (octets more : List ℕ) (due windows : List Window) → AreWindowsDue c octets due
+        → AreWindows c (octets ++ more) windows → (rest : List Window) × (windows ≡ due ++ rest) }
+{
+    closed_prefix_law();
+    due_windows_law();
+    phase_law();
+    whole_window_law();
 }
 
 /// A block has at most keep+ahead steps, and costs at most 510 for each of them, since a step sends two symbols at

@@ -11,7 +11,7 @@ use std::thread::Threads;
 use takers::{Collector, Kept};
 use tm_base::Failed;
 use tm_config::{Config, Raw};
-use tm_inner::{InnerDecoder, InnerEnd, InnerReceiver, inner_all};
+use tm_inner::{InnerDecoder, InnerEnd, InnerReceiver, Window, inner_all, watch_ready};
 use tm_viterbi::BlockTaker;
 use tm_windows::{Alone, Chosen, Crew, FeedError, Threaded};
 
@@ -282,6 +282,7 @@ fn hand_due<C: Crew>(
     ensures settled { IsSettledQueue decoder.old.queue → IsSettledQueue decoder.new.queue }
 {
     while decoder.decode(crew) > 0 {
+        watch_ready(decoder, taker);
         hand_phase(decoder, taker)?;
         decoder.hand(taker)?;
     }
@@ -315,6 +316,7 @@ fn put_last<C: Crew>(
     decoder.settle();
     hand_due(crew, decoder, taker)?;
     let end = decoder.last();
+    watch_ready(decoder, taker);
     decoder.hand(taker)?;
     Ok(end)
 }
@@ -746,4 +748,132 @@ fn octets_that_wait(rt: HostRuntime) -> Result<(), Fail> {
     check_waiting(&rt, &crew, rt.alloc(), 0, &octets)?;
     check_waiting(&rt, &crew, rt.alloc(), 1, &octets)?;
     check_waiting(&rt, &Alone, rt.alloc(), 0, &octets)
+}
+
+// What is said of windows that keep 64 steps.
+fn check_windows(
+    rt: &impl Abort,
+    alloc: Global,
+    raw: &Raw,
+    octets: &[u8],
+    windows: &[Window],
+) -> Result<(), Fail> {
+    let config = Config::check(raw)?;
+    let mut taker = Collector::new(alloc, 9);
+    let mut decoder = opened_for(rt, alloc, &config, 3)?;
+    put(&Alone, &mut decoder, octets, &mut taker)?;
+    put_last(&Alone, &mut decoder, &mut taker)?;
+    assert!(rt; taker.windows() == windows);
+    Ok(())
+}
+
+// A window and a step more, of which three octets are disturbed: two by 16 and 31, and one by 144, nearer to the other
+// symbol.
+static DISTURBED: [Window; 2] = [
+    Window {
+        symbol: 0,
+        dropped: 0,
+        steps: 64,
+        kept: 64,
+        metric: 191,
+        octets: 128,
+        wrong: 1,
+        distance: 191,
+        squares: 21953,
+    },
+    Window {
+        symbol: 128,
+        dropped: 0,
+        steps: 1,
+        kept: 1,
+        metric: 0,
+        octets: 2,
+        wrong: 0,
+        distance: 0,
+        squares: 0,
+    },
+];
+
+#[test]
+fn windows_of_disturbed_octets(rt: HostRuntime) -> Result<(), Fail> {
+    let mut octets = [0x00; 130];
+    for i in 0..65 {
+        octets[2 * i + 1] = 0xFF;
+    }
+    octets[4] = 0x10;
+    octets[6] = 0x90;
+    octets[9] = 0xE0;
+    let raw = Raw {
+        keep: 64,
+        ahead: 0,
+        ..Raw::default()
+    };
+    check_windows(&rt, rt.alloc(), &raw, &octets, &DISTURBED)
+}
+
+// Noisy symbols at rate 7/8 after three octets, of which two are skipped, and with octet 65 missing. What is said of
+// their windows is by docs/reference, a program outside.
+static NOISY: [u8; 180] = [
+    0x05, 0xFA, 0xC8, 0x00, 0x00, 0xFF, 0xF9, 0xD6, 0x6B, 0x31, 0x00, 0x22, 0x00, 0xB9, 0x18, 0xFF,
+    0xFF, 0xFF, 0xFF, 0x2F, 0x02, 0xDA, 0x18, 0x0B, 0x00, 0xFF, 0x00, 0x13, 0x00, 0x00, 0x24, 0x1A,
+    0x46, 0x00, 0xFF, 0x00, 0xFF, 0x00, 0xFF, 0x00, 0xFF, 0xFF, 0x00, 0x00, 0xF5, 0x00, 0x00, 0xEE,
+    0x00, 0xFF, 0xFF, 0xCD, 0xFF, 0xC3, 0xD6, 0x00, 0xFF, 0xF5, 0xF1, 0x00, 0xFF, 0x00, 0x00, 0xEB,
+    0x36, 0x00, 0xEF, 0xF7, 0x00, 0xFF, 0x63, 0x00, 0xFF, 0xC6, 0x00, 0x1A, 0x16, 0x00, 0xFF, 0xE7,
+    0x0B, 0xAA, 0xFF, 0x00, 0xF4, 0xF9, 0xB9, 0x4F, 0x00, 0x39, 0xFF, 0x00, 0x0A, 0x00, 0xFF, 0xFF,
+    0xB0, 0x00, 0xFF, 0x19, 0xFF, 0xF4, 0xFF, 0xE9, 0x00, 0x09, 0x00, 0x16, 0x00, 0x26, 0xFF, 0x9B,
+    0xD3, 0xFB, 0x35, 0xFF, 0xFF, 0xFF, 0x00, 0xE8, 0xA6, 0xFF, 0x2F, 0x00, 0xFF, 0xF0, 0xFF, 0x61,
+    0xFF, 0x3A, 0xFF, 0x22, 0xFF, 0x00, 0xFF, 0x00, 0xFF, 0x00, 0xFF, 0x00, 0xFF, 0x47, 0x68, 0x00,
+    0xF9, 0x0B, 0xFF, 0x00, 0xF8, 0x00, 0xD3, 0xC9, 0x2C, 0x00, 0xFF, 0xE1, 0xC6, 0x1E, 0x00, 0xC8,
+    0x0C, 0x00, 0xFF, 0xD0, 0x00, 0x05, 0xEE, 0x40, 0x2B, 0x00, 0x07, 0xFF, 0x02, 0xEA, 0x31, 0xDE,
+    0xFB, 0x11, 0x2E, 0x00,
+];
+
+static NOISY_WINDOWS: [Window; 3] = [
+    Window {
+        symbol: 3,
+        dropped: 0,
+        steps: 72,
+        kept: 64,
+        metric: 1301,
+        octets: 74,
+        wrong: 1,
+        distance: 1164,
+        squares: 74558,
+    },
+    Window {
+        symbol: 83,
+        dropped: 6,
+        steps: 72,
+        kept: 64,
+        metric: 1636,
+        octets: 73,
+        wrong: 1,
+        distance: 1435,
+        squares: 103007,
+    },
+    Window {
+        symbol: 156,
+        dropped: 0,
+        steps: 21,
+        kept: 21,
+        metric: 636,
+        octets: 24,
+        wrong: 1,
+        distance: 636,
+        squares: 54576,
+    },
+];
+
+#[test]
+fn windows_of_noisy_octets(rt: HostRuntime) -> Result<(), Fail> {
+    let raw = Raw {
+        inner: 78,
+        start: 1,
+        skip: 2,
+        keep: 64,
+        ahead: 8,
+        phase: 2,
+        ..Raw::default()
+    };
+    check_windows(&rt, rt.alloc(), &raw, &NOISY, &NOISY_WINDOWS)
 }

@@ -1,9 +1,10 @@
-// A taker that keeps the phase and what blocks tell.
+// A taker that keeps the phase, what blocks tell, and what is said of windows.
 ghost use Rattle.std.specs.Prelude.{◌≡◌};
 ghost use Rattle.tm_base.specs.Count.{last_count};
 
 use std::alloc::Global;
 use tm_base::Failed;
+use tm_inner::{InnerDecoder, Window, WindowWatch};
 use tm_viterbi::{Block, BlockTaker};
 
 // A block that was handed over, with the first of its bits.
@@ -22,6 +23,7 @@ pub(super) struct Kept {
 #[derive(Drop)]
 pub(super) struct Collector {
     kept: Vec<Kept>,
+    windows: Vec<Window>,
     // Its skip and its cost.
     phase: Option<(u8, u64)>,
     room: usize,
@@ -32,6 +34,7 @@ impl Collector {
     pub(super) fn new(alloc: Global, room: usize) -> Collector {
         Collector {
             kept: Vec::new(alloc),
+            windows: Vec::new(alloc),
             phase: None,
             room,
             faults: 0,
@@ -40,6 +43,10 @@ impl Collector {
 
     pub(super) fn kept(&self) -> &[Kept] {
         self.kept.as_slice()
+    }
+
+    pub(super) fn windows(&self) -> &[Window] {
+        self.windows.as_slice()
     }
 
     pub(super) fn phase(&self) -> Option<(u8, u64)> {
@@ -83,5 +90,13 @@ impl BlockTaker for Collector {
         }
         self.faults = self.faults.saturating_add(1);
         Err(Failed)
+    }
+}
+
+impl WindowWatch for Collector {
+    ghost took = { λ before window now. Unit {0} };
+
+    fn window(&mut self, inner: &InnerDecoder, index: usize) {
+        let _ = self.windows.push(inner.window(index));
     }
 }

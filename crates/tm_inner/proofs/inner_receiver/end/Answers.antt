@@ -4,7 +4,7 @@ use Rattle.tm_base.proofs.Handing.{HandedOver-append, HandedPart-after}
 use Rattle.tm_base.proofs.HandedItems.{HandedOver-items, HandedPart-items}
 use Rattle.tm_viterbi.specs.WindowBlock.{WindowBlock}
 use Rattle.tm_windows.specs.declared.choosing.Chosen.{Chosen}
-use Rattle.tm_inner.specs.InnerDecoding.{ready_in}
+use Rattle.tm_inner.specs.InnerDecoding.{lost_in, ready_in}
 use Rattle.tm_inner.specs.Phase.{IsChosen}
 use Rattle.tm_inner.specs.Receiving.{HasHanded}
 use Rattle.tm_inner.proofs.DecoderPieces.{IsLater, all-prefix, ended-all, ended-chosen, ended-prefix}
@@ -62,7 +62,7 @@ returns-in-Ok-hand-clause-handed g c =
       ended-all (on_handed t.took_phase t.took) c.args.decoder.now c.settle.new.self c.hand_due.new.decoder
           (later g (goal.at.returns-in-Ok-hand-clause-handed g c).After-hand_due) c.settle.ensures.stands
           c.hand_due.ensures.kept c.settle.ensures.ended c.hand_due.ensures.chosen c.args.blocks.now c.hand_due.new.blocks
-          ready end.leftover end.bits end.slips h c.in-Ok.ensures.drained.1 c.last-end.ensures.ends,
+          ready end.leftover end.bits end.slips (lost_in c.last-end.new.self.queue) h c.in-Ok.ensures.drained.1 c.last-end.ensures.ends,
     )
 
 pub returns-in-Err-hand-clause-prefix : goal.returns-in-Err-hand-clause-prefix
@@ -81,6 +81,6 @@ returns-in-Err-hand-clause-prefix g c =
           (ended-all (on_handed t.took_phase t.took) c.args.decoder.now c.settle.new.self c.hand_due.new.decoder
           (later g (goal.at.returns-in-Err-hand-clause-prefix g c).After-hand_due) c.settle.ensures.stands
           c.hand_due.ensures.kept c.settle.ensures.ended c.hand_due.ensures.chosen c.args.blocks.now
-          c.hand_due.new.blocks ready end.leftover end.bits end.slips h c.in-Ok.ensures.drained.1
+          c.hand_due.new.blocks ready end.leftover end.bits end.slips (lost_in c.last-end.new.self.queue) h c.in-Ok.ensures.drained.1
           c.last-end.ensures.ends given done stood).0,
     )

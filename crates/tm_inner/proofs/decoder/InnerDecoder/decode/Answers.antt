@@ -1,9 +1,10 @@
-use Rattle.std.proofs.Common.{length, ap, arith, sym, subst, Option, Some}
+use Rattle.std.proofs.Common.{◌++◌, length, refl, ap, arith, sym, subst, Option, Some}
 use Rattle.tm_windows.specs.Queue.{Queueing}
 use Rattle.tm_inner.specs.InnerDecoding.{GoesWith, InnerDecoding, IsQueueOf, ready_in}
 use Rattle.tm_inner.specs.declared.decoder.InnerDecoder.TheInside.{Inside}
-use Rattle.tm_inner.proofs.Decoders.{decoding}
+use Rattle.tm_inner.proofs.Decoders.{decoding, lost-in}
 use Rattle.tm_inner.proofs.DecoderCalls.{Runs, runs-plain, runs-queue}
+use Rattle.tm_inner.proofs.ReadWindows.{Reads, reads-queue}
 use Rattle.tm_inner.proofs.decoder.InnerDecoder.decode.Goals as goal
 use Rattle.tm_inner.proofs.decoder.InnerDecoder.decode.Goals.{in-Some, in-None}
 
@@ -35,3 +36,31 @@ returns-clause-stands g c =
     let now = c.match-self.self-inside in
     subst (λ (d : InnerDecoding). Runs d (decoding now.config now.queue now.count now.has_phase now.has_ended)
     (ready_in now.queue)) c.self.view_is said
+
+pub returns-clause-windows : goal.returns-clause-windows
+returns-clause-windows g c =
+    let s = c.self.inside in
+    let Said : Option Queueing → Inside → Type 0 = λ before now.
+    Reads (decoding s.config before s.count s.has_phase s.has_ended)
+    (decoding now.config now.queue now.count now.has_phase now.has_ended) in
+    let said : Said s.queue c.match-self.self-inside = elim c.match-self.branch as
+    (λ _. Said s.queue c.match-self.self-inside) [
+      | in-Some w ↦ (
+          let now = w.decode.new.self in
+          let h = w.decode.ensures in
+          let of = subst (IsQueueOf s.config) w.in-Some.is c.self.invariant.0 in
+          subst (Said s.queue) (sym w.self-inside-is)
+          (subst (λ (o : Option Queueing). Said o (record s { queue = Some now })) (sym w.in-Some.is)
+          (reads-queue s.config w.in-Some.queue now s.count s.has_phase s.has_ended of h.same h.later
+          (λ given done stood. lost-in now given (done ++ now.ready) (h.stands given done stood))
+          (λ some. h.read (omega (arith, h.count, some)))))
+          )
+      | in-None w ↦ (
+          subst (Said s.queue) (sym w.self-inside-is)
+          (subst (λ (o : Option Queueing). Said s.queue (record s { queue = o })) (sym w.in-None.is)
+          (λ given blocks stood. refl))
+          )
+    ] in
+    let now = c.match-self.self-inside in
+    subst (λ (d : InnerDecoding). Reads d (decoding now.config now.queue now.count now.has_phase now.has_ended))
+    c.self.view_is said

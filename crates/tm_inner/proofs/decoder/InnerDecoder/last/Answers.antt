@@ -1,11 +1,14 @@
-use Rattle.std.proofs.Common.{◌≡◌, ◌∙◌, ℕ, ap, arith, sym, subst, if◌then◌else◌, Option, Some, None}
+use Rattle.std.proofs.Common.{◌≡◌, ◌≤◌, ◌∙◌, ℕ, List, [], ◌∷◌, length, drop, refl, ap, arith, sym, subst, if◌then◌else◌, Option, Some, None}
+use Rattle.tm_viterbi.specs.WindowBlock.{WindowBlock}
 use Rattle.tm_windows.specs.Queue.{Queueing}
-use Rattle.tm_inner.specs.InnerDecoding.{InnerDecoding, IsQueueOf, ready_in}
+use Rattle.tm_windows.specs.Windows.{dropped_of}
+use Rattle.tm_inner.specs.InnerDecoding.{InnerDecoding, IsQueueOf, lost_in, ready_in}
 use Rattle.tm_inner.specs.declared.decoder.InnerDecoder.TheInside.{Inside}
 use Rattle.tm_inner.specs.declared.decoder.InnerEnd.{InnerEnd}
 use Rattle.tm_inner.proofs.Decoders.{decoding}
 use Rattle.tm_inner.proofs.DecoderCalls.{Ends, ends-plain, ends-queue}
 use Rattle.tm_inner.proofs.PlainBits.{count-few}
+use Rattle.tm_inner.proofs.ReadWindows.{Reads, reads-queue}
 use Rattle.tm_inner.proofs.decoder.InnerDecoder.last.Goals as goal
 use Rattle.tm_inner.proofs.decoder.InnerDecoder.last.Goals.{in-Some, in-None}
 
@@ -14,7 +17,7 @@ returns-clause-ends c =
     let s = c.self.inside in
     let Said : Option Queueing → Inside → InnerEnd → Type 0 = λ before now end.
     Ends (decoding s.config before s.count s.has_phase s.has_ended) (ready_in now.queue) end.leftover end.bits
-    end.slips in
+    end.slips (lost_in now.queue) in
     let said : Said s.queue c.match-self.self-inside c.match-self.result = elim c.match-self.branch as
     (λ _. Said s.queue c.match-self.self-inside c.match-self.result) [
       | in-Some w ↦ (
@@ -54,5 +57,39 @@ returns-clause-ends c =
           )
     ] in
     let end = c.match-self.result in
-    subst (λ (d : InnerDecoding). Ends d (ready_in c.match-self.self-inside.queue) end.leftover end.bits end.slips)
+    subst (λ (d : InnerDecoding). Ends d (ready_in c.match-self.self-inside.queue) end.leftover end.bits end.slips
+    (lost_in c.match-self.self-inside.queue))
+    c.self.view_is said
+
+-- after one block there are none
+none-later : (blocks : List WindowBlock) → length blocks ≤ 1 → dropped_of (drop 1 blocks) ≡ 0
+none-later [] one = refl
+none-later (x ∷ []) one = refl
+none-later (x ∷ y ∷ ys) one = absurd (omega (arith, one))
+
+pub returns-clause-windows : goal.returns-clause-windows
+returns-clause-windows c =
+    let s = c.self.inside in
+    let Said : Option Queueing → Inside → Type 0 = λ before now.
+    Reads (decoding s.config before s.count s.has_phase s.has_ended)
+    (decoding now.config now.queue now.count now.has_phase now.has_ended) in
+    let said : Said s.queue c.match-self.self-inside = elim c.match-self.branch as
+    (λ _. Said s.queue c.match-self.self-inside) [
+      | in-Some w ↦ (
+          let now = w.last-leftover.new.self in
+          let h = w.last-leftover.ensures in
+          let of = subst (IsQueueOf s.config) w.in-Some.is c.self.invariant.0 in
+          subst (Said s.queue) (sym w.self-inside-is)
+          (subst (λ (o : Option Queueing). Said o (record s { queue = Some now })) (sym w.in-Some.is)
+          (reads-queue s.config w.in-Some.queue now s.count s.has_phase s.has_ended of h.same
+          (none-later now.ready h.one) (λ given done stood. (h.ends given done stood).lost) h.read))
+          )
+      | in-None w ↦ (
+          subst (Said s.queue) (sym w.self-inside-is)
+          (subst (λ (o : Option Queueing). Said s.queue (record s { queue = o })) (sym w.in-None.is)
+          (λ given blocks stood. refl))
+          )
+    ] in
+    let now = c.match-self.self-inside in
+    subst (λ (d : InnerDecoding). Reads d (decoding now.config now.queue now.count now.has_phase now.has_ended))
     c.self.view_is said
