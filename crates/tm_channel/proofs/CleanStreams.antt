@@ -11,6 +11,7 @@ use Rattle.tm_base.specs.Marker.{marker}
 use Rattle.tm_base.proofs.Packing.{bits_of-append, length-bits_of}
 use Rattle.tm_config.specs.Configuration.{Configuration, codeblock_length, is_uncoded}
 use Rattle.tm_config.specs.Accepted.{IsAccepted}
+use Rattle.tm_inner.specs.SymbolPlaces.{symbols_before}
 use Rattle.tm_rs_code.proofs.Nearest.{distance-self}
 use Rattle.tm_rs_solve.specs.declared.answers.Answer.{Answer}
 use Rattle.tm_rs_solve.specs.declared.answers.Answer.TheVariants.{Fixed}
@@ -26,7 +27,7 @@ use Rattle.tm_sync.proofs.Prefixes.{places_after-unsettled}
 use Rattle.tm_sync.proofs.Rescanned.{places_with-off}
 use Rattle.tm_codeblock.specs.Cadu.{codeblock_of, sent_codeblock, cadu}
 use Rattle.tm_codeblock.specs.ReceivedCodeblock.{rules_of, codeblock_at, columns_of, places_in, received_column, received_columns, sound_in}
-use Rattle.tm_channel.specs.Items.{ItemValue, AreItems, AreItemsOf, are_fixed}
+use Rattle.tm_channel.specs.Items.{ItemValue, AreItems, AreItemsOf, HaveSymbols, are_fixed}
 use Rattle.tm_channel.specs.SentStream.{IsFrame, SentUnit, entries_of, unit_places, sent_columns, AreRepaired, AreWithin, IsNear, IsAsSent, AreAsSent, sent_bits, clean_answers, clean_items, found_frames}
 use Rattle.tm_channel.proofs.SentCodeblocks.{length-sent_codeblock, received-as_sent}
 use Rattle.tm_channel.proofs.HasItems.{has-items-of}
@@ -148,12 +149,14 @@ clean-answers c frame = go (is_uncoded c.code)
 
 clean-one : (c : Configuration) (at : ℕ) (frame : List ℕ) (item : ItemValue) → IsAccepted c → IsFrame c frame
     → IsAsSent c (record { place = at; distance = 0; bridged = false; inverted = false }) (clean_unit c frame) item
+    → item.symbol ≡ symbols_before c.inner item.found.place
     → item ≡ record {
       found = record { place = at; distance = 0; bridged = false; inverted = false };
+      symbol = symbols_before c.inner at;
       answers = clean_answers c;
       frame = frame;
     }
-clean-one c at frame item ok is it =
+clean-one c at frame item ok is it symbol =
     let same = received-as_sent c frame ok is in
     let answers : item.answers ≡ clean_answers c =
     answers-are c.repair (sent_columns c frame) item.answers
@@ -166,30 +169,32 @@ clean-one c at frame item ok is it =
       uncoded = λ none. refl;
     } in
     let back : item.frame ≡ frame = it.frame (subst (λ (b : List ℕ). IsNear c frame b) (sym same) near) in
-    (λ i. record { found = it.place i; answers = answers i; frame = back i })
+    let place : item.symbol ≡ symbols_before c.inner at =
+    symbol ∙ ap (λ (v : Found). symbols_before c.inner v.place) it.place in
+    (λ i. record { found = it.place i; symbol = place i; answers = answers i; frame = back i })
 
 clean-from : (c : Configuration) (at : ℕ) (frames : List (List ℕ)) (items : List ItemValue) → IsAccepted c
     → AllByRecursion (IsFrame c) frames
     → AreAsSent c (clean_places (8 * codeblock_length c) at (blocks_of c frames)) (clean_units c frames) items
-    → items ≡ clean_items c at frames
-clean-from c at [] [] ok are sent = refl
-clean-from c at [] (item ∷ items) ok are sent = absurd sent
-clean-from c at (frame ∷ frames) [] ok are sent = absurd sent
-clean-from c at (frame ∷ frames) (item ∷ items) ok are sent =
-    (λ i. clean-one c at frame item ok are.0 sent.0 i ∷ clean-from c
-    (at + 32 + 8 * codeblock_length c) frames items ok are.1 sent.1 i)
+    → HaveSymbols (symbols_before c.inner) items → items ≡ clean_items c at frames
+clean-from c at [] [] ok are sent have = refl
+clean-from c at [] (item ∷ items) ok are sent have = absurd sent
+clean-from c at (frame ∷ frames) [] ok are sent have = absurd sent
+clean-from c at (frame ∷ frames) (item ∷ items) ok are sent have =
+    (λ i. clean-one c at frame item ok are.0 sent.0 have.0 i ∷ clean-from c
+    (at + 32 + 8 * codeblock_length c) frames items ok are.1 sent.1 have.1 i)
 
 -- the items of the units
 items-of : (c : Configuration) (frames : List (List ℕ)) (items : List ItemValue) → IsAccepted c
     → AllByRecursion (IsFrame c) frames → c.verify < length frames
     → AreItemsOf c (sent_bits c frames) (clean_places (8 * codeblock_length c) 0 (blocks_of c frames)) items
-    → items ≡ clean_items c 0 frames
-items-of c frames items ok are many its =
+    → HaveSymbols (symbols_before c.inner) items → items ≡ clean_items c 0 frames
+items-of c frames items ok are many its have =
     clean-from c 0 frames items ok are
     (subst (λ (fs : List Found). AreAsSent c fs (clean_units c frames) items) (places-are c frames)
     (items-at c (sent_bits c frames) (clean_units c frames) [] items ok (marked c frames ok are many)
     (units-are_frames c frames are)
-    (subst (λ (fs : List Found). AreItemsOf c (sent_bits c frames) fs items) (sym (places-are c frames)) its)))
+    (subst (λ (fs : List Found). AreItemsOf c (sent_bits c frames) fs items) (sym (places-are c frames)) its))) have
 
 -- ---- they are found
 
@@ -230,9 +235,9 @@ places-sent c frames ok are many =
 
     says : AllByRecursion (λ f. sound f.place f.inverted ≡ true) fs
     says =
-        let its = has-items-of c (sent_bits c frames) fs in
+        let its = has-items-of c (symbols_before c.inner) (sent_bits c frames) fs in
         are-sound c (sent_bits c frames) 0 fs frames
-        (subst (AreItemsOf c (sent_bits c frames) fs) (items-of c frames its.0 ok are many its.1) its.1)
+        (subst (AreItemsOf c (sent_bits c frames) fs) (items-of c frames its.0 ok are many its.1 its.2) its.1)
 
     go : (columns : Option Columns)
         → places_with (rules_of c) columns sound (joined (clean_entries (blocks_of c frames)) []) ≡ fs
@@ -251,15 +256,16 @@ no-items c bits (item ∷ items) are = absurd are
 -- the items of frames that were sent are those of the frames that are found
 pub items-clean : (c : Configuration) (frames : List (List ℕ)) (items : List ItemValue) → IsAccepted c
     → AllByRecursion (IsFrame c) frames
+    → HaveSymbols (symbols_before c.inner) items
     → AreItems c (sent_bits c frames) items → items ≡ clean_items c 0 (found_frames c frames)
-items-clean c frames items ok are its =
+items-clean c frames items ok are have its =
     elim (cases_lt c.verify (length frames)) as (λ _. items ≡ clean_items c 0 (found_frames c frames)) [
       | inl many ↦ (
           let more : nat_le (length frames) c.verify ≡ false = grind (arith, nat_tests) in
           let all : found_frames c frames ≡ frames = ap (λ t. cond t [] frames) more in
           items-of c frames items ok are many
           (subst (λ (fs : List Found). AreItemsOf c (sent_bits c frames) fs items) (places-sent c frames ok are many)
-          its)
+          its) have
           ∙ ap (clean_items c 0) (sym all)
           )
       | inr few ↦ (

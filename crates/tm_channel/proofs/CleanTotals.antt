@@ -1,56 +1,28 @@
 -- What octets come to that were sent and not disturbed, or complemented.
-use Rattle.std.proofs.Common.{◌≡◌, ℕ, ◌*◌, Bool, List, length, Option, Some, None, if◌then◌else◌, refl, ap, ◌∙◌, subst, arith}
+use Rattle.std.proofs.Common.{◌≡◌, ℕ, ◌*◌, Bool, List, length, Some, None, if◌then◌else◌, refl, ap, ◌∙◌, subst}
 use Rattle.std.proofs.lemmas.List.{length-map}
 use Rattle.tm_base.specs.Bits.{bits_of}
 use Rattle.tm_base.specs.Handed.{Handed}
 use Rattle.tm_base.proofs.Packing.{length-bits_of}
 use Rattle.tm_config.specs.Accepted.{IsAccepted}
 use Rattle.tm_config.specs.Configuration.{Configuration}
-use Rattle.tm_conv.specs.declared.rates.Rate.{Rate}
 use Rattle.tm_conv.specs.declared.rates.Rate.TheVariants.{R12}
-use Rattle.tm_conv.specs.Encoding.{bit_numbers}
 use Rattle.tm_viterbi.specs.declared.block.Start.TheVariants.{Any}
 use Rattle.tm_viterbi.specs.WindowBlock.{WindowBlock}
-use Rattle.tm_viterbi.specs.Clean.{sure_symbols, complemented_octets}
+use Rattle.tm_viterbi.specs.Clean.{complemented_octets}
 use Rattle.tm_viterbi.proofs.HasBlocks.{HasBest}
-use Rattle.tm_windows.specs.Windows.{slips_of, AreBlocksIn}
-use Rattle.tm_windows.proofs.Undisturbed.{complemented-blocks, sure-blocks}
-use Rattle.tm_inner.specs.Inner.{AreInnerBlocks, BlocksAt, Inner, IsStartKnown, windows_of}
+use Rattle.tm_windows.specs.Windows.{slips_of}
+use Rattle.tm_inner.specs.Inner.{AreInnerBlocks, Inner, IsStartKnown}
 use Rattle.tm_inner.specs.Phase.{skip_of}
-use Rattle.tm_inner.specs.Symbols.{symbols_by, symbols_of_octets}
-use Rattle.tm_inner.proofs.Counted.{whole-slips}
-use Rattle.tm_inner.proofs.InnerBits.{AreBits-bit_numbers, soft-sent}
+use Rattle.tm_inner.specs.Symbols.{symbols_of_octets}
 use Rattle.tm_sync.specs.Bits.{flip}
 use Rattle.tm_channel.specs.Sent.{cadus, sent}
 use Rattle.tm_channel.specs.Items.{ItemValue}
 use Rattle.tm_channel.specs.declared.totals.Totals.{Totals}
 use Rattle.tm_channel.specs.Handing.{AreReceived, clean_totals, totals_of}
-use Rattle.tm_channel.proofs.ComplementedOctets.{ComplementedBlocks, half-complemented, soft-complemented}
+use Rattle.tm_channel.proofs.CleanSymbols.{slips-sent}
+use Rattle.tm_channel.proofs.ComplementedOctets.{ComplementedBlocks, half-complemented, slips-complemented}
 use Rattle.tm_channel.proofs.SentPhase.{Complements, phase-complemented, phase-sent, sent-skip}
-
--- ---- no octet is dropped
-
-slips-sent : (rate : Option Rate) (c : Configuration) (octets : List ℕ) (blocks : List WindowBlock) (left : ℕ)
-    → c.skip ≡ 0
-    → BlocksAt rate c 0 (symbols_by rate c (bits_of octets)) blocks left → slips_of blocks ≡ 0
-slips-sent None c octets blocks left none are = ap slips_of are.0
-slips-sent (Some rate) c octets blocks left none are =
-    let w = windows_of c rate in
-    let bits = bit_numbers (bits_of octets) in
-    whole-slips w.settings (sure_symbols w.settings 0 bits) blocks left
-    (sure-blocks w 0 bits blocks left (AreBits-bit_numbers (bits_of octets)) (omega arith)
-    (subst (λ (l : List ℕ). AreBlocksIn w l blocks left) (soft-sent c rate (bits_of octets) none) are))
-
-slips-complemented : (rate : Option Rate) (c : Configuration) (octets : List ℕ) (blocks : List WindowBlock) (left : ℕ)
-    → c.skip ≡ 0
-    → BlocksAt rate c 0 (complemented_octets (symbols_by rate c (bits_of octets))) blocks left → slips_of blocks ≡ 0
-slips-complemented None c octets blocks left none are = ap slips_of are.0
-slips-complemented (Some rate) c octets blocks left none are =
-    let w = windows_of c rate in
-    let bits = bit_numbers (bits_of octets) in
-    whole-slips w.settings (complemented_octets (sure_symbols w.settings 0 bits)) blocks left
-    (complemented-blocks w 0 bits blocks left (AreBits-bit_numbers (bits_of octets)) (omega arith)
-    (subst (λ (l : List ℕ). AreBlocksIn w l blocks left) (soft-complemented c rate (bits_of octets) none) are))
 
 -- ---- and all bits come
 

@@ -16,9 +16,11 @@ use Rattle.tm_conv.specs.Path.{AreBits, complement as complement_numbers}
 use Rattle.tm_conv.specs.Cost.{sure}
 use Rattle.tm_conv.specs.Encoding.{bit_numbers, sent_for, level, levels}
 use Rattle.tm_gf256.proofs.Below.{all_below, same_below}
-use Rattle.tm_windows.specs.Windows.{AreBlocksIn}
+use Rattle.tm_windows.specs.Windows.{AreBlocksIn, slips_of}
 use Rattle.tm_windows.proofs.Undisturbed.{complemented-blocks}
 use Rattle.tm_inner.specs.Inner.{settings_of, windows_of, soft_value, soft_octets, BlocksAt, nearest_bit, plain_bits_by, plain_bits, bits_at}
+use Rattle.tm_inner.specs.SymbolPlaces.{symbol_at, symbols_before}
+use Rattle.tm_inner.proofs.Counted.{whole-slips}
 use Rattle.tm_inner.specs.Symbols.{is_inverted, low_level, symbols_by}
 use Rattle.tm_inner.proofs.InnerBits.{drop-none, AreBits-bit_numbers, half-rate, some-steps}
 use Rattle.tm_sync.specs.Bits.{flip, complement}
@@ -36,6 +38,8 @@ use Rattle.tm_channel.specs.SentStream.{sent_bits, clean_items, found_frames}
 use Rattle.tm_channel.proofs.Polarity.{items-complemented}
 use Rattle.tm_channel.proofs.CleanStreams.{items-clean}
 use Rattle.tm_channel.proofs.ReceivedOctets.{are_frames, bits-sent}
+use Rattle.tm_channel.proofs.CleanSymbols.{clean-symbols}
+use Rattle.tm_channel.proofs.Symbols.{have-map, have-same}
 
 -- ---- with no inner code
 
@@ -119,6 +123,7 @@ received-complemented c phase octets items ok none find small r =
             are_bits = ap complement r.inner.are_bits ∙ both.1;
           };
       are_items = items-complemented c r.bits items ok find r.are_items;
+      symbols = have-map (symbol_at c phase r.inner.blocks) complemented_item (λ item. refl) items r.symbols;
     }
 
 -- ---- at rate 1/2
@@ -158,6 +163,17 @@ soft-complemented c rate bits none =
     ap (map (soft_value c)) (drop-none c.skip (complemented_octets (levels (low_level c.soft) symbols)) none)
     ∙ values-complemented c symbols
 
+pub slips-complemented : (rate : Option Rate) (c : Configuration) (octets : List ℕ) (blocks : List WindowBlock) (left : ℕ)
+    → c.skip ≡ 0
+    → BlocksAt rate c 0 (complemented_octets (symbols_by rate c (bits_of octets))) blocks left → slips_of blocks ≡ 0
+slips-complemented None c octets blocks left none are = ap slips_of are.0
+slips-complemented (Some rate) c octets blocks left none are =
+    let w = windows_of c rate in
+    let bits = bit_numbers (bits_of octets) in
+    whole-slips w.settings (complemented_octets (sure_symbols w.settings 0 bits)) blocks left
+    (complemented-blocks w 0 bits blocks left (AreBits-bit_numbers (bits_of octets)) (omega arith)
+    (subst (λ (l : List ℕ). AreBlocksIn w l blocks left) (soft-complemented c rate (bits_of octets) none) are))
+
 numbers-complemented : (bits : List Bool) → map (λ bit. bit == 1) (complement_numbers (bit_numbers bits))
     ≡ complement bits
 numbers-complemented [] = refl
@@ -190,6 +206,7 @@ twice-complemented item =
         bridged = item.found.bridged;
         inverted = twice item.found.inverted i;
       };
+      symbol = item.symbol;
       answers = item.answers;
       frame = item.frame;
     })
@@ -216,5 +233,9 @@ received-half_complemented complemented c octets items ok half find any none sma
     ∙ complement-twice (sent_bits c frames) in
     sym (all-twice items)
     ∙ ap (map complemented_item) (items-clean c frames (map complemented_item items) ok (are_frames c octets ok small)
+    (have-map (symbols_before c.inner) complemented_item (λ item. refl) items
+    (have-same (symbol_at c 0 r.inner.blocks) (symbols_before c.inner) items
+    (clean-symbols c c.inner r.inner.blocks none
+    (slips-complemented c.inner c (cadus c octets) r.inner.blocks r.inner.left none r.inner.are_blocks)) r.symbols))
     (subst (λ (l : List Bool). AreItems c l (map complemented_item items)) upright
     (items-complemented c r.bits items ok find r.are_items)))

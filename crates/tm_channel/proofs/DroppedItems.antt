@@ -1,14 +1,17 @@
 -- Items without what is left of frames with an uncorrectable column.
-use Rattle.std.proofs.Common.{◌≡◌, ◌∙◌, ◌||◌, ℕ, Bool, true, false, cond, List, [], ◌∷◌, map, drop, refl, Option, Some, None}
+use Rattle.std.proofs.Common.{◌≡◌, ◌∙◌, ◌||◌, ◌+◌, ℕ, Bool, true, false, cond, List, [], ◌∷◌, map, drop, refl, Option, Some, None}
 use Rattle.tm_conv.specs.declared.rates.Rate.{Rate}
 use Rattle.tm_config.specs.Configuration.{Configuration}
 use Rattle.tm_viterbi.specs.WindowBlock.{WindowBlock}
+use Rattle.tm_windows.specs.Windows.{dropped_to}
+use Rattle.tm_inner.specs.SymbolPlaces.{origin_by, symbol_at, symbols_before}
 use Rattle.tm_inner.specs.Inner.{BlocksAt, bits_at, plain_bits_by}
 use Rattle.tm_rs_solve.specs.declared.answers.Answer.{Answer}
 use Rattle.tm_sync.specs.declared.found.Found.{Found}
 use Rattle.tm_codeblock.specs.ReceivedCodeblock.{places_in, codeblock_in, codeblock_at, received_columns, frame_of}
 use Rattle.tm_channel.specs.Items.{ItemValue, AreNearest, are_fixed, IsItem, AreItemsOf, dropping, dropped_item}
 use Rattle.tm_channel.specs.Receive.{Receive}
+use Rattle.tm_channel.proofs.Symbols.{have-map, have-same}
 
 nearest-dropped : (c : Configuration) (columns : List (List ℕ)) (answers : List Answer) (words : List (List ℕ))
     → AreNearest c columns answers words → AreNearest (dropping c) columns answers words
@@ -60,6 +63,13 @@ bits-dropped c None octets blocks = plain c.pack
     plain false = refl
 bits-dropped c (Some rate) octets blocks = refl
 
+-- and so are their symbols
+symbols-dropped : (c : Configuration) (rate : Option Rate) (phase : ℕ) (blocks : List WindowBlock) (n : ℕ)
+    → origin_by rate c phase (dropped_to blocks n) + symbols_before rate n
+    ≡ origin_by rate (dropping c) phase (dropped_to blocks n) + symbols_before rate n
+symbols-dropped c None phase blocks n = refl
+symbols-dropped c (Some rate) phase blocks n = refl
+
 pub received-dropped : (c : Configuration) (phase : ℕ) (octets : List ℕ) (items : List ItemValue)
     → Receive c phase octets items → Receive (dropping c) phase octets (map dropped_item items)
 unfolding received_columns codeblock_in
@@ -73,4 +83,8 @@ received-dropped c phase octets items received = record {
     are_bits = received.inner.are_bits ∙ bits-dropped c c.inner octets received.inner.blocks;
   };
   are_items = items-dropped c received.bits (places_in c received.bits) items received.are_items;
+  symbols =
+      have-map (symbol_at (dropping c) phase received.inner.blocks) dropped_item (λ item. refl) items
+      (have-same (symbol_at c phase received.inner.blocks) (symbol_at (dropping c) phase received.inner.blocks) items
+      (symbols-dropped c c.inner phase received.inner.blocks) received.symbols);
 }

@@ -1,17 +1,14 @@
--- The items that are due stand first, whatever octets come.
-use Rattle.std.proofs.Common.{◌≡◌, ◌≤◌, ◌+◌, ◌*◌, ℕ, zero, suc, Bool, List, [], ◌∷◌, ◌++◌, length, take, drop, refl, sym, ap, ◌∙◌, subst, arith, take-append-drop, append_assoc, length-drop, length-append}
+-- The items of first places stand first, whatever bits come.
+use Rattle.std.proofs.Common.{◌≡◌, ◌<◌, ◌≤◌, ◌+◌, ◌*◌, ℕ, zero, suc, Bool, List, [], ◌∷◌, ◌++◌, length, take, drop, refl, sym, ap, ◌∙◌, subst, arith, take-append-drop, append_assoc, length-drop, length-append}
 use Rattle.std.specs.List.{AllByRecursion}
 use Rattle.std.proofs.lemmas.List.{drop-append-le, take-append-le}
 use Rattle.tm_config.specs.Configuration.{Configuration, codeblock_length}
 use Rattle.tm_config.specs.Accepted.{IsAccepted}
-use Rattle.tm_inner.specs.Inner.{AreInnerBlocks, AreInnerDue, inner_bits}
 use Rattle.tm_sync.specs.declared.found.Found.{Found}
-use Rattle.tm_viterbi.specs.WindowBlock.{WindowBlock}
 use Rattle.tm_codeblock.specs.ReceivedCodeblock.{codeblock_in, codeblock_at, places_in}
-use Rattle.tm_channel.specs.Items.{ItemValue, IsItem, AreItemsOf, AreItems}
-use Rattle.tm_channel.specs.Due.{due_count}
-use Rattle.tm_channel.specs.Receive.{Receive, ReceiveDue}
+use Rattle.tm_channel.specs.Items.{ItemValue, IsItem, AreItemsOf, AreItems, HaveSymbols}
 use Rattle.tm_channel.proofs.OnlyItems.{items-same}
+use Rattle.tm_channel.proofs.Symbols.{have-first, have-longer}
 use Rattle.tm_codeblock.proofs.PlacesIn.{places_in-append, places_in-end}
 
 -- the codeblocks of these places end within the first `bound` bits
@@ -68,10 +65,13 @@ within-take c n (suc k) [] within = tt
 within-take c n (suc k) (f ∷ fs) within = (within.0, within-take c n k fs within.1)
 
 -- the items of some of the first places of a prefix stand first among those of all bits
-pub first-items : (c : Configuration) (prefix rest : List Bool) (k : ℕ) (due items : List ItemValue) → IsAccepted c
-    → AreItemsOf c prefix (take k (places_in c prefix)) due → AreItems c (prefix ++ rest) items
+pub first-items : (c : Configuration) (at then : ℕ → ℕ) (prefix rest : List Bool) (k : ℕ)
+    (due items : List ItemValue) → IsAccepted c
+    → AreItemsOf c prefix (take k (places_in c prefix)) due → HaveSymbols at due
+    → ((n : ℕ) → n < length prefix → at n ≡ then n)
+    → AreItems c (prefix ++ rest) items → HaveSymbols then items
     → (others : List ItemValue) × (items ≡ due ++ others)
-first-items c prefix rest k due items ok first all =
+first-items c at then prefix rest k due items ok first have same_at all also =
     let fs = places_in c prefix in
     let gs = drop (length fs) (places_in c (prefix ++ rest)) in
     let whole : places_in c (prefix ++ rest) ≡ take k (places_in c prefix) ++ (drop k fs ++ gs) =
@@ -81,25 +81,10 @@ first-items c prefix rest k due items ok first all =
     (subst (λ (l : List Found). AreItemsOf c (prefix ++ rest) l items) whole all) in
     let within = within-take c (length prefix) k fs (places_in-end c prefix) in
     let same : parts.first ≡ due =
-    items-same c (prefix ++ rest) (take k fs) parts.first due ok
+    items-same c then (prefix ++ rest) (take k fs) parts.first due ok
     (within-more c (length prefix) (length (prefix ++ rest)) (take k fs)
     (omega (arith, length-append prefix rest)) within)
-    parts.are_first (items-prefix c prefix rest (take k fs) due within first) in
+    parts.are_first (have-first then parts.first parts.rest (subst (HaveSymbols then) parts.parts also))
+    (items-prefix c prefix rest (take k fs) due within first)
+    (have-longer c at then (length prefix) prefix (take k fs) due first within same_at have) in
     (parts.rest, parts.parts ∙ ap (λ l. l ++ parts.rest) same)
-
--- the bits that are due stand first
-abbrev pub DueBits : Type 0
-DueBits = (c : Configuration) (phase : ℕ) (octets more : List ℕ) (due blocks : List WindowBlock) (left : ℕ)
-    → AreInnerDue c phase octets due → AreInnerBlocks c phase (octets ++ more) blocks left
-    → (rest : List Bool) × (inner_bits c (octets ++ more) blocks ≡ inner_bits c octets due ++ rest)
-
-pub due-first : DueBits → (c : Configuration) (phase : ℕ) (octets more : List ℕ) (due items : List ItemValue)
-    → IsAccepted c
-    → ReceiveDue c phase octets due → Receive c phase (octets ++ more) items → (others : List ItemValue)
-    × (items ≡ due ++ others)
-due-first bits_first c phase octets more due items ok first all =
-    let prefix = inner_bits c octets first.blocks in
-    let bits = bits_first c phase octets more first.blocks all.inner.blocks all.inner.left first.are_due
-    all.inner.are_blocks in
-    first-items c prefix bits.0 (due_count c prefix) due items ok first.are_items
-    (subst (λ (l : List Bool). AreItems c l items) (all.inner.are_bits ∙ bits.1) all.are_items)

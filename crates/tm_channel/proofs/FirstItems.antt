@@ -1,5 +1,5 @@
 -- Items that are first ones for octets stay first, whatever octets come.
-use Rattle.std.proofs.Common.{◌≡◌, ◌==◌, ◌-◌, ℕ, Bool, List, [], ◌∷◌, ◌++◌, length, take, drop, map, sym, ap, ◌∙◌, subst, Option, Some, None}
+use Rattle.std.proofs.Common.{◌≡◌, ◌==◌, ◌-◌, ℕ, Bool, List, [], ◌∷◌, ◌++◌, length, take, drop, map, refl, sym, ap, ◌∙◌, subst, Option, Some, None}
 use Rattle.std.proofs.lemmas.List.{append-nil, map-append}
 use Rattle.tm_config.specs.Configuration.{Configuration}
 use Rattle.tm_config.specs.Accepted.{IsAccepted}
@@ -9,13 +9,20 @@ use Rattle.tm_windows.specs.Windows.{AreBlocksIn}
 use Rattle.tm_viterbi.specs.Clean.{kept_bits}
 use Rattle.tm_inner.specs.Inner.{BlocksAt, plain_bits, bits_at, windows_of, soft_octets, Inner, inner_bits}
 use Rattle.tm_inner.specs.Receiving.{FirstAt}
+use Rattle.tm_inner.specs.SymbolPlaces.{symbol_at}
+use Rattle.tm_inner.proofs.FewBits.{first-of-due}
 use Rattle.tm_inner.proofs.DueBits.{StayClosed, StandFirst, drop-split, kept-append, soft-more}
 use Rattle.tm_inner.proofs.PlainBits.{plain-append}
 use Rattle.tm_sync.specs.declared.found.Found.{Found}
 use Rattle.tm_codeblock.specs.ReceivedCodeblock.{places_in}
 use Rattle.tm_channel.specs.Items.{ItemValue, AreItemsOf, AreFirstItemsOf, AreItems}
-use Rattle.tm_channel.specs.Receive.{Receive, ReceiveFirst, ReceivePrefix}
+use Rattle.tm_channel.specs.Receive.{Receive, ReceiveDue, ReceiveFirst, ReceivePrefix}
+use Rattle.tm_channel.specs.Due.{due_count}
 use Rattle.tm_channel.proofs.DueItems.{first-items}
+use Rattle.tm_channel.proofs.HandedItems.{OneBlocks}
+use Rattle.tm_channel.proofs.ReceivedOctets.{symbols-at}
+use Rattle.tm_channel.proofs.Streaming.{first-of}
+use Rattle.tm_channel.proofs.SymbolPlaces.{symbols-first}
 
 -- first items are items of as many places
 first-take : (c : Configuration) (bits : List Bool) (fs : List Found) (items : List ItemValue)
@@ -53,9 +60,25 @@ first-stand stay stand c phase octets more first items ok prefix all =
     let bits = inner_bits c octets prefix.blocks in
     let split = bits-first stay stand c.inner c phase octets more prefix.blocks all.inner.blocks all.inner.left
     prefix.are_first all.inner.are_blocks in
-    first-items c bits split.0 (length first) first items ok
-    (first-take c bits (places_in c bits) first prefix.are_items)
-    (subst (λ (l : List Bool). AreItems c l items) (all.inner.are_bits ∙ split.1) all.are_items)
+    first-items c (symbol_at c phase prefix.blocks) (symbol_at c phase all.inner.blocks) bits split.0 (length first) first
+    items ok (first-take c bits (places_in c bits) first prefix.are_items) prefix.symbols
+    (symbols-first stay stand c phase octets more prefix.blocks all.inner.blocks all.inner.left prefix.are_first
+    all.inner.are_blocks)
+    (subst (λ (l : List Bool). AreItems c l items) (all.inner.are_bits ∙ split.1) all.are_items) all.symbols
+
+-- those that are due are first ones
+pub due-stand : StayClosed → StandFirst → (c : Configuration) (phase : ℕ) (octets more : List ℕ)
+    (due items : List ItemValue) → IsAccepted c
+    → ReceiveDue c phase octets due → Receive c phase (octets ++ more) items → (rest : List ItemValue)
+    × (items ≡ due ++ rest)
+due-stand stay stand c phase octets more due items ok p all =
+    let bits = inner_bits c octets p.blocks in
+    first-stand stay stand c phase octets more due items ok (record {
+      blocks = p.blocks;
+      are_first = first-of-due c phase octets p.blocks p.are_due;
+      are_items = first-of c bits (due_count c bits) (places_in c bits) due p.are_items;
+      symbols = p.symbols;
+    }) all
 
 -- octets come to one list of bits
 abbrev pub OneList : Type 0
@@ -63,14 +86,17 @@ OneList =
     (c : Configuration) (phase : ℕ) (octets : List ℕ) (bits others : List Bool) → Inner c phase octets bits
     → Inner c phase octets others → bits ≡ others
 
-pub prefix-stand : OneList → (c : Configuration) (phase : ℕ) (octets : List ℕ) (first items : List ItemValue)
+pub prefix-stand : OneList → OneBlocks → (c : Configuration) (phase : ℕ) (octets : List ℕ) (first items : List ItemValue)
     → IsAccepted c
     → ReceivePrefix c phase octets first → Receive c phase octets items → (rest : List ItemValue)
     × (items ≡ first ++ rest)
-prefix-stand one c phase octets first items ok prefix all =
+prefix-stand one blocks c phase octets first items ok prefix all =
     let bits = prefix.bits in
     let same : all.bits ≡ bits ++ [] = one c phase octets all.bits bits all.inner prefix.inner
     ∙ sym (append-nil bits) in
-    first-items c bits [] (length first) first items ok (first-take c bits
+    let at = symbol_at c phase all.inner.blocks in
+    first-items c at at bits [] (length first) first items ok (first-take c bits
     (places_in c bits) first prefix.are_items)
-    (subst (λ (l : List Bool). AreItems c l items) same all.are_items)
+    (symbols-at blocks c phase octets prefix.bits all.bits first prefix.inner all.inner prefix.symbols)
+    (λ n below. refl)
+    (subst (λ (l : List Bool). AreItems c l items) same all.are_items) all.symbols

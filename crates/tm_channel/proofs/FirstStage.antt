@@ -1,8 +1,8 @@
 -- The first stage of a receiver: octets that are put in, runs of windows, and the phase, which is
 -- read once, before all blocks.
-use Rattle.std.proofs.Common.{◌≡◌, ◌⊎◌, ℕ, zero, suc, inl, inr, Bool, true, false, if◌then◌else◌, List, [], ◌∷◌, ◌++◌, ◌+◌, ◌<◌, ◌≤◌, ◌^◌, length, map, take, refl, sym, ap, ◌∙◌, subst, arith, append_assoc, Option, Some, None}
+use Rattle.std.proofs.Common.{◌≡◌, ◌==◌, ◌⊎◌, ℕ, zero, suc, inl, inr, Bool, true, false, if◌then◌else◌, List, [], ◌∷◌, ◌++◌, ◌+◌, ◌*◌, ◌<◌, ◌≤◌, ◌^◌, length, map, take, drop, refl, sym, ap, ◌∙◌, subst, arith, append_assoc, length-append, Option, Some, None}
 use Rattle.std.specs.Option.{is_some}
-use Rattle.std.proofs.lemmas.List.{append-nil, length-take-le, map-append}
+use Rattle.std.proofs.lemmas.List.{append-nil, length-map, length-take-le, map-append}
 use Rattle.tm_base.specs.Handed.{Handed, Item, on_handed}
 use Rattle.tm_base.specs.Takers.{HandedOver}
 use Rattle.tm_base.proofs.Handing.{HandedPart-after}
@@ -10,19 +10,35 @@ use Rattle.tm_base.proofs.HandedItems.{HandedPart-items}
 use Rattle.tm_config.specs.Configuration.{Configuration}
 use Rattle.tm_config.specs.declared.values.Sought.TheVariants.{Given}
 use Rattle.tm_config.proofs.Choices.{given_or_find, never_both}
+use Rattle.tm_conv.specs.declared.rates.Rate.{Rate}
 use Rattle.tm_viterbi.specs.WindowBlock.{WindowBlock}
+use Rattle.tm_viterbi.specs.Clean.{kept_bits}
+use Rattle.tm_windows.specs.Windows.{AreFirstIn, Followed, Spot, Windows, dropped_of, first_spot, kept_of}
+use Rattle.tm_windows.proofs.FollowedRuns.{kept-append}
+use Rattle.tm_windows.proofs.KeptBits.{bits-append, followed-keep, followed-later}
 use Rattle.tm_windows.specs.declared.choosing.Chosen.{Chosen}
 use Rattle.tm_windows.specs.Queue.{Queueing}
-use Rattle.tm_inner.specs.Inner.{AreInnerBlocks, inner_bits, reported_slips}
+use Rattle.tm_inner.specs.Inner.{AreInnerBlocks, inner_bits, reported_slips, soft_octets, windows_of}
 use Rattle.tm_inner.specs.Phase.{IsChosen, IsChosenBy, IsChosenSoFar, IsSettled, WithPhaseSoFar, phase_octets, skip_of, with_phase}
-use Rattle.tm_inner.specs.InnerDecoding.{DecodesFor, InnerDecoderStandsFor, InnerDecoding, IsQueueOf, has_phase_now, unread}
-use Rattle.tm_inner.specs.Receiving.{HasRead}
+use Rattle.tm_inner.specs.InnerDecoding.{DecodesFor, InnerDecoderStandsFor, InnerDecoding, IsQueueOf, has_phase_now, lost_in, origin_in, unread}
+use Rattle.tm_inner.specs.Receiving.{FirstAt, HasRead}
+use Rattle.tm_inner.specs.SymbolPlaces.{origin_by, symbol_at}
+use Rattle.tm_inner.proofs.Decoders.{stands-first}
+use Rattle.tm_inner.proofs.FollowedBits.{followed-few}
+use Rattle.tm_inner.proofs.ReceivedBits.{length-soft}
+use Rattle.tm_inner.proofs.SymbolPlaces.{symbol-stays}
+use Rattle.tm_channel.specs.Origins.{AreAt, place_symbol}
+use Rattle.tm_channel.specs.Receiving.{AreDue, AreFirstDue, GoesOn as ReceivingGoesOn}
 use Rattle.tm_inner.proofs.DecoderReads.{all-read, read-all, read-on, read-run}
 use Rattle.tm_inner.proofs.PhasePieces.{further}
 use Rattle.tm_channel.specs.Items.{ItemValue}
-use Rattle.tm_channel.specs.OctetReceiving.{BitReceiving, Decoded, DecodedPart, Decodes, Received, ReceivedPart, Stages, bits_of_blocks}
+use Rattle.tm_channel.specs.OctetReceiving.{BitReceiving, BitReceiverStandsFor, Decoded, DecodedPart, Decodes, DecodesSymbols, Notes, NotesOrigin, Received, ReceivedAt, ReceivedPart, ReceivedPartAt, SayFirstSymbols, SaySymbols, Stages, SymbolsFor, bits_of_blocks}
 use Rattle.tm_channel.proofs.PhasedItems.{prefix-nil}
-use Rattle.tm_channel.proofs.ReceivedPieces.{all_bits-append, part-then, received-then}
+use Rattle.tm_channel.proofs.KeptSymbols.{stands-noted, symbols-then}
+use Rattle.tm_channel.proofs.ReceivedPieces.{all_bits-append, part-noted, part-then, received-none, received-noted, received-then, say-first-then, say-then}
+use Rattle.tm_channel.proofs.RunSymbols.{RunOf, noted-plain, run-on, run-part, some-rate, symbols-chosen}
+use Rattle.tm_channel.proofs.SymbolPlaces.{bits-kept}
+use Rattle.tm_channel.proofs.Symbols.{at-longer}
 
 -- ---- the phase that is kept
 
@@ -220,6 +236,12 @@ pub record Running {T : Type 0} (took_phase : T → ℕ → ℕ → T → Type 0
   pub middle : T
   pub phased : HandedOver (on_handed {I = ItemValue} took_phase took) taker (with_phase phase []) middle
   pub received : Received took before.bits now.bits middle taker_now (bits_of_blocks blocks)
+  pub stands : (given : List ℕ) (done : List WindowBlock) → InnerDecoderStandsFor before.inner given done
+      → InnerDecoderStandsFor now.inner given (done ++ (blocks ++ ready))
+  pub later : dropped_of (drop 1 ready) ≡ 0
+  pub symbols : DecodesSymbols before now blocks received.items
+  pub plain : before.bits.batch.config.inner ≡ None
+      → SaySymbols before.bits now.bits (bits_of_blocks blocks) received.items
 
 some-blocks : (phase : Option Chosen) (blocks ready : List WindowBlock) → 0 < length ready
     → with_phase phase [] ++ map Item (blocks ++ ready) ≡ [] → ⊥
@@ -228,14 +250,220 @@ some-blocks None [] [] some none = omega (arith, some)
 some-blocks None [] (x ∷ ready) some none = cc
 some-blocks None (x ∷ blocks) ready some none = cc
 
+-- once blocks are decoded the phase stays
+pub phase-stays : (before now : InnerDecoding) (given longer : List ℕ) (done all : List WindowBlock)
+    → now.config ≡ before.config
+    → Stays before.chosen now.chosen → InnerDecoderStandsFor before given done → InnerDecoderStandsFor now longer all
+    → (now.chosen ≡ before.chosen) ⊎ (done ≡ [])
+phase-stays before now given longer done all config stays stood stands =
+    go before.chosen stays (choice-of before.config before given done refl stood)
+    (choice-of before.config now longer all config stands)
+  where
+    go : (chosen : Option Chosen) → Stays chosen now.chosen
+        → IsChoice before.config (phase_octets before.config given) chosen done
+        → IsChoice before.config (phase_octets before.config longer) now.chosen all
+        → (now.chosen ≡ chosen) ⊎ (done ≡ [])
+    go (Some chosen) stays choice choice_now = inl (stays chosen refl)
+    go None stays (inl none) choice_now = inr none.1
+    go None stays (inr is) choice_now =
+        inl (given-none before.config (phase_octets before.config longer) now.chosen all is choice_now)
+
+-- what is noted before the bits of a run
+abbrev pub NotesRun : InnerDecoding → BitReceiving → BitReceiving → ℕ → Type 0
+NotesRun d r m origin = Notes r m × ((rate : Rate) → NotesOrigin r m rate origin) × (origin ≡ origin_in d)
+    × (origin < 2 ^ 63 + 2 ^ 62)
+
+-- the bits of the blocks are as many as their windows keep, and no more than octets were given
+pub first-kept : (d : InnerDecoding) (given : List ℕ) (done : List WindowBlock) (rate : Rate) → d.config.inner ≡ Some rate
+    → InnerDecoderStandsFor d given done → (w : Windows) × (w.settings.keep ≡ d.config.keep)
+    × ((to : Spot) × ((from : Spot) × Followed w from done to))
+    × (length (bits_of_blocks done) < 2 ^ 60)
+first-kept d given done rate is stands =
+    let c = d.config in
+    let phase = skip_of d.chosen in
+    let soft = soft_octets c phase given in
+    let w = windows_of c rate in
+    let first : AreFirstIn w soft done =
+    subst (λ (o : Option Rate). FirstAt o c phase given done) is (stands-first d given done stands) in (
+      w,
+      refl,
+      (first.0, (first_spot w soft, first.1)),
+      omega (
+        arith,
+        followed-few w soft done first,
+        length-soft c phase given,
+        length-map (kept_bits done) (λ bit. bit == 1),
+        stands.few,
+      ),
+    )
+
+pub origin-coded : (d : InnerDecoding) (rate : Rate) (lost : ℕ) → d.config.inner ≡ Some rate → lost_in d.queue ≡ lost
+    → origin_in d ≡ d.config.skip + skip_of d.chosen + lost
+origin-coded d rate lost is dropped =
+    ap (λ (o : Option Rate). origin_by o d.config (skip_of d.chosen) (lost_in d.queue)) is
+    ∙ ap (λ k. d.config.skip + skip_of d.chosen + k) dropped
+
+-- what is known of the run
+run-of : (d : InnerDecoding) (given : List ℕ) (done ready : List WindowBlock) (r m : BitReceiving) (origin : ℕ)
+    (rate : Rate) → d.config.inner ≡ Some rate → r.batch.config ≡ d.config → dropped_of (drop 1 ready) ≡ 0
+    → InnerDecoderStandsFor d given (done ++ ready) → NotesRun d r m origin
+    → RunOf rate (skip_of d.chosen) origin done ready r m
+    × ((0 < length ready) → length (bits_of_blocks done) + d.config.keep ≤ length (bits_of_blocks (done ++ ready)))
+run-of d given done ready r m origin rate is same later stands noted =
+    let k = first-kept d given (done ++ ready) rate is stands in
+    let w = k.0 in
+    let all = followed-keep w k.2.1.0 k.2.0 (done ++ ready) k.2.1.1 in
+    let rest = followed-later w k.2.1.0 k.2.0 done ready k.2.1.1 in
+    let is_one : ℕ → Bool = λ bit. bit == 1 in
+    let both = bits-append done ready in
+    let here : length (kept_bits done) ≡ kept_of done =
+    omega (arith, all, both, kept-append done ready, bits-kept done, bits-kept ready) in
+    let size = length-map (kept_bits done) is_one in
+    let size_all = length-map (kept_bits (done ++ ready)) is_one in (
+      record {
+        rate_is = ap (λ (v : Configuration). v.inner) same ∙ is;
+        notes = noted.0;
+        noted = noted.1 rate;
+        origin_is = noted.2 ∙ origin-coded d rate (dropped_of (done ++ ready)) is stands.lost
+            ∙ ap (λ (v : Configuration). v.skip + skip_of d.chosen + dropped_of (done ++ ready)) (sym same);
+        few_dropped = noted.3;
+        later = later;
+        kept = size ∙ here;
+        few = k.3;
+      },
+      λ some. let one : w.settings.keep ≤ length ready * w.settings.keep = at-least (length ready) w.settings.keep some in
+          omega (arith, size, size_all, both, rest, one, k.1),
+    )
+  where
+    at-least : (n keep : ℕ) → 0 < n → keep ≤ n * keep
+    at-least zero keep some = absurd (omega (arith, some))
+    at-least (suc n) keep some = omega arith
+
+-- the phase of blocks, of which there is one, stays
+chosen-still : (before now : InnerDecoding) (given : List ℕ) (done all : List WindowBlock) → now.config ≡ before.config
+    → Stays before.chosen now.chosen → InnerDecoderStandsFor before given done → InnerDecoderStandsFor now given all
+    → (done ≡ [] → ⊥) → now.chosen ≡ before.chosen
+chosen-still before now given done all config stays stood stands some =
+    elim (phase-stays before now given given done all config stays stood stands) as (λ _. now.chosen ≡ before.chosen) [
+      | inl same ↦ same
+      | inr none ↦ absurd (some none)
+    ]
+
+some-length : (blocks : List WindowBlock) → 0 < length blocks → blocks ≡ [] → ⊥
+some-length [] some none = omega (arith, some)
+some-length (x ∷ blocks) some none = cc
+
+-- they have few bits
+few-of : (a b : Stages) (given : List ℕ) (done blocks ready : List WindowBlock) (rate : Rate)
+    → b.inner.config.inner ≡ Some rate → InnerDecoderStandsFor b.inner given (done ++ (blocks ++ ready))
+    → length (bits_of_blocks done ++ bits_of_blocks blocks) < 2 ^ 63
+few-of a b given done blocks ready rate is stands =
+    let k = first-kept b.inner given (done ++ (blocks ++ ready)) rate is stands in
+    let all = all_bits-append done (blocks ++ ready) in
+    let rest = all_bits-append blocks ready in
+    omega (
+      arith,
+      k.3,
+      ap length all,
+      ap length rest,
+      length-append (bits_of_blocks done) (bits_of_blocks (blocks ++ ready)),
+      length-append (bits_of_blocks blocks) (bits_of_blocks ready),
+      length-append (bits_of_blocks done) (bits_of_blocks blocks),
+    )
+
+-- the same bits
+unfoldable pub received-by : {T : Type 0} (took : T → ItemValue → T → Type 0) (a b : BitReceiving) (taker now : T)
+    (bits others : List Bool) → bits ≡ others → Received took a b taker now bits → Received took a b taker now others
+received-by took a b taker now bits others same p = record {
+  config = p.config;
+  stands = subst (λ l. ReceivingGoesOn (BitReceiverStandsFor a) (BitReceiverStandsFor b) l) same p.stands;
+  items = p.items;
+  handed = p.handed;
+  due = subst (λ l. AreDue a.batch.config (BitReceiverStandsFor a) l p.items) same p.due;
+}
+
+unfoldable pub part-by : {T : Type 0} (took broke : T → ItemValue → T → Type 0) (a b : BitReceiving) (taker now : T)
+    (bits others : List Bool) → bits ≡ others → ReceivedPart took broke a b taker now bits
+    → ReceivedPart took broke a b taker now others
+part-by took broke a b taker now bits others same p = record {
+  config = p.config;
+  tried = p.tried;
+  handed = p.handed;
+  first = subst (λ l. AreFirstDue a.batch.config (BitReceiverStandsFor a) l p.tried) same p.first;
+}
+
+-- with no inner code a note changes no symbol
+say-noted : (r m now : BitReceiving) (bits : List Bool) (items : List ItemValue) → r.batch.config.inner ≡ None
+    → Notes r m → SaySymbols m now bits items → SaySymbols r now bits items
+say-noted r m now bits items none notes says = λ given count at few le stood h.
+    says given count at few le (stands-noted r m given notes stood) (noted-plain r m count at none notes h)
+
+say-first-noted : (r m : BitReceiving) (bits : List Bool) (tried : List ItemValue) → r.batch.config.inner ≡ None
+    → Notes r m → SayFirstSymbols m bits tried → SayFirstSymbols r bits tried
+say-first-noted r m bits tried none notes says = λ given count at few le stood h.
+    says given count at few le (stands-noted r m given notes stood) (noted-plain r m count at none notes h)
+
+-- whether the phase was read does not matter
+stands-read : (d : InnerDecoding) (read : Bool) (given : List ℕ) (blocks : List WindowBlock)
+    → InnerDecoderStandsFor d given blocks → InnerDecoderStandsFor (record d { has_phase = read }) given blocks
+stands-read d read given blocks s = record {
+  of = s.of;
+  same = s.same;
+  count = s.count;
+  few = s.few;
+  decodes = s.decodes;
+  lost = s.lost;
+  choice = s.choice;
+}
+
+-- the first run was decoded, and the phase read
+pub running-start : {T : Type 0} (took_phase : T → ℕ → ℕ → T → Type 0) (took : T → ItemValue → T → Type 0)
+    (a b c : InnerDecoding) (bits : BitReceiving) (taker taker_now : T) (ready : List WindowBlock) → Runs a b ready
+    → c ≡ record b { has_phase = has_phase_now b } → dropped_of (drop 1 ready) ≡ 0
+    → HandedOver (on_handed {I = ItemValue} took_phase took) taker (with_phase (unread b) []) taker_now
+    → Running took_phase took (record { inner = a; bits = bits }) (record { inner = c; bits = bits }) taker taker_now ready
+unfolding received-none
+running-start took_phase took a b c bits taker taker_now ready run is later phased =
+    let stands : (given : List ℕ) (done : List WindowBlock) → InnerDecoderStandsFor a given done
+    → InnerDecoderStandsFor c given (done ++ ready) = λ given done stood.
+    subst (λ (d : InnerDecoding). InnerDecoderStandsFor d given (done ++ ready)) (sym is)
+    (stands-read b (has_phase_now b) given (done ++ ready) (run.stands given done stood).0) in
+    let decodes = decodes-first a b c ready run is in
+    record {
+      phase = unread b;
+      blocks = [];
+      decodes = decodes;
+      middle = taker_now;
+      phased = phased;
+      received = received-none took bits taker_now;
+      stands = stands;
+      later = later;
+      symbols = λ given done stood coded of bits_stand known. (
+        subst (λ (l : List WindowBlock). SymbolsFor a.config (skip_of c.chosen) l (length (bits_of_blocks l)) bits)
+            (sym (append-nil done))
+            (symbols-chosen a.config a.chosen c.chosen done bits
+            (phase-stays a c given given done (done ++ ready) decodes.config decodes.kept stood (stands given done stood))
+            known),
+        tt,
+      );
+      plain = λ none bits count at few le stood h. (h, tt);
+    }
+
 -- the bits of the blocks that were ready are received, and further ones are decoded
 pub running-more : {T : Type 0} (took_phase : T → ℕ → ℕ → T → Type 0) (took : T → ItemValue → T → Type 0)
-    (a b : Stages) (now : InnerDecoding) (bits_now : BitReceiving) (taker middle taker_now : T)
+    (a b : Stages) (now : InnerDecoding) (noted bits_now : BitReceiving) (origin : ℕ) (taker middle taker_now : T)
     (ready next : List WindowBlock) → Running took_phase took a b taker middle ready → 0 < length ready
-    → Received took b.bits bits_now middle taker_now (bits_of_blocks ready) → Runs b.inner now next
+    → NotesRun b.inner b.bits noted origin
+    → ReceivedAt took noted bits_now middle taker_now (bits_of_blocks ready) → Runs b.inner now next
+    → dropped_of (drop 1 next) ≡ 0
     → Running took_phase took a (record { inner = now; bits = bits_now }) taker taker_now next
-running-more took_phase took a b now bits_now taker middle taker_now ready next r some received run =
+unfolding received-by received-then received-noted
+running-more took_phase took a b now noted bits_now origin taker middle taker_now ready next r some notes p run later =
     let more = with_phase r.phase [] ++ map Item (r.blocks ++ ready) in
+    let blocks = all_bits-append r.blocks ready in
+    let received = received-noted took b.bits noted bits_now middle taker_now (bits_of_blocks ready) notes.0 p.received in
+    let all = received-then took a.bits b.bits bits_now r.middle middle taker_now (bits_of_blocks r.blocks)
+    (bits_of_blocks ready) r.received received in
     record {
       phase = r.phase;
       blocks = r.blocks ++ ready;
@@ -246,10 +474,61 @@ running-more took_phase took a b now bits_now taker middle taker_now ready next 
           (decodes-more a.inner b.inner now more next r.decodes (some-blocks r.phase r.blocks ready some) run);
       middle = r.middle;
       phased = r.phased;
-      received =
-          subst (Received took a.bits bits_now r.middle taker_now) (sym (all_bits-append r.blocks ready))
-          (received-then took a.bits b.bits bits_now r.middle middle taker_now (bits_of_blocks r.blocks)
-          (bits_of_blocks ready) r.received received);
+      received = received-by took a.bits bits_now r.middle taker_now (bits_of_blocks r.blocks ++ bits_of_blocks ready)
+          (bits_of_blocks (r.blocks ++ ready)) (sym blocks) all;
+      stands = λ given done stood. subst (InnerDecoderStandsFor now given)
+          (append_assoc done (r.blocks ++ ready) next)
+          (run.stands given (done ++ (r.blocks ++ ready)) (r.stands given done stood)).0;
+      later = later;
+      symbols = λ given done stood coded of stands known.
+          let c = a.inner.config in
+          let was = r.symbols given done stood coded of stands known in
+          let front = done ++ r.blocks in
+          let here = r.stands given done stood in
+          let here_too = subst (InnerDecoderStandsFor b.inner given) (sym (append_assoc done r.blocks ready)) here in
+          let there = (run.stands given (done ++ (r.blocks ++ ready)) here).0 in
+          let rate = some-rate c.inner coded in
+          let rate_is = ap (λ (v : Configuration). v.inner) r.decodes.config ∙ rate.1 in
+          let same : b.bits.batch.config ≡ b.inner.config = r.received.config ∙ of ∙ sym r.decodes.config in
+          let it = run-of b.inner given front ready b.bits noted origin rate.0 rate_is same r.later here_too notes in
+          let bits = subst (BitReceiverStandsFor b.bits) (sym (all_bits-append done r.blocks))
+          (r.received.stands (bits_of_blocks done) (few-of a b given done r.blocks ready rate.0 rate_is here) stands) in
+          let phase = skip_of b.inner.chosen in
+          let next_at = run-on c rate.0 phase origin front ready b.bits noted bits_now p.received.items
+          (r.received.config ∙ of) (p.received.config ∙ ap (λ (v : BitReceiving). v.batch.config) notes.0) p.origins it.0
+          p.symbols bits
+          (let apart = it.1 some in omega (arith, apart, ap (λ (v : Configuration). v.keep) r.decodes.config)) was.0 in
+          let long : length (bits_of_blocks front) ≤ length (bits_of_blocks (front ++ ready)) =
+          omega (
+            arith,
+            ap length (all_bits-append front ready),
+            length-append (bits_of_blocks front) (bits_of_blocks ready),
+          ) in
+          let stay : now.chosen ≡ b.inner.chosen =
+          chosen-still b.inner now given (done ++ (r.blocks ++ ready)) ((done ++ (r.blocks ++ ready)) ++ next)
+          run.on.config run.on.stays here there
+          (λ none. some-length (r.blocks ++ ready) (omega (arith, some, length-append r.blocks ready))
+          (prefix-nil done (r.blocks ++ ready) none).1) in
+          let before = at-longer (symbol_at c phase front) (symbol_at c phase (front ++ ready))
+          (length (bits_of_blocks front)) (length (bits_of_blocks (front ++ ready))) (map place_symbol r.received.items)
+          long (λ n below. symbol-stays c phase n front ready (omega (arith, below, it.0.kept))) was.1 in
+          subst (λ (l : List WindowBlock). SymbolsFor c (skip_of now.chosen) l (length (bits_of_blocks l)) bits_now
+          × AreAt (symbol_at c (skip_of now.chosen) l) (length (bits_of_blocks l))
+          (map place_symbol (r.received.items ++ p.received.items))) (append_assoc done r.blocks ready)
+          (subst (λ (o : Option Chosen). SymbolsFor c (skip_of o) (front ++ ready)
+          (length (bits_of_blocks (front ++ ready))) bits_now
+          × AreAt (symbol_at c (skip_of o) (front ++ ready)) (length (bits_of_blocks (front ++ ready)))
+          (map place_symbol (r.received.items ++ p.received.items))) (sym stay) (
+            next_at.0,
+            symbols-then (symbol_at c phase (front ++ ready)) (length (bits_of_blocks (front ++ ready)))
+                r.received.items p.received.items before next_at.1,
+          ));
+      plain = λ none.
+          subst (λ (l : List Bool). SaySymbols a.bits bits_now l (r.received.items ++ p.received.items)) (sym blocks)
+          (say-then a.bits b.bits bits_now (bits_of_blocks r.blocks) (bits_of_blocks ready) r.received.items
+          p.received.items r.received.stands (r.plain none)
+          (say-noted b.bits noted bits_now (bits_of_blocks ready) p.received.items
+          (ap (λ (v : Configuration). v.inner) r.received.config ∙ none) notes.0 p.symbols));
     }
 
 -- none is ready
@@ -265,30 +544,71 @@ running-none took_phase took a b taker taker_now [] r none = record {
   middle = r.middle;
   phased = r.phased;
   received = r.received;
+  symbols = r.symbols;
+  plain = r.plain;
 }
 running-none took_phase took a b taker taker_now (x ∷ ready) r none = absurd cc
 
 -- the taker fails at an item that is due with the bits of those that are ready
 pub running-part : {T : Type 0} (took_phase broke_phase : T → ℕ → ℕ → T → Type 0)
-    (took broke : T → ItemValue → T → Type 0) (a b : Stages) (bits_now : BitReceiving) (taker middle taker_now : T)
-    (ready : List WindowBlock) → Running took_phase took a b taker middle ready
-    → ReceivedPart took broke b.bits bits_now middle taker_now (bits_of_blocks ready)
+    (took broke : T → ItemValue → T → Type 0) (a b : Stages) (noted bits_now : BitReceiving) (origin : ℕ)
+    (taker middle taker_now : T)
+    (ready : List WindowBlock) → Running took_phase took a b taker middle ready → NotesRun b.inner b.bits noted origin
+    → ReceivedPartAt took broke noted bits_now middle taker_now (bits_of_blocks ready)
     → DecodedPart took_phase broke_phase took broke a (record { inner = b.inner; bits = bits_now }) taker taker_now
-running-part took_phase broke_phase took broke a b bits_now taker middle taker_now ready r part =
-    let p = part-then took broke a.bits b.bits bits_now r.middle middle taker_now (bits_of_blocks r.blocks)
+unfolding part-by part-then part-noted
+running-part took_phase broke_phase took broke a b noted bits_now origin taker middle taker_now ready r notes p =
+    let blocks = all_bits-append r.blocks ready in
+    let part = part-noted took broke b.bits noted bits_now middle taker_now (bits_of_blocks ready) notes.0 p.part in
+    let first = part-then took broke a.bits b.bits bits_now r.middle middle taker_now (bits_of_blocks r.blocks)
     (bits_of_blocks ready) r.received part in
-    let all = subst (ReceivedPart took broke a.bits bits_now r.middle taker_now)
-    (sym (all_bits-append r.blocks ready)) p in
+    let all = part-by took broke a.bits bits_now r.middle taker_now (bits_of_blocks r.blocks ++ bits_of_blocks ready)
+    (bits_of_blocks (r.blocks ++ ready)) (sym blocks) first in
     record {
       phase = r.phase;
       blocks = r.blocks ++ ready;
       decodes = r.decodes;
-      tried = all.tried;
+      tried = r.received.items ++ p.part.tried;
       handed =
           HandedPart-after (on_handed took_phase took) (on_handed broke_phase broke) taker r.middle taker_now
-          (with_phase r.phase []) (map Item all.tried) r.phased
-          (HandedPart-items took_phase broke_phase took broke r.middle taker_now all.tried all.handed);
+          (with_phase r.phase []) (map Item (r.received.items ++ p.part.tried)) r.phased
+          (HandedPart-items took_phase broke_phase took broke r.middle taker_now (r.received.items ++ p.part.tried)
+          all.handed);
       first = all.first;
+      symbols = λ given done stood coded of stands known.
+          let c = a.inner.config in
+          let was = r.symbols given done stood coded of stands known in
+          let front = done ++ r.blocks in
+          let here = r.stands given done stood in
+          let here_too = subst (InnerDecoderStandsFor b.inner given) (sym (append_assoc done r.blocks ready)) here in
+          let rate = some-rate c.inner coded in
+          let rate_is = ap (λ (v : Configuration). v.inner) r.decodes.config ∙ rate.1 in
+          let same : b.bits.batch.config ≡ b.inner.config = r.received.config ∙ of ∙ sym r.decodes.config in
+          let it = run-of b.inner given front ready b.bits noted origin rate.0 rate_is same r.later here_too notes in
+          let bits = subst (BitReceiverStandsFor b.bits) (sym (all_bits-append done r.blocks))
+          (r.received.stands (bits_of_blocks done) (few-of a b given done r.blocks ready rate.0 rate_is here) stands) in
+          let phase = skip_of b.inner.chosen in
+          let next_at = run-part c rate.0 phase origin front ready b.bits noted p.part.tried
+          (r.received.config ∙ of) it.0 p.symbols bits was.0 in
+          let long : length (bits_of_blocks front) ≤ length (bits_of_blocks (front ++ ready)) =
+          omega (
+            arith,
+            ap length (all_bits-append front ready),
+            length-append (bits_of_blocks front) (bits_of_blocks ready),
+          ) in
+          let before = at-longer (symbol_at c phase front) (symbol_at c phase (front ++ ready))
+          (length (bits_of_blocks front)) (length (bits_of_blocks (front ++ ready))) (map place_symbol r.received.items)
+          long (λ n below. symbol-stays c phase n front ready (omega (arith, below, it.0.kept))) was.1 in
+          subst (λ (l : List WindowBlock). AreAt (symbol_at c phase l) (length (bits_of_blocks l))
+          (map place_symbol (r.received.items ++ p.part.tried))) (append_assoc done r.blocks ready)
+          (symbols-then (symbol_at c phase (front ++ ready)) (length (bits_of_blocks (front ++ ready)))
+          r.received.items p.part.tried before next_at);
+      plain = λ none.
+          subst (λ (l : List Bool). SayFirstSymbols a.bits l (r.received.items ++ p.part.tried)) (sym blocks)
+          (say-first-then a.bits b.bits (bits_of_blocks r.blocks) (bits_of_blocks ready) r.received.items p.part.tried
+          r.received.stands (r.plain none)
+          (say-first-noted b.bits noted (bits_of_blocks ready) p.part.tried
+          (ap (λ (v : Configuration). v.inner) r.received.config ∙ none) notes.0 p.symbols));
     }
 
 -- ---- what was read is handed over
@@ -356,13 +676,13 @@ settles-of before now on ended stands =
     record { on = on; ended = ended; stands = λ given blocks stood. (stands given blocks stood).0 }
 
 -- the last window is decoded
-abbrev pub Ending : InnerDecoding → List WindowBlock → ℕ → ℕ → Option ℕ → Type 0
-Ending d ready left bits slips =
+abbrev pub Ending : InnerDecoding → Option Queueing → List WindowBlock → ℕ → ℕ → Option ℕ → Type 0
+Ending d queue ready left bits slips =
     (given : List ℕ) (blocks : List WindowBlock) → InnerDecoderStandsFor d given blocks
     → IsChosen d.config given d.chosen
     → AreInnerBlocks d.config (skip_of d.chosen) given (blocks ++ ready) left
     × (bits ≡ length (inner_bits d.config given (blocks ++ ready)))
-    × (slips ≡ reported_slips d.config (blocks ++ ready))
+    × (slips ≡ reported_slips d.config (blocks ++ ready)) × (lost_in queue ≡ dropped_of (blocks ++ ready))
 
 pub chosen-ended : (d : InnerDecoding) (given : List ℕ) (blocks : List WindowBlock)
     → InnerDecoderStandsFor d given blocks → d.has_ended ≡ true → IsChosen d.config given d.chosen

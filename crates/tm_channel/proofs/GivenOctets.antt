@@ -14,11 +14,12 @@ use Rattle.tm_config.specs.Accepted.{IsAccepted}
 use Rattle.tm_config.proofs.Choices.{never_both}
 use Rattle.tm_conv.specs.declared.rates.Rate.{Rate}
 use Rattle.tm_viterbi.specs.WindowBlock.{WindowBlock}
-use Rattle.tm_windows.specs.Windows.{AreFirstIn}
+use Rattle.tm_windows.specs.Queue.{Queueing}
+use Rattle.tm_windows.specs.Windows.{AreFirstIn, dropped_of}
 use Rattle.tm_viterbi.specs.Clean.{kept_bits}
 use Rattle.tm_windows.specs.declared.choosing.Chosen.{Chosen}
 use Rattle.tm_inner.specs.Inner.{BlocksAt, plain_bits, plain_count, bits_at, windows_of, soft_value, soft_octets, AreInnerBlocks, AreInnerDue, Inner, inner_bits, reported_slips}
-use Rattle.tm_inner.specs.InnerDecoding.{InnerDecoding, InnerDecoderStandsFor, IsDrained, unread}
+use Rattle.tm_inner.specs.InnerDecoding.{InnerDecoding, InnerDecoderStandsFor, IsDrained, lost_in, unread}
 use Rattle.tm_inner.specs.Phase.{IsChosenBy, IsChosen, IsSettled, needed_at, skipped_at, phase_octets, skip_of, with_phase, IsChosenSoFar, WithPhase, WithPhaseSoFar}
 use Rattle.tm_inner.specs.Handing.{AreHanded, AreHandedDue}
 use Rattle.tm_inner.specs.Receiving.{FirstAt, AreInnerFirst, Hands, HandsPrefix, HasRead}
@@ -32,20 +33,26 @@ use Rattle.tm_inner.proofs.Decoders.{stands-first}
 use Rattle.tm_inner.proofs.DecoderReads.{handed-due, read-all}
 use Rattle.tm_sync.specs.declared.found.Found.{Found}
 use Rattle.tm_codeblock.specs.ReceivedCodeblock.{places_in}
-use Rattle.tm_channel.specs.Items.{ItemValue, AreItemsOf, AreFirstItemsOf, AreItems}
+use Rattle.tm_inner.specs.SymbolPlaces.{symbol_at}
+use Rattle.tm_channel.specs.Items.{ItemValue, AreItemsOf, AreFirstItemsOf, AreItems, HaveSymbols}
+use Rattle.tm_channel.specs.Origins.{AreAt, place_symbol}
 use Rattle.tm_channel.specs.Due.{due}
 use Rattle.tm_channel.specs.declared.totals.Totals.{Totals}
 use Rattle.tm_channel.specs.Handing.{totals_of, phase_of, AreReceived, AreReceivedDue, AreReceivedFirst, AreReceivedPrefix}
 use Rattle.tm_channel.specs.Most.{AreFew}
 use Rattle.tm_channel.specs.Receiving.{waiting_bits, AreFurther, AreFirstFurther, AreFirstDue}
-use Rattle.tm_channel.specs.OctetReceiving.{BitReceiving, FirstWith, BitReceiverStandsFor, Stages, StagesFor, StagesHand, StagesOn, AreSpare, Decodes, Decoded, DecodedPart, Received, ReceivedPart, ReceivedLast, ReceivedLastPart, bits_of_blocks}
+use Rattle.tm_channel.specs.OctetReceiving.{BitReceiving, FirstWith, BitReceiverStandsFor, Stages, StagesFor, StagesHand, StagesOn, AreSpare, Decodes, Decoded, DecodedPart, Received, ReceivedPart, ReceivedLast, ReceivedLastPart, SymbolsFor, bits_of_blocks}
 use Rattle.tm_channel.proofs.Streaming.{first-longer, first-more, first-then, items-then}
 use Rattle.tm_channel.proofs.AllBits.{beyond-nil, all-items, some-items, few-items, due-nil}
 use Rattle.tm_channel.proofs.ReceivedPieces.{all_bits, all_bits-append}
 use Rattle.tm_channel.proofs.PhasedItems.{prefix-nil, with_phase-split, none-after, part-some, phase_from-append, phase_from-items, phase_of-with_phase, phased-further}
 use Rattle.tm_channel.proofs.FurtherBits.{found-none, found-some, further-at, phased-items, bits-last}
 use Rattle.tm_channel.proofs.FewItems.{ends-few}
-use Rattle.tm_channel.proofs.FirstStage.{Ending, Fills, Settles, chosen-ended, plain-none, read-moved, read-so_far}
+use Rattle.tm_channel.proofs.KeptSymbols.{symbols-then}
+use Rattle.tm_channel.proofs.Symbols.{at-longer, have-of}
+use Rattle.tm_channel.proofs.StageSymbols.{StageFirstSymbols, StageSymbols, stage-coded, stage-coded_first, stage-earlier, stage-first-said, stage-said, stage-same}
+use Rattle.tm_channel.proofs.SymbolPlaces.{symbols-whole}
+use Rattle.tm_channel.proofs.FirstStage.{Ending, Fills, Settles, Stays, chosen-ended, plain-none, read-moved, read-so_far}
 use Rattle.tm_codeblock.proofs.PlacesIn.{places_in-append, places_in-end}
 
 -- ---- pieces of octets
@@ -222,8 +229,9 @@ few_bits bits all piece given octets is most few = omega (arith, ap length is, m
 
 -- what the first stage goes on to with these octets: this phase, and these bits
 pub record Further (inner now : InnerDecoding) (given octets : List ℕ) (done : List (Handed WindowBlock))
-    (phase : Option Chosen) (piece : List Bool) : Type 0 where
+    (phase : Option Chosen) (blocks : List WindowBlock) (piece : List Bool) : Type 0 where
   pub more : List (Handed WindowBlock)
+  pub are_more : items_of (done ++ more) ≡ items_of done ++ blocks
   pub read : HasRead now (given ++ octets) (done ++ more)
   pub all : unread now ≡ None
   pub so_far : IsChosenSoFar now.config (given ++ octets) now.chosen
@@ -232,15 +240,16 @@ pub record Further (inner now : InnerDecoding) (given octets : List ℕ) (done :
       ≡ inner_bits inner.config given (items_of done) ++ piece
 
 -- whatever octets it was given, fewer than 2^60 with these
-pub record Grows (inner now : InnerDecoding) (octets : List ℕ) (phase : Option Chosen) (piece : List Bool)
-    : Type 0 where
+pub record Grows (inner now : InnerDecoding) (octets : List ℕ) (phase : Option Chosen) (blocks : List WindowBlock)
+    (piece : List Bool) : Type 0 where
   pub config : now.config ≡ inner.config
   pub ended : now.has_ended ≡ inner.has_ended
+  pub kept : Stays inner.chosen now.chosen
   pub further : (given : List ℕ) (done : List (Handed WindowBlock)) → inner.has_ended ≡ false
       → length given + length octets < 2 ^ 60 → HasRead inner given done
-      → Further inner now given octets done phase piece
+      → Further inner now given octets done phase blocks piece
 
-blocks-after : (phase : Option Chosen) (blocks : List WindowBlock)
+pub blocks-after : (phase : Option Chosen) (blocks : List WindowBlock)
     → items_of (with_phase phase [] ++ map Item blocks) ≡ blocks
 blocks-after phase blocks =
     ap items_of (sym (with_phase-split phase blocks)) ∙ items_of-with_phase phase blocks
@@ -256,10 +265,11 @@ grows-by : (inner filled now : InnerDecoding) (octets : List ℕ) (phase : Optio
     → HasRead now (given ++ octets) (done ++ (with_phase phase [] ++ map Item blocks))
     → inner_bits inner.config (given ++ octets) (items_of done ++ blocks)
     ≡ inner_bits inner.config given (items_of done) ++ piece)
-    → Grows inner now octets phase piece
+    → Grows inner now octets phase blocks piece
 grows-by inner filled now octets phase blocks piece fills decodes bits = record {
   config = decodes.config ∙ fills.on.config;
   ended = decodes.ended ∙ fills.ended;
+  kept = λ chosen is. decodes.kept chosen (fills.on.stays chosen is);
   further = λ given done going few read.
       let all = given ++ octets in
       let more = with_phase phase [] ++ map Item blocks in
@@ -267,6 +277,8 @@ grows-by inner filled now octets phase blocks piece fills decodes bits = record 
       (read-moved inner filled given all done fills.on read (fills.stands given read.blocks going few read.stands)) in
       record {
         more = more;
+        are_more = items_of-append done more
+            ∙ ap (λ (l : List WindowBlock). items_of done ++ l) (blocks-after phase blocks);
         read = there.0;
         all = there.1;
         so_far = there.2 (fills.ended ∙ going);
@@ -282,7 +294,7 @@ grows-by inner filled now octets phase blocks piece fills decodes bits = record 
 pub grows-coded : (inner filled now : InnerDecoding) (octets : List ℕ) (phase : Option Chosen)
     (blocks : List WindowBlock) → is_some inner.config.inner ≡ true → Fills inner filled octets
     → Decodes filled now (with_phase phase [] ++ map Item blocks)
-    → Grows inner now octets phase (bits_of_blocks blocks)
+    → Grows inner now octets phase blocks (bits_of_blocks blocks)
 grows-coded inner filled now octets phase blocks coded fills decodes =
     let c = inner.config in
     grows-by inner filled now octets phase blocks (bits_of_blocks blocks) fills decodes
@@ -296,7 +308,7 @@ pub grows-plain : (inner filled now : InnerDecoding) (octets : List ℕ) (phase 
     (blocks : List WindowBlock) (skip : ℕ) → is_some inner.config.inner ≡ false
     → skip ≡ inner.config.skip - plain_count inner.config inner.count → Fills inner filled octets
     → Decodes filled now (with_phase phase [] ++ map Item blocks)
-    → Grows inner now octets phase (bits_of_blocks blocks ++ drop skip (plain_bits inner.config octets))
+    → Grows inner now octets phase blocks (bits_of_blocks blocks ++ drop skip (plain_bits inner.config octets))
 grows-plain inner filled now octets phase blocks skip plain is fills decodes =
     let c = inner.config in
     let more = with_phase phase [] ++ map Item blocks in
@@ -321,9 +333,16 @@ first-read d given handed read all so_far =
     read-so_far (λ phase. AreInnerFirst d.config phase given) d given handed read all so_far
     (λ is. stands-first d given read.blocks read.stands)
 
+-- the phase that was read
+pub read-phase : (d : InnerDecoding) (given : List ℕ) (handed : List (Handed WindowBlock)) → HasRead d given handed
+    → unread d ≡ None → phase_of handed ≡ d.chosen
+read-phase d given handed read all =
+    ap phase_of (read-all d given handed read all) ∙ phase_of-with_phase d.chosen read.blocks
+
 record Onward (s : Stages) (now : InnerDecoding) (given octets : List ℕ) (handed : List (Handed WindowBlock))
-    (phase : Option Chosen) (piece : List Bool) : Type 0 where
+    (phase : Option Chosen) (blocks : List WindowBlock) (piece : List Bool) : Type 0 where
   more : List (Handed WindowBlock)
+  are_more : items_of (handed ++ more) ≡ items_of handed ++ blocks
   read : HasRead now (given ++ octets) (handed ++ more)
   all : unread now ≡ None
   so_far : IsChosenSoFar now.config (given ++ octets) now.chosen
@@ -333,11 +352,11 @@ record Onward (s : Stages) (now : InnerDecoding) (given octets : List ℕ) (hand
       ≡ inner_bits s.inner.config given (items_of handed) ++ piece
   few : length (inner_bits s.inner.config given (items_of handed) ++ piece) < 2 ^ 63
 
-onward : (s : Stages) (now : InnerDecoding) (octets : List ℕ) (phase : Option Chosen) (piece : List Bool)
-    → Grows s.inner now octets phase piece
+onward : (s : Stages) (now : InnerDecoding) (octets : List ℕ) (phase : Option Chosen) (blocks : List WindowBlock)
+    (piece : List Bool) → Grows s.inner now octets phase blocks piece
     → (given : List ℕ) (done : List (Handed ItemValue)) → length given + length octets < 2 ^ 60
-    → (stood : StagesFor s given done) → Onward s now given octets stood.handed phase piece
-onward s now octets phase piece grows given done few stood =
+    → (stood : StagesFor s given done) → Onward s now given octets stood.handed phase blocks piece
+onward s now octets phase blocks piece grows given done few stood =
     let c = s.inner.config in
     let f = grows.further given stood.handed stood.going few stood.inner in
     let handed = stood.handed ++ f.more in
@@ -345,6 +364,7 @@ onward s now octets phase piece grows given done few stood =
     (first-read now (given ++ octets) handed f.read f.all f.so_far) in
     record {
       more = f.more;
+      are_more = f.are_more;
       read = f.read;
       all = f.all;
       so_far = f.so_far;
@@ -358,18 +378,22 @@ onward s now octets phase piece grows given done few stood =
 
 -- all that is due with the octets was handed over
 stages-due : {T : Type 0} (took : T → ItemValue → T → Type 0) (s now : Stages) (middle taker_now : T)
-    (octets : List ℕ) (phase : Option Chosen) (piece : List Bool)
-    → IsOf s → Grows s.inner now.inner octets phase piece → IsDrained now.inner.queue
-    → (p : Received took s.bits now.bits middle taker_now piece)
+    (octets : List ℕ) (phase : Option Chosen) (blocks : List WindowBlock) (piece : List Bool)
+    → IsOf s → Grows s.inner now.inner octets phase blocks piece → IsDrained now.inner.queue
+    → (p : Received took s.bits now.bits middle taker_now piece) → StageSymbols s now octets blocks piece p.items
     → (given : List ℕ) (done : List (Handed ItemValue)) → length given + length octets < 2 ^ 60
     → (stood : StagesFor s given done)
     → StagesOn now (given ++ octets) (done ++ (with_phase phase [] ++ map Item p.items)) stood.handed
-stages-due took s now middle taker_now octets phase piece of grows drained p given done few stood =
+stages-due took s now middle taker_now octets phase blocks piece of grows drained p says given done few stood =
     let c = s.inner.config in
     let same = grows.config in
-    let f = onward s now.inner octets phase piece grows given done few stood in
+    let f = onward s now.inner octets phase blocks piece grows given done few stood in
     let handed = stood.handed ++ f.more in
     let bits = inner_bits c given (items_of stood.handed) in
+    let said = stage-said s now octets blocks piece p.items says given stood.handed stood.inner handed f.are_more stood.going
+    few stood.bits f.few f.is stood.symbols in
+    let earlier = stage-earlier s now octets blocks piece given stood.handed stood.inner handed f.read grows.config grows.kept
+    f.are_more f.is stood.items stood.are_at in
     let more = subst (λ (k : Configuration). AreFurther k bits piece p.items) of (p.due bits f.few stood.bits) in
     let items = subst (λ (l : List Bool). AreItemsOf c l (due c l) (stood.items ++ p.items)) (sym f.is)
     (due-further c bits piece stood.items p.items stood.are_items more) in
@@ -396,6 +420,15 @@ stages-due took s now middle taker_now octets phase piece of grows drained p giv
             subst (λ (k : Configuration). AreItemsOf k (inner_bits k (given ++ octets) (items_of handed))
             (due k (inner_bits k (given ++ octets) (items_of handed))) (stood.items ++ p.items))
             (sym same) items;
+        symbols =
+            subst (λ (k : Configuration). SymbolsFor k (skip_of now.inner.chosen) (items_of handed)
+            (length (inner_bits k (given ++ octets) (items_of handed))) now.bits) (sym same) said.0;
+        are_at =
+            subst (λ (k : Configuration). AreAt (symbol_at k (skip_of now.inner.chosen) (items_of handed))
+            (length (inner_bits k (given ++ octets) (items_of handed))) (map place_symbol (stood.items ++ p.items)))
+            (sym same)
+            (symbols-then (symbol_at c (skip_of now.inner.chosen) (items_of handed))
+            (length (inner_bits c (given ++ octets) (items_of handed))) stood.items p.items earlier said.1);
         are =
             phased-more c given stood.handed stood.waiting f.more done stood.items p.items phase stood.are_due
             stood.are_items stood.are
@@ -466,7 +499,12 @@ stages-wait s now octets spare of none most w given done few stood =
     let none_due = subst (λ (k : Configuration). due k (inner_bits c all blocks ++ more.0)
     ≡ due k (inner_bits c all blocks)) of
     (none (inner_bits c all blocks) more.0 stands (omega (arith, more.2, f.2.1))) in
-    let items = subst (λ (l : List Bool). AreItemsOf c l (due c l) stood.items) (sym is) stood.are_items in (
+    let items = subst (λ (l : List Bool). AreItemsOf c l (due c l) stood.items) (sym is) stood.are_items in
+    let wait-by : (P : Configuration → Option Chosen → ℕ → Type 0)
+    → P c s.inner.chosen (length (inner_bits c given blocks)) → P now.config now.chosen (length (inner_bits now.config all blocks)) =
+    λ P p. subst (λ (k : Configuration). P k now.chosen (length (inner_bits k all blocks))) (sym same)
+    (subst (λ (o : Option Chosen). P c o (length (inner_bits c all blocks))) (sym (w.fills.coded w.coded))
+    (subst (λ (l : List Bool). P c s.inner.chosen (length l)) (sym is) p)) in (
       record {
         going = w.fills.ended ∙ stood.going;
         all = unread_now;
@@ -502,6 +540,9 @@ stages-wait s now octets spare of none most w given done few stood =
         are_items =
             subst (λ (k : Configuration). AreItemsOf k (inner_bits k all blocks)
             (due k (inner_bits k all blocks)) stood.items) (sym same) items;
+        symbols = wait-by (λ k chosen count. SymbolsFor k (skip_of chosen) blocks count s.bits) stood.symbols;
+        are_at = wait-by (λ k chosen count. AreAt (symbol_at k (skip_of chosen) blocks) count (map place_symbol stood.items))
+            stood.are_at;
         are = append-nil done ∙ stood.are;
       },
       [],
@@ -520,17 +561,24 @@ hands-wait took s now taker octets spare of none most w = record {
 
 -- a part of it was
 stages-prefix : (s : Stages) (now : InnerDecoding) (octets : List ℕ) (phase : Option Chosen)
-    (piece : List Bool) (tried : List ItemValue)
-    → IsOf s → Grows s.inner now octets phase piece
+    (blocks : List WindowBlock) (piece : List Bool) (tried : List ItemValue)
+    → IsOf s → Grows s.inner now octets phase blocks piece
     → AreFirstDue s.bits.batch.config (BitReceiverStandsFor s.bits) piece tried
+    → StageFirstSymbols s now octets blocks piece tried
     → (with_phase phase [] ++ map Item tried ≡ [] → ⊥)
     → (given : List ℕ) (done : List (Handed ItemValue)) → length given + length octets < 2 ^ 60 → StagesFor s given done
     → FirstWith s.inner.config now.chosen (given ++ octets) (done ++ (with_phase phase [] ++ map Item tried))
-stages-prefix s now octets phase piece tried of grows first some given done few stood =
+stages-prefix s now octets phase blocks piece tried of grows first says some given done few stood =
     let c = s.inner.config in
-    let f = onward s now octets phase piece grows given done few stood in
+    let f = onward s now octets phase blocks piece grows given done few stood in
     let handed = stood.handed ++ f.more in
     let bits = inner_bits c given (items_of stood.handed) in
+    let said = stage-first-said s now octets blocks piece tried says given stood.handed stood.inner handed f.are_more
+    stood.going few stood.bits f.few f.is stood.symbols in
+    let earlier = stage-earlier s (record { inner = now; bits = s.bits }) octets blocks piece given stood.handed stood.inner
+    handed f.read grows.config grows.kept f.are_more f.is stood.items stood.are_at in
+    let symbols = symbols-then (symbol_at c (skip_of now.chosen) (items_of handed))
+    (length (inner_bits c (given ++ octets) (items_of handed))) stood.items tried earlier said in
     let more = subst (λ (k : Configuration). AreFirstFurther k bits piece tried) of (first bits f.few stood.bits) in (
       elim f.first as (λ _. AreReceivedFirst c (given ++ octets) (done ++ (with_phase phase [] ++ map Item tried))) [
         | inl w ↦ (
@@ -541,7 +589,7 @@ stages-prefix s now octets phase piece tried of grows first some given done few 
             )
         | inr g ↦ (
             let h = g.1 in
-            let blocks = phased-items h.chosen h.items handed h.are in
+            let same = phased-items h.chosen h.items handed h.are in
             let chosen : phase_of handed ≡ h.chosen = ap phase_of h.are ∙ phase_of-with_phase h.chosen h.items in (
               g.0,
               record {
@@ -550,7 +598,11 @@ stages-prefix s now octets phase piece tried of grows first some given done few 
                 items = stood.items ++ tried;
                 are_items = record {
                   blocks = items_of handed;
-                  are_first = subst (AreInnerFirst c (skip_of h.chosen) (given ++ octets)) (sym blocks) h.are_items;
+                  are_first = subst (AreInnerFirst c (skip_of h.chosen) (given ++ octets)) (sym same) h.are_items;
+                  symbols = subst (λ (o : Option Chosen). HaveSymbols (symbol_at c (skip_of o) (items_of handed))
+                      (stood.items ++ tried)) (sym (read-phase now (given ++ octets) handed f.read f.all) ∙ chosen)
+                      (have-of (symbol_at c (skip_of now.chosen) (items_of handed))
+                      (length (inner_bits c (given ++ octets) (items_of handed))) (stood.items ++ tried) symbols);
                   are_items =
                       subst (λ (l : List Bool). AreFirstItemsOf c l (places_in c l) (stood.items ++ tried))
                       (sym f.is) (first-of-more c bits piece stood.items tried stood.are_items more);
@@ -568,35 +620,39 @@ stages-prefix s now octets phase piece tried of grows first some given done few 
     )
 
 pub hands-due : {T : Type 0} (took_phase : T → ℕ → ℕ → T → Type 0) (took : T → ItemValue → T → Type 0)
-    (s now : Stages) (taker middle taker_now : T) (octets : List ℕ) (phase : Option Chosen) (piece : List Bool)
-    → IsOf s → Grows s.inner now.inner octets phase piece → IsDrained now.inner.queue
+    (s now : Stages) (taker middle taker_now : T) (octets : List ℕ) (phase : Option Chosen)
+    (blocks : List WindowBlock) (piece : List Bool)
+    → IsOf s → Grows s.inner now.inner octets phase blocks piece → IsDrained now.inner.queue
     → HandedOver (on_handed took_phase took) taker (with_phase phase []) middle
-    → Received took s.bits now.bits middle taker_now piece
+    → (p : Received took s.bits now.bits middle taker_now piece) → StageSymbols s now octets blocks piece p.items
     → StagesHand (on_handed took_phase took) s now taker taker_now octets
-hands-due took_phase took s now taker middle taker_now octets phase piece of grows drained first p = record {
+hands-due took_phase took s now taker middle taker_now octets phase blocks piece of grows drained first p says = record {
   more = with_phase phase [] ++ map Item p.items;
   handed =
       HandedOver-append (on_handed took_phase took) taker middle taker_now (with_phase phase [])
       (map Item p.items) first
       (HandedOver-items took_phase took middle taker_now p.items p.handed);
-  stands = stages-due took s now middle taker_now octets phase piece of grows drained p;
+  stands = stages-due took s now middle taker_now octets phase blocks piece of grows drained p says;
 }
 
 -- the taker failed
 pub prefix-due : {T : Type 0} (took_phase broke_phase : T → ℕ → ℕ → T → Type 0)
     (took broke : T → ItemValue → T → Type 0) (s : Stages) (now : InnerDecoding) (taker taker_now : T)
-    (octets : List ℕ) (phase : Option Chosen) (piece : List Bool) (tried : List ItemValue) → IsOf s
-    → Grows s.inner now octets phase piece
+    (octets : List ℕ) (phase : Option Chosen) (blocks : List WindowBlock) (piece : List Bool)
+    (tried : List ItemValue) → IsOf s
+    → Grows s.inner now octets phase blocks piece
     → HandedPart (on_handed took_phase took) (on_handed broke_phase broke) taker
     (with_phase phase [] ++ map Item tried) taker_now
     → AreFirstDue s.bits.batch.config (BitReceiverStandsFor s.bits) piece tried
+    → StageFirstSymbols s now octets blocks piece tried
     → HandsPrefix (on_handed took_phase took) (on_handed broke_phase broke) StagesFor
     (FirstWith s.inner.config now.chosen) s taker taker_now octets
-prefix-due took_phase broke_phase took broke s now taker taker_now octets phase piece tried of grows part first =
+prefix-due took_phase broke_phase took broke s now taker taker_now octets phase blocks piece tried of grows part first
+    says =
     record {
       tried = with_phase phase [] ++ map Item tried;
       handed = part;
-      first = stages-prefix s now octets phase piece tried of grows first
+      first = stages-prefix s now octets phase blocks piece tried of grows first says
           (part-some (on_handed took_phase took) (on_handed broke_phase broke) taker taker_now
           (with_phase phase [] ++ map Item tried) part);
     }
@@ -645,6 +701,17 @@ pub stages-hand : {T : Type 0} (took : T → Handed ItemValue → T → Type 0) 
 stages-hand took s now taker taker_now octets p =
     record { more = p.more; handed = p.handed; stands = λ given done few stood. (p.stands given done few stood).0 }
 
+-- symbols of the first blocks are those of more
+received-symbols : (c : Configuration) (given : List ℕ) (done more : List WindowBlock) (chosen now : Option Chosen)
+    → chosen ≡ now → (items : List ItemValue)
+    → AreAt (symbol_at c (skip_of chosen) done) (length (inner_bits c given done)) (map place_symbol items)
+    → HaveSymbols (symbol_at c (skip_of now) (done ++ more)) items
+received-symbols c given done more chosen now same items are_at =
+    let count = length (inner_bits c given done) in
+    have-of (symbol_at c (skip_of now) (done ++ more)) count items
+    (at-longer (symbol_at c (skip_of chosen) done) (symbol_at c (skip_of now) (done ++ more)) count count
+    (map place_symbol items) (omega arith) (stage-same c chosen now given done more (inl (sym same))) are_at)
+
 -- what both stages have handed over is due
 pub received-due : (s : Stages) (given : List ℕ) (done : List (Handed ItemValue)) → StagesFor s given done
     → AreReceivedDue s.inner.config given done
@@ -688,6 +755,11 @@ received-due s given done stood =
               items = stood.items;
               are_items = record {
                 blocks = items_of handed ++ waiting;
+                symbols = received-symbols c given (items_of handed) waiting s.inner.chosen h.chosen
+                    (sym (read-phase s.inner given handed stood.inner stood.all)
+                    ∙ sym (phase_from-append None handed (map Item waiting)
+                    ∙ phase_from-items (phase_of handed) waiting) ∙ ap phase_of h.are
+                    ∙ phase_of-with_phase h.chosen h.items) stood.items stood.are_at;
                 are_due = subst (AreInnerDue c (skip_of h.chosen) given) (sym blocks) h.are_items;
                 are_items = subst (λ (l : List Bool). AreItemsOf c l (due c l) stood.items) (sym more.1) items;
               };
@@ -729,6 +801,7 @@ first-stays stays closed c octets more handed h =
         items = t.items;
         are_items = record {
           blocks = r.blocks;
+          symbols = r.symbols;
           are_first = first.0;
           are_items = subst (λ (l : List Bool). AreFirstItemsOf c l (places_in c l) t.items) (sym first.1.1)
               (first-beyond c (inner_bits c octets r.blocks) first.1.0 t.items r.are_items);
@@ -776,8 +849,10 @@ holds-due took_phase took start now bits next taker middle taker_now octets code
     h.fills d.decodes in
     subst (StagesHand (on_handed took_phase took) start next taker taker_now) h.all
     (stages-more (on_handed took_phase took) start s next taker middle taker_now h.first h.piece h.hands
-    (hands-due took_phase took s next middle d.middle taker_now h.piece d.phase (bits_of_blocks d.blocks) h.of grows
-    drained d.phased d.received))
+    (hands-due took_phase took s next middle d.middle taker_now h.piece d.phase d.blocks (bits_of_blocks d.blocks) h.of
+    grows drained d.phased d.received
+    (stage-coded s now next h.piece d.blocks d.received.items (coded-still start h.inner coded h.config) h.of h.fills
+    d.symbols)))
 
 -- the taker fails at a part of it
 pub holds-part : {T : Type 0} (took_phase broke_phase : T → ℕ → ℕ → T → Type 0)
@@ -798,8 +873,10 @@ holds-part took_phase broke_phase took broke start now bits next taker middle ta
     h.fills d.decodes in
     let part = subst (λ (k : Configuration). HandsPrefix takes breaks StagesFor (FirstWith k next.inner.chosen) s middle
     taker_now h.piece) h.config
-    (prefix-due took_phase broke_phase took broke s next.inner middle taker_now h.piece d.phase
-    (bits_of_blocks d.blocks) d.tried h.of grows d.handed d.first) in
+    (prefix-due took_phase broke_phase took broke s next.inner middle taker_now h.piece d.phase d.blocks
+    (bits_of_blocks d.blocks) d.tried h.of grows d.handed d.first
+    (stage-coded_first s now next h.piece d.blocks d.tried (coded-still start h.inner coded h.config) h.of h.fills
+    d.symbols)) in
     subst (λ (l : List ℕ). HandsPrefix takes breaks StagesFor First start taker taker_now (l ++ rest)) h.all
     (hands-longer takes breaks StagesFor First start taker taker_now (h.first ++ h.piece) rest
     (first_with-stays stays closed c next.inner.chosen)
@@ -830,19 +907,28 @@ pub record EndsWith (c : Configuration) (given : List ℕ) (handed : List (Hande
       (inner_bits c given (items_of (handed ++ (with_phase phase [] ++ map Item blocks))))
       (items_of (handed ++ (with_phase phase [] ++ map Item blocks)))
 
+-- the symbols of all bits, which items say
+abbrev pub EndsAt : (c : Configuration) (given : List ℕ) (handed : List (Handed WindowBlock)) → List ItemValue → Type 0
+EndsAt c given handed items = AreAt (symbol_at c (skip_of (phase_of handed)) (items_of handed))
+    (length (inner_bits c given (items_of handed))) (map place_symbol items)
+
 abbrev pub EndsIn : Stages → Option Chosen → List WindowBlock → Totals → Type 0
 EndsIn s phase blocks totals =
     (given : List ℕ) (done : List (Handed ItemValue)) (stood : StagesFor s given done)
     → EndsWith s.inner.config given stood.handed phase blocks totals
 
--- what was read, once the octets have ended
-record AtEnd (s : Stages) (now : InnerDecoding) (given : List ℕ) (handed : List (Handed WindowBlock)) : Type 0 where
-  read : HasRead now given handed
-  choice : IsChosen s.inner.config given now.chosen
-  are : handed ≡ with_phase now.chosen read.blocks
-  first : AreInnerFirst s.inner.config (skip_of now.chosen) given read.blocks
+abbrev pub EndSay : (s : Stages) (phase : Option Chosen) (blocks : List WindowBlock) → List ItemValue → Type 0
+EndSay s phase blocks items = (given : List ℕ) (done : List (Handed ItemValue)) (stood : StagesFor s given done)
+    → EndsAt s.inner.config given (stood.handed ++ (with_phase phase [] ++ map Item blocks)) (stood.items ++ items)
 
-at-end : (s : Stages) (settled now : InnerDecoding) (more : List (Handed WindowBlock)) → Settles s.inner settled
+-- what was read, once the octets have ended
+pub record AtEnd (s : Stages) (now : InnerDecoding) (given : List ℕ) (handed : List (Handed WindowBlock)) : Type 0 where
+  pub read : HasRead now given handed
+  pub choice : IsChosen s.inner.config given now.chosen
+  pub are : handed ≡ with_phase now.chosen read.blocks
+  pub first : AreInnerFirst s.inner.config (skip_of now.chosen) given read.blocks
+
+pub at-end : (s : Stages) (settled now : InnerDecoding) (more : List (Handed WindowBlock)) → Settles s.inner settled
     → Decodes settled now more → (given : List ℕ) (done : List (Handed ItemValue)) → (stood : StagesFor s given done)
     → AtEnd s now given (stood.handed ++ more)
 at-end s settled now more settles decodes given done stood =
@@ -868,10 +954,10 @@ chosen-at_end s settled now more settles decodes given done stood =
     (at-end s settled now more settles decodes given done stood).choice
 
 pub ends-in : (s : Stages) (settled now : InnerDecoding) (phase : Option Chosen) (blocks ready : List WindowBlock)
-    (left : ℕ) (totals : Totals) → Settles s.inner settled
-    → Decodes settled now (with_phase phase [] ++ map Item blocks) → Ending now ready left totals.bits totals.slips
+    (queue : Option Queueing) (left : ℕ) (totals : Totals) → Settles s.inner settled
+    → Decodes settled now (with_phase phase [] ++ map Item blocks) → Ending now queue ready left totals.bits totals.slips
     → EndsIn s phase (blocks ++ ready) totals
-ends-in s settled now phase blocks ready left totals settles decodes ending given done stood =
+ends-in s settled now phase blocks ready queue left totals settles decodes ending given done stood =
     let c = s.inner.config in
     let same = decodes.config ∙ settles.on.config in
     let more = with_phase phase [] ++ map Item blocks in
@@ -880,7 +966,7 @@ ends-in s settled now phase blocks ready left totals settles decodes ending give
     let all = e.read.blocks ++ ready in
     let whole = subst (λ (k : Configuration). IsChosen k given now.chosen
     → AreInnerBlocks k (skip_of now.chosen) given all left × (totals.bits ≡ length (inner_bits k given all))
-    × (totals.slips ≡ reported_slips k all)) same (ending given e.read.blocks e.read.stands) e.choice in
+    × (totals.slips ≡ reported_slips k all) × (lost_in queue ≡ dropped_of all)) same (ending given e.read.blocks e.read.stands) e.choice in
     let are : stood.handed ++ last ≡ with_phase now.chosen all =
     ap (λ l. stood.handed ++ l) (ap (λ l. with_phase phase [] ++ l) (map-append Item blocks ready)
     ∙ sym (append_assoc (with_phase phase []) (map Item blocks) (map Item ready)))
@@ -905,6 +991,9 @@ pub record Ended (s : Stages) (given : List ℕ) (done : List (Handed ItemValue)
   pub is : bits ≡ inner_bits s.inner.config given (items_of stood.handed) ++ bits_of_blocks blocks
   pub few : length (inner_bits s.inner.config given (items_of stood.handed) ++ bits_of_blocks blocks) < 2 ^ 63
   pub counted : totals ≡ totals_of s.inner.config bits inner.blocks
+  pub symbols : (items : List ItemValue)
+      → EndsAt s.inner.config given (stood.handed ++ (with_phase phase [] ++ map Item blocks)) items
+      → HaveSymbols (symbol_at s.inner.config (skip_of chosen) inner.blocks) items
   pub are : (others : List ItemValue) → done ++ (with_phase phase [] ++ map Item others)
       ≡ with_phase chosen (stood.items ++ others)
 
@@ -938,6 +1027,10 @@ ended s given done stood phase blocks totals ends_in =
             stood.inner.stands.few,
           );
       counted = e.counted;
+      symbols = λ all at. have-of (symbol_at c (skip_of h.chosen) (items_of handed))
+          (length (inner_bits c given (items_of handed))) all
+          (subst (λ (o : Option Chosen). AreAt (symbol_at c (skip_of o) (items_of handed))
+          (length (inner_bits c given (items_of handed))) (map place_symbol all)) chosen at);
       are =
           λ others. phased-more c given stood.handed stood.waiting last done stood.items others phase stood.are_due
           stood.are_items stood.are
@@ -971,12 +1064,12 @@ pub ends : {T : Type 0} (took : T → ItemValue → T → Type 0) (s : Stages) (
     (taker middle now : T) (phase : Option Chosen) (blocks : List WindowBlock) (totals : Totals) → IsOf s
     → EndsIn s phase blocks totals
     → (p : Received took s.bits bits_now taker middle (bits_of_blocks blocks))
-    (q : ReceivedLast took bits_now middle now)
+    (q : ReceivedLast took bits_now middle now) → EndSay s phase blocks (p.items ++ q.items)
     → (given : List ℕ) (done : List (Handed ItemValue)) → StagesFor s given done
     → AreReceived s.inner.config given (done ++ (with_phase phase [] ++ map Item (p.items ++ q.items))) totals
     × (IsAccepted s.inner.config
     → AreFew s.inner.config 0 (items_of (with_phase phase [] ++ map Item (p.items ++ q.items))))
-ends took s bits_now taker middle now phase blocks totals of ends_in p q given done stood =
+ends took s bits_now taker middle now phase blocks totals of ends_in p q says given done stood =
     let c = s.inner.config in
     let e = ended s given done stood phase blocks totals ends_in in
     let others = p.items ++ q.items in
@@ -995,6 +1088,7 @@ ends took s bits_now taker middle now phase blocks totals of ends_in p q given d
           e.inner,
           e.counted,
           subst (λ (l : List Bool). AreItems c l (stood.items ++ others)) (sym e.is) all,
+          e.symbols (stood.items ++ others) (says given done stood),
         );
         are = e.are others;
       },
@@ -1008,11 +1102,12 @@ ends took s bits_now taker middle now phase blocks totals of ends_in p q given d
 ends-first : (s : Stages) (phase : Option Chosen) (blocks : List WindowBlock) (totals : Totals) (given : List ℕ)
     (done : List (Handed ItemValue)) (stood : StagesFor s given done)
     → Ended s given done stood phase blocks totals → (tried : List ItemValue)
+    → EndsAt s.inner.config given (stood.handed ++ (with_phase phase [] ++ map Item blocks)) (stood.items ++ tried)
     → AreFirstItemsOf s.inner.config (inner_bits s.inner.config given (items_of stood.handed) ++ bits_of_blocks blocks)
     (places_in s.inner.config (inner_bits s.inner.config given (items_of stood.handed) ++ bits_of_blocks blocks))
     (stood.items ++ tried)
     → AreReceivedPrefix s.inner.config given (done ++ (with_phase phase [] ++ map Item tried))
-ends-first s phase blocks totals given done stood e tried first =
+ends-first s phase blocks totals given done stood e tried says first =
     let c = s.inner.config in
     record {
       chosen = e.chosen;
@@ -1021,6 +1116,7 @@ ends-first s phase blocks totals given done stood e tried first =
       are_items = record {
         bits = e.bits;
         inner = e.inner;
+        symbols = e.symbols (stood.items ++ tried) says;
         are_items =
             subst (λ (l : List Bool). AreFirstItemsOf c l (places_in c l) (stood.items ++ tried))
             (sym e.is) first;
@@ -1033,16 +1129,17 @@ pub ends-part : {T : Type 0} (took broke : T → ItemValue → T → Type 0) (s 
     (taker now : T) (phase : Option Chosen) (blocks : List WindowBlock) (totals : Totals) → IsOf s
     → EndsIn s phase blocks totals
     → (p : ReceivedPart took broke s.bits bits_now taker now (bits_of_blocks blocks))
+    → EndSay s phase blocks p.tried
     → (given : List ℕ) (done : List (Handed ItemValue)) → StagesFor s given done
     → AreReceivedPrefix s.inner.config given (done ++ (with_phase phase [] ++ map Item p.tried))
-ends-part took broke s bits_now taker now phase blocks totals of ends_in p given done stood =
+ends-part took broke s bits_now taker now phase blocks totals of ends_in p says given done stood =
     let c = s.inner.config in
     let e = ended s given done stood phase blocks totals ends_in in
     let bits = inner_bits c given (items_of stood.handed) in
     let piece = bits_of_blocks blocks in
     let more = subst (λ (k : Configuration). AreFirstFurther k bits piece p.tried) of
     (p.first bits e.few stood.bits) in
-    ends-first s phase blocks totals given done stood e p.tried
+    ends-first s phase blocks totals given done stood e p.tried (says given done stood)
     (first-of-more c bits piece stood.items p.tried stood.are_items more)
 
 -- it failed at one of the last items
@@ -1050,10 +1147,10 @@ pub ends-prefix : {T : Type 0} (took broke : T → ItemValue → T → Type 0) (
     (taker middle now : T) (phase : Option Chosen) (blocks : List WindowBlock) (totals : Totals) → IsOf s
     → EndsIn s phase blocks totals
     → (p : Received took s.bits bits_now taker middle (bits_of_blocks blocks))
-    (q : ReceivedLastPart took broke bits_now middle now)
+    (q : ReceivedLastPart took broke bits_now middle now) → EndSay s phase blocks (p.items ++ q.tried)
     → (given : List ℕ) (done : List (Handed ItemValue)) → StagesFor s given done
     → AreReceivedPrefix s.inner.config given (done ++ (with_phase phase [] ++ map Item (p.items ++ q.tried)))
-ends-prefix took broke s bits_now taker middle now phase blocks totals of ends_in p q given done stood =
+ends-prefix took broke s bits_now taker middle now phase blocks totals of ends_in p q says given done stood =
     let c = s.inner.config in
     let e = ended s given done stood phase blocks totals ends_in in
     let bits = inner_bits c given (items_of stood.handed) in
@@ -1067,6 +1164,7 @@ ends-prefix took broke s bits_now taker middle now phase blocks totals of ends_i
     (subst (λ (fs : List Found). AreItemsOf c (bits ++ piece) fs (stood.items ++ p.items))
     (sym (beyond-nil c (due c (bits ++ piece)))) due_items) last in
     ends-first s phase blocks totals given done stood e (p.items ++ q.tried)
+    (says given done stood)
     (subst (AreFirstItemsOf c (bits ++ piece) (places_in c (bits ++ piece)))
     (append_assoc stood.items p.items q.tried) items)
 
@@ -1100,9 +1198,10 @@ pub ends-early : (s : Stages) (settled now : InnerDecoding) (phase : Option Chos
     (tried : List ItemValue) → HasBits → StandFirst → IsAccepted s.inner.config → IsOf s → Settles s.inner settled
     → Decodes settled now (with_phase phase [] ++ map Item blocks)
     → AreFirstDue s.bits.batch.config (BitReceiverStandsFor s.bits) (bits_of_blocks blocks) tried
+    → EndSay s phase blocks tried
     → (given : List ℕ) (done : List (Handed ItemValue)) → StagesFor s given done
     → AreReceivedPrefix s.inner.config given (done ++ (with_phase phase [] ++ map Item tried))
-ends-early s settled now phase blocks tried has stand ok of settles decodes first given done stood =
+ends-early s settled now phase blocks tried has stand ok of settles decodes first says given done stood =
     let c = s.inner.config in
     let more = with_phase phase [] ++ map Item blocks in
     let handed = stood.handed ++ more in
@@ -1143,6 +1242,17 @@ ends-early s settled now phase blocks tried has stand ok of settles decodes firs
       are_items = record {
         bits = whole.0;
         inner = whole.1;
+        symbols =
+            let count = length (inner_bits c given (items_of handed)) in
+            let whole_at = symbol_at c skip whole.1.blocks in
+            have-of whole_at count (stood.items ++ tried)
+            (at-longer (symbol_at c (skip_of (phase_of handed)) (items_of handed)) whole_at count count
+            (map place_symbol (stood.items ++ tried)) (omega arith)
+            (λ n below. sym (ap (λ (o : Option Chosen). symbol_at c (skip_of o) (items_of handed) n) chosen
+            ∙ ap (λ (l : List WindowBlock). symbol_at c skip l n) items
+            ∙ symbols-whole stand c skip given e.read.blocks whole.1.blocks whole.1.left e.first whole.1.are_blocks n
+            (omega (arith, below, ap (λ (l : List WindowBlock). length (inner_bits c given l)) items))))
+            (says given done stood));
         are_items =
             subst (λ (l : List Bool). AreFirstItemsOf c l (places_in c l) (stood.items ++ tried)) all
             (first-beyond c (bits ++ piece) after.0 (stood.items ++ tried)

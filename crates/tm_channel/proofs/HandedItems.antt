@@ -23,7 +23,12 @@ with_phase-received c octets handed totals r = record {
   chosen = r.chosen;
   choice = r.choice;
   items = r.items;
-  are_items = record { bits = r.are_items.0; inner = r.are_items.1; are_items = r.are_items.3 };
+  are_items = record {
+    bits = r.are_items.0;
+    inner = r.are_items.1;
+    are_items = r.are_items.3;
+    symbols = r.are_items.4;
+  };
   are = r.are;
 }
 
@@ -40,7 +45,7 @@ received-exists has c octets each =
           chosen = all.1.chosen;
           choice = all.1.choice;
           items = all.1.items;
-          are_items = (r.bits, r.inner, refl, r.are_items);
+          are_items = (r.bits, r.inner, refl, r.are_items, r.symbols);
           are = all.1.are;
         },
       ),

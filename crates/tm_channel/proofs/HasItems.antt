@@ -1,8 +1,9 @@
 -- Received octets have items.
-use Rattle.std.proofs.Common.{◌≡◌, ℕ, Bool, true, false, cond, List, [], ◌∷◌, refl, ap}
+use Rattle.std.proofs.Common.{◌≡◌, ℕ, Bool, true, false, cond, List, [], ◌∷◌, refl, ap, sym, ◌∙◌}
 use Rattle.tm_config.specs.Configuration.{Configuration, correctable}
 use Rattle.tm_config.specs.Accepted.{IsAccepted}
 use Rattle.tm_inner.specs.Inner.{Inner}
+use Rattle.tm_inner.specs.SymbolPlaces.{symbol_at}
 use Rattle.tm_rs_code.specs.Nearest.{IsNearest, Nearest}
 use Rattle.tm_rs_code.specs.Nearest.Nearest.{Fixed as FixedWord, Beyond as BeyondWord}
 use Rattle.tm_rs_code.proofs.HasNearest.{has_nearest}
@@ -10,7 +11,7 @@ use Rattle.tm_rs_solve.specs.declared.answers.Answer.{Answer}
 use Rattle.tm_rs_solve.specs.declared.answers.Answer.TheVariants.{Fixed, Beyond}
 use Rattle.tm_sync.specs.declared.found.Found.{Found}
 use Rattle.tm_codeblock.specs.ReceivedCodeblock.{codeblock_at, received_columns, frame_of, places_in}
-use Rattle.tm_channel.specs.Items.{ItemValue, IsRepaired, AreNearest, is_given, IsItem, AreItemsOf}
+use Rattle.tm_channel.specs.Items.{ItemValue, IsRepaired, AreNearest, is_given, IsItem, AreItemsOf, HaveSymbols}
 use Rattle.tm_channel.specs.Receive.{Receive}
 
 is_uncorrectable : Answer → Bool
@@ -38,20 +39,30 @@ has-answers c (column ∷ columns) =
     let more = has-answers c columns in
     (one.0 ∷ more.0, one.1 ∷ more.1, (one.2, more.2))
 
-has-item : (c : Configuration) (f : Found) (codeblock : List ℕ) → (item : ItemValue) × IsItem c f codeblock item
-has-item c f codeblock =
+has-item : (c : Configuration) (f : Found) (symbol : ℕ) (codeblock : List ℕ) → (item : ItemValue)
+    × IsItem c f codeblock item × (item.symbol ≡ symbol)
+has-item c f symbol codeblock =
     let h = has-answers c (received_columns c codeblock) in (
-      record { found = f; answers = h.0; frame = cond (is_given c h.0) (frame_of c codeblock h.1) [] },
+      record {
+        found = f;
+        symbol = symbol;
+        answers = h.0;
+        frame = cond (is_given c h.0) (frame_of c codeblock h.1) [];
+      },
       record { place = refl; words = h.1; nearest = h.2; frame = refl },
+      refl,
     )
 
-pub has-items-of : (c : Configuration) (bits : List Bool) (fs : List Found) → (items : List ItemValue)
-    × AreItemsOf c bits fs items
-has-items-of c bits [] = ([], tt)
-has-items-of c bits (f ∷ fs) =
-    let one = has-item c f (codeblock_at c bits f) in
-    let more = has-items-of c bits fs in
-    (one.0 ∷ more.0, (one.1, more.1))
+pub has-items-of : (c : Configuration) (at : ℕ → ℕ) (bits : List Bool) (fs : List Found) → (items : List ItemValue)
+    × AreItemsOf c bits fs items × HaveSymbols at items
+has-items-of c at bits [] = ([], tt, tt)
+has-items-of c at bits (f ∷ fs) =
+    let one = has-item c f (at f.place) (codeblock_at c bits f) in
+    let more = has-items-of c at bits fs in (
+      one.0 ∷ more.0,
+      (one.1, more.1),
+      (one.2 ∙ sym (ap (λ (v : Found). at v.place) one.1.place), more.2),
+    )
 
 -- octets come to bits
 abbrev pub HasBits : Type 0
@@ -62,5 +73,5 @@ pub has-items : HasBits → (c : Configuration) (phase : ℕ) (octets : List ℕ
     × Receive c phase octets items
 has-items exists c phase octets ok =
     let bits = exists c phase octets ok in
-    let h = has-items-of c bits.0 (places_in c bits.0) in
-    (h.0, record { bits = bits.0; inner = bits.1; are_items = h.1 })
+    let h = has-items-of c (symbol_at c phase bits.1.blocks) bits.0 (places_in c bits.0) in
+    (h.0, record { bits = bits.0; inner = bits.1; are_items = h.1; symbols = h.2 })

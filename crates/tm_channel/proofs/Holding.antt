@@ -26,7 +26,7 @@ recent-count c s recent stored handed bits found h =
 pub ready-new : (s : Finding) (room : Recent) (b : Batching)
     → s ≡ record { rules = rules_of b.config; columns = columns_of b.config; passed = 0; last = None }
     → room.bits ≡ [] → settled_by s.rules.verify s.rules.block_bits + 14 ≤ 8 * room.size
-    → b ≡ record { config = b.config; stored = []; items = [] } → 0 < b.config.batch → IsReady s room b
+    → b ≡ record { config = b.config; stored = []; symbols = []; items = [] } → 0 < b.config.batch → IsReady s room b
 ready-new s room b new none sized empty some = record {
   agree = record {
     rules = ap (λ (v : Finding). v.rules) new;
@@ -228,7 +228,7 @@ holding-left c s s' recent recent' stored stored' handed bits found f sound few 
     (keeps ∙ sym (append-nil stored)) h
 
 -- the last one is dropped
-pub drop-last : (stored now : List StoredCodeblock) (k : StoredCodeblock) → now ≡ stored ++ k ∷ []
+pub drop-last : {A : Type 0} (stored now : List A) (k : A) → now ≡ stored ++ k ∷ []
     → take (length now - 1) now ≡ stored
 drop-last stored now k is =
     let count : length (stored ++ k ∷ []) - 1 ≡ length stored = omega (arith, length-append stored (k ∷ [])) in

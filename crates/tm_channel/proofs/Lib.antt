@@ -6,6 +6,9 @@ pub mod CleanStreams
 pub mod DisturbedOctets
 pub mod Polarity
 pub mod OnlyItems
+pub mod Symbols
+pub mod SymbolPlaces
+pub mod CleanSymbols
 mod HasItems
 mod DroppedItems
 mod WholeFrames
@@ -18,6 +21,8 @@ pub mod FirstItems
 pub mod WorkedItems
 pub mod HandedItems
 pub mod Handing
+pub mod OriginRoom
+pub mod KeptSymbols
 pub mod Batches
 pub mod Streaming
 pub mod Holding
@@ -28,11 +33,15 @@ pub mod Pieces
 pub mod Between
 pub mod AllBits
 pub mod ReceivedPieces
+pub mod RunSymbols
 pub mod Spare
 pub mod PhasedItems
 pub mod FurtherBits
 pub mod FirstStage
+pub mod StageSymbols
 pub mod GivenOctets
+pub mod EndSymbols
+pub mod WatchedStages
 mod FewItems
 pub mod ColumnsRead
 pub mod Repaired

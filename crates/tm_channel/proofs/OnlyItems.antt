@@ -11,7 +11,7 @@ use Rattle.tm_rs_solve.specs.declared.answers.Answer.TheVariants.{Fixed, Beyond}
 use Rattle.tm_rs_solve.specs.Answers.{found}
 use Rattle.tm_sync.specs.declared.found.Found.{Found}
 use Rattle.tm_codeblock.specs.ReceivedCodeblock.{codeblock_at, received_column, received_columns, frame_of, places_in}
-use Rattle.tm_channel.specs.Items.{ItemValue, IsRepaired, AreNearest, is_given, IsItem, AreItemsOf, AreItems}
+use Rattle.tm_channel.specs.Items.{ItemValue, IsRepaired, AreNearest, is_given, IsItem, AreItemsOf, AreItems, HaveSymbols}
 use Rattle.tm_channel.proofs.SentCodeblocks.{coded, columns-coded, columns-uncoded, length-received, length-codeblock_in}
 use Rattle.tm_channel.proofs.Repairs.{found-fixed}
 use Rattle.tm_codeblock.proofs.PlacesIn.{places_in-end}
@@ -44,13 +44,19 @@ answers-same c (column ∷ columns) (a ∷ firsts) (b ∷ seconds) (v ∷ vs) (w
 answers-same c columns firsts seconds vs ws ok short are others = absurd (assumption)
 
 item-same : (c : Configuration) (f : Found) (codeblock : List ℕ) (item other : ItemValue) → IsAccepted c
-    → AreShort (received_columns c codeblock) → IsItem c f codeblock item → IsItem c f codeblock other → item ≡ other
-item-same c f codeblock item other ok short it that =
+    → AreShort (received_columns c codeblock) → IsItem c f codeblock item → IsItem c f codeblock other
+    → item.symbol ≡ other.symbol → item ≡ other
+item-same c f codeblock item other ok short it that symbol =
     let same = answers-same c (received_columns c codeblock) item.answers other.answers it.words that.words ok short
     it.nearest that.nearest in
     let frame : item.frame ≡ other.frame =
     it.frame ∙ (λ i. cond (is_given c (same.0 i)) (frame_of c codeblock (same.1 i)) []) ∙ sym that.frame in
-    (λ i. record { found = (it.place ∙ sym that.place) i; answers = same.0 i; frame = frame i })
+    (λ i. record {
+      found = (it.place ∙ sym that.place) i;
+      symbol = symbol i;
+      answers = same.0 i;
+      frame = frame i;
+    })
 
 -- ---- a word has at most 255 symbols
 
@@ -81,17 +87,20 @@ codeblock-whole c bits f within =
     length-codeblock_in c f.inverted (take (8 * codeblock_length c) rest)
     (length-take-le (8 * codeblock_length c) rest (omega (arith, length-drop (f.place + 32) bits)))
 
-pub items-same : (c : Configuration) (bits : List Bool) (fs : List Found) (items others : List ItemValue) → IsAccepted c
-    → AllByRecursion (λ f. f.place + 32 + 8 * codeblock_length c ≤ length bits) fs → AreItemsOf c bits fs items
-    → AreItemsOf c bits fs others → items ≡ others
-items-same c bits [] [] [] ok within are too = refl
-items-same c bits (f ∷ fs) (item ∷ items) (other ∷ others) ok within are too =
+pub items-same : (c : Configuration) (at : ℕ → ℕ) (bits : List Bool) (fs : List Found) (items others : List ItemValue)
+    → IsAccepted c → AllByRecursion (λ f. f.place + 32 + 8 * codeblock_length c ≤ length bits) fs
+    → AreItemsOf c bits fs items → HaveSymbols at items → AreItemsOf c bits fs others → HaveSymbols at others
+    → items ≡ others
+items-same c at bits [] [] [] ok within are have too also = refl
+items-same c at bits (f ∷ fs) (item ∷ items) (other ∷ others) ok within are have too also =
     let short = columns-short c (codeblock_at c bits f) ok (codeblock-whole c bits f within.0) in
-    (λ i. item-same c f (codeblock_at c bits f) item other ok short are.0 too.0 i
-    ∷ items-same c bits fs items others ok within.1 are.1 too.1 i)
-items-same c bits fs items others ok within are too = absurd (assumption)
+    let symbol : item.symbol ≡ other.symbol =
+    have.0 ∙ ap (λ (v : Found). at v.place) (are.0.place ∙ sym too.0.place) ∙ sym also.0 in
+    (λ i. item-same c f (codeblock_at c bits f) item other ok short are.0 too.0 symbol i
+    ∷ items-same c at bits fs items others ok within.1 are.1 have.1 too.1 also.1 i)
+items-same c at bits fs items others ok within are have too also = absurd (assumption)
 
-pub items-only : (c : Configuration) (bits : List Bool) (items others : List ItemValue) → IsAccepted c
-    → AreItems c bits items → AreItems c bits others → items ≡ others
-items-only c bits items others ok are too =
-    items-same c bits (places_in c bits) items others ok (places_in-end c bits) are too
+pub items-only : (c : Configuration) (at : ℕ → ℕ) (bits : List Bool) (items others : List ItemValue) → IsAccepted c
+    → AreItems c bits items → HaveSymbols at items → AreItems c bits others → HaveSymbols at others → items ≡ others
+items-only c at bits items others ok are have too also =
+    items-same c at bits (places_in c bits) items others ok (places_in-end c bits) are have too also

@@ -13,11 +13,13 @@ use Rattle.tm_inner.specs.InnerDecoding.{HasFilled, InnerDecoderStandsFor, Inner
 use Rattle.tm_inner.specs.Phase.{with_phase}
 use Rattle.tm_inner.specs.Receiving.{HandsPrefix}
 use Rattle.tm_channel.specs.Items.{ItemValue}
-use Rattle.tm_channel.specs.OctetReceiving.{BitReceiving, BitReceiverStandsFor, Decoded, DecodedPart, FirstWith, Received, ReceivedPart, Stages, StagesFor, StagesHand, bits_of_blocks}
+use Rattle.tm_channel.specs.OctetReceiving.{BitReceiving, BitReceiverStandsFor, Decoded, DecodedPart, FirstWith, ReceivedAt, ReceivedPartAt, Stages, StagesFor, StagesHand, bits_of_blocks}
 use Rattle.tm_channel.proofs.FirstStage.{Fills, GoesOn}
 use Rattle.tm_channel.proofs.GivenOctets.{IsOf, grows-plain, hands-due, prefix-due}
 use Rattle.tm_channel.proofs.Pieces.{first-due-all}
-use Rattle.tm_channel.proofs.ReceivedPieces.{part-then, received-then}
+use Rattle.tm_channel.proofs.ReceivedPieces.{part-then, received-then, say-first-all, say-first-then, say-then}
+use Rattle.tm_channel.proofs.RunSymbols.{no-rate}
+use Rattle.tm_channel.proofs.StageSymbols.{stage-plain, stage-plain_first}
 
 -- ---- octets are put in
 
@@ -54,6 +56,10 @@ abbrev pub found_in : InnerDecoding → List ℕ → List Bool
 found_in inner octets = drop (inner.config.skip - plain_count inner.config inner.count)
     (plain_bits inner.config octets)
 
+-- the second stage has no inner code either
+none-in : (s : Stages) → IsOf s → is_some s.inner.config.inner ≡ false → s.bits.batch.config.inner ≡ None
+none-in s of plain = ap (λ (c : Configuration). c.inner) of ∙ no-rate s.inner.config.inner plain
+
 -- the taker failed before them
 pub plain-part : {T : Type 0} (took_phase broke_phase : T → ℕ → ℕ → T → Type 0)
     (took broke : T → ItemValue → T → Type 0) (s : Stages) (filled : InnerDecoding) (now : Stages)
@@ -63,10 +69,12 @@ pub plain-part : {T : Type 0} (took_phase broke_phase : T → ℕ → ℕ → T 
     (FirstWith s.inner.config now.inner.chosen) s taker taker_now octets
 plain-part took_phase broke_phase took broke s filled now taker taker_now octets of plain fills d =
     let found = found_in s.inner octets in
-    prefix-due took_phase broke_phase took broke s now.inner taker taker_now octets d.phase
+    prefix-due took_phase broke_phase took broke s now.inner taker taker_now octets d.phase d.blocks
     (bits_of_blocks d.blocks ++ found) d.tried of
     (grows-plain s.inner filled now.inner octets d.phase d.blocks _ plain refl fills d.decodes) d.handed
     (first-due-all s.bits.batch.config (BitReceiverStandsFor s.bits) (bits_of_blocks d.blocks) found d.tried d.first)
+    (stage-plain_first s now.inner octets d.blocks (bits_of_blocks d.blocks ++ found) d.tried plain of
+    (say-first-all s.bits (bits_of_blocks d.blocks) found d.tried (d.plain (none-in s of plain))))
 
 -- it failed at one of them
 pub plain-prefix : {T : Type 0} (took_phase broke_phase : T → ℕ → ℕ → T → Type 0)
@@ -74,19 +82,23 @@ pub plain-prefix : {T : Type 0} (took_phase broke_phase : T → ℕ → ℕ → 
     (bits : BitReceiving) (taker middle taker_now : T) (octets : List ℕ) → IsOf s → is_some s.inner.config.inner ≡ false
     → Fills s.inner filled octets
     → Decoded took_phase took (record { inner = filled; bits = s.bits }) between taker middle
-    → ReceivedPart took broke between.bits bits middle taker_now (found_in s.inner octets)
+    → ReceivedPartAt took broke between.bits bits middle taker_now (found_in s.inner octets)
     → HandsPrefix (on_handed took_phase took) (on_handed broke_phase broke) StagesFor
     (FirstWith s.inner.config between.inner.chosen) s taker taker_now octets
+unfolding part-then
 plain-prefix took_phase broke_phase took broke s filled between bits taker middle taker_now octets of plain fills d part =
     let found = found_in s.inner octets in
     let p = part-then took broke s.bits between.bits bits d.middle middle taker_now (bits_of_blocks d.blocks) found
-    d.received part in
-    prefix-due took_phase broke_phase took broke s between.inner taker taker_now octets d.phase
+    d.received part.part in
+    prefix-due took_phase broke_phase took broke s between.inner taker taker_now octets d.phase d.blocks
     (bits_of_blocks d.blocks ++ found) p.tried of
     (grows-plain s.inner filled between.inner octets d.phase d.blocks _ plain refl fills d.decodes)
     (HandedPart-after (on_handed took_phase took) (on_handed broke_phase broke) taker d.middle taker_now
     (with_phase d.phase []) (map Item p.tried) d.phased
     (HandedPart-items took_phase broke_phase took broke d.middle taker_now p.tried p.handed)) p.first
+    (stage-plain_first s between.inner octets d.blocks (bits_of_blocks d.blocks ++ found) p.tried plain of
+    (say-first-then s.bits between.bits (bits_of_blocks d.blocks) found d.received.items part.part.tried
+    d.received.stands (d.plain (none-in s of plain)) part.symbols))
 
 -- what is due with them was handed over
 pub plain-hands : {T : Type 0} (took_phase : T → ℕ → ℕ → T → Type 0) (took : T → ItemValue → T → Type 0)
@@ -94,12 +106,17 @@ pub plain-hands : {T : Type 0} (took_phase : T → ℕ → ℕ → T → Type 0)
     (octets : List ℕ) → IsOf s → is_some s.inner.config.inner ≡ false → Fills s.inner filled octets
     → IsDrained between.inner.queue
     → Decoded took_phase took (record { inner = filled; bits = s.bits }) between taker middle
-    → Received took between.bits bits middle taker_now (found_in s.inner octets)
+    → ReceivedAt took between.bits bits middle taker_now (found_in s.inner octets)
     → StagesHand (on_handed took_phase took) s (record { inner = between.inner; bits = bits }) taker taker_now octets
+unfolding received-then
 plain-hands took_phase took s filled between bits taker middle taker_now octets of plain fills drained d received =
     let found = found_in s.inner octets in
     hands-due took_phase took s (record { inner = between.inner; bits = bits }) taker d.middle taker_now octets d.phase
-    (bits_of_blocks d.blocks ++ found) of
+    d.blocks (bits_of_blocks d.blocks ++ found) of
     (grows-plain s.inner filled between.inner octets d.phase d.blocks _ plain refl fills d.decodes) drained d.phased
     (received-then took s.bits between.bits bits d.middle middle taker_now (bits_of_blocks d.blocks) found d.received
-    received)
+    received.received)
+    (stage-plain s (record { inner = between.inner; bits = bits }) octets d.blocks (bits_of_blocks d.blocks ++ found)
+    (d.received.items ++ received.received.items) plain of
+    (say-then s.bits between.bits bits (bits_of_blocks d.blocks) found d.received.items received.received.items
+    d.received.stands (d.plain (none-in s of plain)) received.symbols))

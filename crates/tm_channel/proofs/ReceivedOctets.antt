@@ -7,17 +7,22 @@ use Rattle.tm_base.proofs.Packing.{bits_of-append}
 use Rattle.tm_config.specs.Configuration.{Configuration, codeblock_length}
 use Rattle.tm_config.specs.Accepted.{IsAccepted}
 use Rattle.tm_inner.specs.Inner.{Inner, IsStartKnown}
+use Rattle.tm_inner.specs.SymbolPlaces.{symbol_at, symbols_before}
 use Rattle.tm_inner.specs.Symbols.{symbols_of_octets}
+use Rattle.tm_viterbi.specs.WindowBlock.{WindowBlock}
 use Rattle.tm_codeblock.specs.Frames.{first_frames, whole_frames, HaveSize}
 use Rattle.tm_codeblock.specs.Cadu.{cadu}
 use Rattle.tm_codeblock.proofs.Frames.{splits}
 use Rattle.tm_channel.specs.Sent.{cadus, sent}
-use Rattle.tm_channel.specs.Items.{ItemValue, AreItems, frames_of}
+use Rattle.tm_channel.specs.Items.{ItemValue, AreItems, HaveSymbols, frames_of}
 use Rattle.tm_channel.specs.Receive.{Receive}
 use Rattle.tm_channel.specs.SentStream.{IsFrame, SentUnit, IsSent, unit_places, AreAsSent, AreNear, unit_frames, sent_bits, clean_items, found_frames}
 use Rattle.tm_channel.proofs.Repairs.{items-as_sent, frames-sent}
 use Rattle.tm_channel.proofs.CleanStreams.{items-clean}
+use Rattle.tm_channel.proofs.CleanSymbols.{clean-symbols, slips-sent}
+use Rattle.tm_channel.proofs.HandedItems.{OneBlocks}
 use Rattle.tm_channel.proofs.OnlyItems.{items-only}
+use Rattle.tm_channel.proofs.Symbols.{have-same}
 
 -- octets come to one list of bits
 abbrev pub OneBits : Type 0
@@ -31,10 +36,21 @@ pub items-at : OneBits → (c : Configuration) (phase : ℕ) (octets : List ℕ)
 items-at one c phase octets bits items inner r =
     subst (λ (l : List Bool). AreItems c l items) (one c phase octets r.bits bits r.inner inner) r.are_items
 
-pub received-only : OneBits → (c : Configuration) (phase : ℕ) (octets : List ℕ) (items others : List ItemValue)
+-- their symbols are by the blocks that they come to
+pub symbols-at : OneBlocks → (c : Configuration) (phase : ℕ) (octets : List ℕ) (bits others : List Bool)
+    (items : List ItemValue) (p : Inner c phase octets bits) (q : Inner c phase octets others)
+    → HaveSymbols (symbol_at c phase p.blocks) items → HaveSymbols (symbol_at c phase q.blocks) items
+symbols-at one c phase octets bits others items p q have =
+    subst (λ (l : List WindowBlock). HaveSymbols (symbol_at c phase l) items)
+    (one c phase octets p.blocks q.blocks p.left q.left p.are_blocks q.are_blocks) have
+
+pub received-only : OneBits → OneBlocks → (c : Configuration) (phase : ℕ) (octets : List ℕ)
+    (items others : List ItemValue)
     → IsAccepted c → Receive c phase octets items → Receive c phase octets others → items ≡ others
-received-only one c phase octets items others ok p q =
-    items-only c q.bits items others ok (items-at one c phase octets q.bits items q.inner p) q.are_items
+received-only one blocks c phase octets items others ok p q =
+    items-only c (symbol_at c phase q.inner.blocks) q.bits items others ok
+    (items-at one c phase octets q.bits items q.inner p)
+    (symbols-at blocks c phase octets p.bits q.bits items p.inner q.inner p.symbols) q.are_items q.symbols
 
 -- the items of units, however disturbed, and their frames
 abbrev pub SentItems : Type 0
@@ -105,6 +121,9 @@ pub received-clean : CleanBits → (c : Configuration) (octets : List ℕ) (item
     → Receive c 0 (sent c octets) items → items ≡ clean_items c 0 (found_frames c (whole_frames c.frame_length octets))
 received-clean clean c octets items ok none known small r =
     items-clean c (whole_frames c.frame_length octets) items ok (are_frames c octets ok small)
+    (have-same (symbol_at c 0 r.inner.blocks) (symbols_before c.inner) items
+    (clean-symbols c c.inner r.inner.blocks none
+    (slips-sent c.inner c (cadus c octets) r.inner.blocks r.inner.left none r.inner.are_blocks)) r.symbols)
     (subst (λ (l : List Bool). AreItems c l items) (clean c (cadus c octets) r.bits ok none known r.inner
     ∙ bits-sent c octets) r.are_items)
 

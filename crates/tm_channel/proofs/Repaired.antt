@@ -23,8 +23,9 @@ use Rattle.tm_workers.specs.Words.{Decodes}
 use Rattle.tm_codeblock.specs.ReceivedCodeblock.{column_count, received_columns, frame_of, is_sound}
 use Rattle.tm_channel.specs.ColumnWords.{symbols_of, all_symbols}
 use Rattle.tm_channel.specs.Items.{AreNearest, IsItem, ItemValue, are_fixed, is_given}
+use Rattle.tm_channel.specs.Origins.{PlaceSymbol}
 use Rattle.tm_channel.specs.Receiving.{AreItemsFor, Batching, IsItemAt, StoredCodeblock, stored_of}
-use Rattle.tm_channel.specs.Storing.{AreDecoded, AreRead, IsDecoded, IsRead, answers_of, codeblock_in_slot, item_in, stored_in, words_at}
+use Rattle.tm_channel.specs.Storing.{AreDecoded, AreRead, IsDecoded, IsRead, answers_of, codeblock_in_slot, item_in, place_in, stored_in, words_at}
 use Rattle.tm_channel.specs.declared.slot.Slot.{Slot}
 
 -- words that were decoded hold what is nearest to the columns that were read into them
@@ -305,11 +306,12 @@ items-more c size count slots filled slot now below same again one are =
     (map (item_in c) (take count slots)) (item_in c now ∷ []) are (here, tt)))
 
 -- there is a slot for one more
-pub slot-left : (c : Configuration) (size count : ℕ) (slots : List Slot) (items : List ItemValue) (b : Batching)
+pub slot-left : (c : Configuration) (size count : ℕ) (slots : List Slot) (symbols : List PlaceSymbol)
+    (items : List ItemValue) (b : Batching)
     → length slots ≡ c.batch → count ≤ c.batch
-    → record { config = c; stored = map (stored_in size) (take count slots); items = items } ≡ b
+    → record { config = c; stored = map (stored_in size) (take count slots); symbols = symbols; items = items } ≡ b
     → length b.stored < b.config.batch → count < length slots
-slot-left c size count slots items b all most view few =
+slot-left c size count slots symbols items b all most view few =
     let less : length (map (stored_in size) (take count slots)) < c.batch =
     subst (λ (v : Batching). length v.stored < v.config.batch) (sym view) few in
     omega (arith, length-map (take count slots) (stored_in size), length-take-le count slots (omega arith))
@@ -322,3 +324,13 @@ one-decoded c slot words few decoded =
     subst (IsDecoded c (take (codeblock_length c) slot.octets))
     (ap (λ n. take (column_count c) (drop n words)) none ∙ take_all (column_count c) words few)
     (decoded 0 slot (omega arith))
+
+-- the symbols of one more
+pub place-next : (count : ℕ) (slots : List Slot) (index : ℕ) (d : Slot) → index < count → count ≤ length slots
+    → take (suc index) (map place_in (take count slots))
+    ≡ take index (map place_in (take count slots)) ++ place_in (get_or slots index d) ∷ []
+place-next zero slots index d below within = absurd (omega (arith, below))
+place-next (suc count) [] index d below within = absurd (omega (arith, within))
+place-next (suc count) (s ∷ slots) zero d below within = refl
+place-next (suc count) (s ∷ slots) (suc index) d below within =
+    ap (λ l. place_in s ∷ l) (place-next count slots index d (omega (arith, below)) (omega (arith, within)))

@@ -23,7 +23,7 @@ use Rattle.tm_viterbi.proofs.CleanBlocks.{steps-mono}
 use Rattle.tm_viterbi.proofs.HasBlocks.{HasBest}
 use Rattle.tm_windows.specs.declared.choosing.Chosen.{Chosen}
 use Rattle.tm_windows.specs.Phase.{AreCompared, IsCostAt, IsPhase, octets_at, period_size}
-use Rattle.tm_inner.specs.Inner.{Inner, IsStartKnown, soft_value}
+use Rattle.tm_inner.specs.Inner.{IsStartKnown, soft_value}
 use Rattle.tm_inner.specs.Phase.{IsChosen, PhaseAt, with_phase, phase_octets, skip_of, skipped_at}
 use Rattle.tm_inner.specs.Symbols.{is_inverted, low_level, symbols_by}
 use Rattle.tm_inner.proofs.InnerBits.{AreBits-bit_numbers, drop-none, soft-sent}
@@ -228,12 +228,13 @@ pub handed-clean : HasBest → ((c : Configuration) (octets : List ℕ) (items :
     (clean_items c 0 (found_frames c (whole_frames c.frame_length octets)))
 handed-clean best clean c octets handed totals ok none start small r =
     let chosen : r.chosen ≡ sent_phase c = phase-sent best c octets r.chosen none r.choice in
-    let inner : Inner c 0 (sent c octets) r.are_items.0 = subst (λ (n : ℕ). Inner c n (sent c octets) r.are_items.0)
-    (ap skip_of chosen ∙ sent-skip c) r.are_items.1 in
-    let items : r.items ≡ clean_items c 0 (found_frames c (whole_frames c.frame_length octets)) =
-    clean c octets r.items ok none start small (record {
+    let receive : Receive c 0 (sent c octets) r.items = subst (λ (n : ℕ). Receive c n (sent c octets) r.items)
+    (ap skip_of chosen ∙ sent-skip c) (record {
       bits = r.are_items.0;
-      inner = inner;
+      inner = r.are_items.1;
       are_items = r.are_items.3;
+      symbols = r.are_items.4;
     }) in
+    let items : r.items ≡ clean_items c 0 (found_frames c (whole_frames c.frame_length octets)) =
+    clean c octets r.items ok none start small receive in
     r.are ∙ ap (λ (o : Option Chosen). with_phase o r.items) chosen ∙ ap (with_phase (sent_phase c)) items

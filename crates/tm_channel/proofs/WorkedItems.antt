@@ -58,11 +58,13 @@ without c bits items off are = subst (λ fs. AreItemsOf c bits fs items) (sym (p
 row_bridged : AreItems bare (bits_of (0x1A ∷ 0xCF ∷ 0xFC ∷ 0x1D ∷ 0x7B ∷ 0x1A ∷ 0xCF ∷ 0xFC ∷ 0x1E ∷ 0x01 ∷ []))
     (record {
       found = record { place = 0; distance = 0; bridged = false; inverted = false };
+      symbol = 0;
       answers = [];
       frame = 0x7B ∷ [];
     }
     ∷ record {
       found = record { place = 40; distance = 2; bridged = true; inverted = false };
+      symbol = 0;
       answers = [];
       frame = 0x01 ∷ [];
     } ∷ [])
@@ -77,6 +79,7 @@ row_not_bridged : AreItems (record bare { rescan = true })
     (bits_of (0x1A ∷ 0xCF ∷ 0xFC ∷ 0x1D ∷ 0x7B ∷ 0xE5 ∷ 0x30 ∷ 0x03 ∷ 0xE2 ∷ 0x01 ∷ []))
     (record {
       found = record { place = 0; distance = 0; bridged = false; inverted = false };
+      symbol = 0;
       answers = [];
       frame = 0x7B ∷ [];
     } ∷ [])
@@ -88,6 +91,7 @@ row_not_bridged = (record { place = refl; words = []; nearest = tt; frame = refl
 row_inverted : AreItems (record bare { polarity = Find }) (bits_of (0xE5 ∷ 0x30 ∷ 0x03 ∷ 0xE2 ∷ 0x84 ∷ []))
     (record {
       found = record { place = 0; distance = 0; bridged = false; inverted = true };
+      symbol = 0;
       answers = [];
       frame = 0x7B ∷ [];
     } ∷ [])
@@ -99,6 +103,7 @@ row_inverted = without (record bare { polarity = Find }) _ _ refl
 row_randomized : AreItems (record bare { randomize = true }) (bits_of (0x1A ∷ 0xCF ∷ 0xFC ∷ 0x1D ∷ 0x84 ∷ []))
     (record {
       found = record { place = 0; distance = 0; bridged = false; inverted = false };
+      symbol = 0;
       answers = [];
       frame = 0x7B ∷ [];
     } ∷ [])
@@ -118,6 +123,7 @@ zeros =
 row_fixed : AreItems coded (bits_of (0x1A ∷ 0xCF ∷ 0xFC ∷ 0x1D ∷ 0x07 ∷ replicate 32 0))
     (record {
       found = record { place = 0; distance = 0; bridged = false; inverted = false };
+      symbol = 0;
       answers = Fixed 1 ∷ [];
       frame = 0 ∷ [];
     } ∷ [])
@@ -161,6 +167,7 @@ off-beyond c is = elim (cases_eq (distance c off) 0) [
 row_beyond : AreItems (record coded { repair = 0 }) (bits_of (0x1A ∷ 0xCF ∷ 0xFC ∷ 0x1D ∷ replicate 32 0 ++ 7 ∷ []))
     (record {
       found = record { place = 0; distance = 0; bridged = false; inverted = false };
+      symbol = 0;
       answers = Beyond ∷ [];
       frame = [];
     } ∷ [])
@@ -180,6 +187,7 @@ row_passed : AreItems (record coded { repair = 0; pass_bad = true })
     (bits_of (0x1A ∷ 0xCF ∷ 0xFC ∷ 0x1D ∷ replicate 32 0 ++ 7 ∷ []))
     (record {
       found = record { place = 0; distance = 0; bridged = false; inverted = false };
+      symbol = 0;
       answers = Beyond ∷ [];
       frame = 0 ∷ [];
     } ∷ [])

@@ -8,7 +8,7 @@ use Rattle.tm_channel.specs.declared.totals.Totals.{Totals}
 use Rattle.tm_channel.specs.declared.receiver.RecvError.{RecvError}
 use Rattle.tm_channel.specs.declared.receiver.RecvError.TheVariants.{Stopped, Taker}
 use Rattle.tm_channel.specs.Items.{ItemValue}
-use Rattle.tm_channel.specs.OctetReceiving.{BitReceiving, FeedBreaks, FeedChooses, FeedHands, FinishBreaks, FinishChooses, FinishHands, FirstWith, OctetReceiving, Received, ReceivedPart, Stages, StagesFor, StagesHand}
+use Rattle.tm_channel.specs.OctetReceiving.{BitReceiving, FeedBreaks, FeedChooses, FeedHands, FinishBreaks, FinishChooses, FinishHands, FirstWith, OctetReceiving, ReceivedAt, ReceivedPartAt, Stages, StagesFor, StagesHand}
 
 -- ---- of the second stage
 
@@ -18,8 +18,8 @@ pub record TakesBits {T R E : Type 0} (took broke : T → ItemValue → T → Ty
     (is_last : T → Type 0) (before now : BitReceiving) (taker taker_now : T) (bits : List Bool)
     (result : Result R E) : Type 0 where
   pub config : now.batch.config ≡ before.batch.config
-  pub handed : OnOk result (Received took before now taker taker_now bits)
-  pub part : OnErr result (ReceivedPart took broke before now taker taker_now bits)
+  pub handed : OnOk result (ReceivedAt took before now taker taker_now bits)
+  pub part : OnErr result (ReceivedPartAt took broke before now taker taker_now bits)
   pub cause : HasCause (faults taker) (faults taker_now) (is_last taker_now) result
 
 -- ---- of both stages

@@ -6,9 +6,10 @@ use Rattle.tm_config.specs.Configuration.{Configuration}
 use Rattle.tm_windows.specs.declared.choosing.Chosen.{Chosen}
 use Rattle.tm_viterbi.specs.WindowBlock.{WindowBlock}
 use Rattle.tm_inner.specs.Inner.{Inner, reported_slips}
+use Rattle.tm_inner.specs.SymbolPlaces.{symbol_at}
 use Rattle.tm_inner.specs.Phase.{WithPhase, WithPhaseSettled, WithPhaseSoFar}
 use Rattle.tm_channel.specs.declared.totals.Totals.{Totals}
-use Rattle.tm_channel.specs.Items.{ItemValue, AreItems}
+use Rattle.tm_channel.specs.Items.{ItemValue, AreItems, HaveSymbols}
 use Rattle.tm_channel.specs.Receive.{ReceiveDue, ReceiveFirst, ReceivePrefix}
 
 -- the last phase among what was handed over, or else this one
@@ -34,6 +35,7 @@ clean_totals c count = record { bits = count; slips = if c.follow then Some 0 el
 abbrev pub ReceiveAll : Configuration → ℕ → List ℕ → Totals → List ItemValue → Type 0
 ReceiveAll c phase octets totals items = (bits : List Bool) × (inner : Inner c phase octets bits)
     × (totals ≡ totals_of c bits inner.blocks) × AreItems c bits items
+    × HaveSymbols (symbol_at c phase inner.blocks) items
 
 -- all that is handed over, and what the octets come to
 abbrev pub AreReceived : Configuration → List ℕ → List (Handed ItemValue) → Totals → Type 0

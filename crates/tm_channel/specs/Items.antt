@@ -1,5 +1,6 @@
 -- What a receiver says of each codeblock that it finds in a list of bits.
 use Rattle.std.specs.Prelude.{◌≡◌, ℕ, Bool, true, false, ◌||◌, if◌then◌else◌, List, [], ◌∷◌, ◌++◌}
+use Rattle.std.specs.List.{AllByRecursion}
 use Rattle.tm_config.specs.Configuration.{Configuration, correctable}
 use Rattle.tm_rs_code.specs.Nearest.{IsNearest}
 use Rattle.tm_rs_solve.specs.declared.answers.Answer.{Answer}
@@ -9,9 +10,11 @@ use Rattle.tm_sync.specs.declared.found.Found.{Found}
 use Rattle.tm_sync.specs.Places.{complemented_place}
 use Rattle.tm_codeblock.specs.ReceivedCodeblock.{codeblock_at, received_columns, frame_of, places_in}
 
--- what is said of one codeblock: where it stands, an answer for each column, and its frame
+-- what is said of one codeblock: where it stands among the received bits, the number of the first
+-- symbol of its marker among all that were given, an answer for each column, and its frame
 pub record ItemValue : Type 0 where
   pub found : Found
+  pub symbol : ℕ
   pub answers : List Answer
   pub frame : List ℕ
 
@@ -39,7 +42,7 @@ are_fixed (Beyond ∷ answers) = false
 abbrev pub is_given : Configuration → List Answer → Bool
 is_given c answers = are_fixed answers || c.pass_bad
 
--- what is said of the codeblock of a place, and its frame where that is given
+-- what is said of the codeblock of a place but for its symbol, and its frame where that is given
 pub record IsItem (c : Configuration) (f : Found) (codeblock : List ℕ)
     (item : ItemValue) : Type 0 where
   pub place : item.found ≡ f
@@ -64,6 +67,10 @@ AreFirstItemsOf c bits (f ∷ fs) (item ∷ items) =
 -- the items of received bits
 abbrev pub AreItems : Configuration → List Bool → List ItemValue → Type 0
 AreItems c bits items = AreItemsOf c bits (places_in c bits) items
+
+-- each item says the symbol of its place, by these
+abbrev pub HaveSymbols : (at : ℕ → ℕ) → List ItemValue → Type 0
+HaveSymbols at items = AllByRecursion (λ item. item.symbol ≡ at item.found.place) items
 
 -- the frames of items, one after the other
 abbrev pub frames_of : List ItemValue → List ℕ

@@ -6,6 +6,7 @@ pub mod Handing
 pub mod SentStream
 pub mod SoundCodeblocks
 pub mod Disturbed
+pub mod Origins
 pub mod Receiving
 pub mod Most
 pub mod OctetReceiving

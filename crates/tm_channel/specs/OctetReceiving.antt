@@ -1,9 +1,13 @@
 -- What a receiver keeps, and for which octets, given so far, and which items, handed over so far,
 -- it stands.
-use Rattle.std.specs.Prelude.{◌≡◌, false, ◌==◌, ◌+◌, ◌-◌, ◌<◌, ◌≤◌, ◌⊎◌, ℕ, Bool, List, [], ◌++◌, length, take, map, Option, Some, None}
+use Rattle.std.specs.Prelude.{◌≡◌, true, false, ◌==◌, ◌+◌, ◌-◌, ◌^◌, ◌<◌, ◌≤◌, ◌⊎◌, ℕ, Bool, List, [], ◌++◌, length, take, map, Option, Some, None}
+use Rattle.std.specs.Option.{is_some}
 use Rattle.tm_base.specs.Handed.{Handed, Item, items_of, on_handed}
 use Rattle.tm_base.specs.Takers.{HandedOver, HandedPart}
 use Rattle.tm_config.specs.Configuration.{Configuration}
+use Rattle.tm_conv.specs.Path.{farthest_step}
+use Rattle.tm_conv.specs.declared.rates.Rate.{Rate}
+use Rattle.tm_sync.specs.declared.found.Found.{Found}
 use Rattle.tm_sync.specs.Finding.{Finding, Recent}
 use Rattle.tm_sync.specs.Bits.{bits_bound}
 use Rattle.tm_viterbi.specs.WindowBlock.{WindowBlock}
@@ -12,16 +16,19 @@ use Rattle.tm_viterbi.specs.WindowSizes.{stream_bound}
 use Rattle.tm_windows.specs.Windows.{slips_of}
 use Rattle.tm_windows.specs.declared.choosing.Chosen.{Chosen}
 use Rattle.tm_inner.specs.Inner.{inner_bits}
-use Rattle.tm_inner.specs.Phase.{IsChosen, IsChosenSoFar, with_phase}
+use Rattle.tm_inner.specs.Phase.{IsChosen, IsChosenSoFar, skip_of, with_phase}
+use Rattle.tm_inner.specs.SymbolPlaces.{symbol_at}
 use Rattle.tm_inner.specs.Handing.{AreHandedDue}
 use Rattle.tm_inner.specs.InnerDecoding.{HasFilled, HoldsMore as ClosesMore, InnerDecoderStandsFor, InnerDecoding, unread}
 use Rattle.tm_inner.specs.Receiving.{HasRead}
 use Rattle.tm_channel.specs.Items.{ItemValue, AreItemsOf}
 use Rattle.tm_channel.specs.Due.{due, due_count}
+use Rattle.tm_channel.specs.declared.bit_receiver.BitReceiver.{BitReceiver}
 use Rattle.tm_channel.specs.declared.totals.Totals.{Totals}
 use Rattle.tm_channel.specs.Handing.{phase_of, AreReceived, AreReceivedDue, AreReceivedFirst, AreReceivedPrefix}
 use Rattle.tm_channel.specs.Most.{AreFew}
-use Rattle.tm_channel.specs.Receiving.{Batching, Stands, HoldsMore, waiting_bits, GoesOn, AreDue, AreFirstDue, AreFurther, AreFirstFurther, AreLast, AreFirstLast}
+use Rattle.tm_channel.specs.Origins.{AreAt, AreSpaced, Noted, origin_at, place_symbol, symbol_by}
+use Rattle.tm_channel.specs.Receiving.{Batching, Stands, HoldsFound, HoldsMore, waiting_bits, GoesOn, AreDue, AreFirstDue, AreFurther, AreFirstFurther, AreLast, AreFirstLast}
 
 -- what contracts see of a receiver of bits
 pub record BitReceiving : Type 0 where
@@ -29,10 +36,41 @@ pub record BitReceiving : Type 0 where
   -- the bits that are not passed yet
   pub recent : Recent
   pub batch : Batching
+  -- where the symbols of these bits stand
+  pub origins : Noted
+
+-- the same of a receiver of bits that these origins are kept beside
+abbrev pub receiving : BitReceiver → Noted → BitReceiving
+receiving r origins =
+    record { finder = r.finder; recent = r.recent; batch = r.batch; origins = origins }
 
 -- it was given these bits
 abbrev pub BitReceiverStandsFor : BitReceiving → List Bool → Type 0
 BitReceiverStandsFor r = Stands r.finder r.recent r.batch
+
+-- Of a receiver of fewer than so many bits, these are the symbols of the codeblocks that are stored,
+-- and of all bits that are not passed.
+pub record HasSymbols (r : BitReceiving) (count : ℕ) (at : ℕ → ℕ) : Type 0 where
+  pub stored : AreAt at count r.batch.symbols
+  pub left : (n : ℕ) → r.finder.passed ≤ n → symbol_by r.batch.config.inner r.batch.config
+      (origin_at r.origins.origins n) n ≡ at n
+  pub fit : (n : ℕ) → n < count → at n < 2 ^ 64
+  pub few : is_some r.batch.config.inner ≡ true → count ≤ farthest_step
+
+-- Of these bits, not passed yet, which were received with the inner code: each origin stands as far
+-- from the next as a window keeps bits.
+abbrev pub AreKnown : Option Rate → Configuration → (at : ℕ → ℕ) → (count : ℕ) → BitReceiving
+    → Type 0
+AreKnown None c at count r = Unit {0}
+AreKnown (Some rate) c at count r = AreSpaced c.keep count r.origins.origins
+    × ((n : ℕ) → r.finder.passed ≤ n → n < count
+    → symbol_by (Some rate) c (origin_at r.origins.origins n) n ≡ at n)
+
+-- the symbols of the bits of these blocks, so many, are known as far as they are to be
+pub record SymbolsFor (c : Configuration) (phase : ℕ) (blocks : List WindowBlock) (count : ℕ)
+    (r : BitReceiving) : Type 0 where
+  pub stored : AreAt (symbol_at c phase blocks) count r.batch.symbols
+  pub known : AreKnown c.inner c (symbol_at c phase blocks) count r
 
 -- what contracts see of both stages of a receiver: the inner code, and the search for codeblocks in
 -- its bits
@@ -59,6 +97,10 @@ pub record StagesFor (s : Stages) (given : List ℕ) (done : List (Handed ItemVa
   pub items : List ItemValue
   pub are_items : AreItemsOf s.inner.config (inner_bits s.inner.config given (items_of handed))
       (due s.inner.config (inner_bits s.inner.config given (items_of handed))) items
+  pub symbols : SymbolsFor s.inner.config (skip_of s.inner.chosen) (items_of handed)
+      (length (inner_bits s.inner.config given (items_of handed))) s.bits
+  pub are_at : AreAt (symbol_at s.inner.config (skip_of s.inner.chosen) (items_of handed))
+      (length (inner_bits s.inner.config given (items_of handed))) (map place_symbol items)
   pub are : done ≡ with_phase (phase_of handed) items
 
 -- stages that were given these octets and have handed over this, whose first stage has handed over
@@ -172,6 +214,29 @@ Settles before now items = (bits more : List Bool) → length (bits ++ more) < b
     more
     → BitReceiverStandsFor now (bits ++ more) × AreFurther before.batch.config bits more items
 
+-- whichever symbols they have, those of the codeblocks that are stored are known still
+abbrev pub KeepsSymbols : BitReceiving → BitReceiving → Type 0
+KeepsSymbols before now = (handed : ℕ) (bits : List Bool) (found : List Found) (count : ℕ)
+    (at : ℕ → ℕ) → length bits < bits_bound → length bits ≤ count
+    → HoldsFound before.finder before.recent before.batch handed bits found
+    → HasSymbols before count at → HasSymbols now count at
+
+-- whichever symbols they have, these items say theirs
+abbrev pub SettlesSymbols : BitReceiving → BitReceiving → List ItemValue → Type 0
+SettlesSymbols before now items = (bits more : List Bool) (count : ℕ) (at : ℕ → ℕ)
+    → length (bits ++ more) < bits_bound → length (bits ++ more) ≤ count
+    → HoldsMore before.finder before.recent before.batch (due_count before.batch.config bits) bits
+    more
+    → HasSymbols before count at
+    → HasSymbols now count at × AreAt at count (map place_symbol items)
+
+abbrev pub SettlesSymbolsPart : BitReceiving → List ItemValue → Type 0
+SettlesSymbolsPart before tried = (bits more : List Bool) (count : ℕ) (at : ℕ → ℕ)
+    → length (bits ++ more) < bits_bound → length (bits ++ more) ≤ count
+    → HoldsMore before.finder before.recent before.batch (due_count before.batch.config bits) bits
+    more
+    → HasSymbols before count at → AreAt at count (map place_symbol tried)
+
 -- these are first ones of the items that are due with the last ones
 abbrev pub SettlesPart : BitReceiving → List ItemValue → Type 0
 SettlesPart before tried = (bits more : List Bool) → length (bits ++ more) < bits_bound
@@ -199,12 +264,56 @@ pub record ReceivedPart {T : Type 0} (took broke : T → ItemValue → T → Typ
   pub handed : HandedPart took broke taker tried taker_now
   pub first : AreFirstDue before.batch.config (BitReceiverStandsFor before) bits tried
 
+-- whatever bits were given before: whichever symbols all have, these items say theirs
+abbrev pub SaySymbols : BitReceiving → BitReceiving → List Bool → List ItemValue → Type 0
+SaySymbols before now bits items = (given : List Bool) (count : ℕ) (at : ℕ → ℕ)
+    → length (given ++ bits) < bits_bound → length (given ++ bits) ≤ count
+    → BitReceiverStandsFor before given → HasSymbols before count at
+    → HasSymbols now count at × AreAt at count (map place_symbol items)
+
+abbrev pub SayFirstSymbols : BitReceiving → List Bool → List ItemValue → Type 0
+SayFirstSymbols before bits tried = (given : List Bool) (count : ℕ) (at : ℕ → ℕ)
+    → length (given ++ bits) < bits_bound → length (given ++ bits) ≤ count
+    → BitReceiverStandsFor before given → HasSymbols before count at
+    → AreAt at count (map place_symbol tried)
+
+-- bits were received, no origin was noted, and the items say their symbols
+pub record ReceivedAt {T : Type 0} (took : T → ItemValue → T → Type 0) (before now : BitReceiving)
+    (taker taker_now : T) (bits : List Bool) : Type 0 where
+  pub received : Received took before now taker taker_now bits
+  pub origins : now.origins ≡ before.origins
+  pub symbols : SaySymbols before now bits received.items
+
+pub record ReceivedPartAt {T : Type 0} (took broke : T → ItemValue → T → Type 0)
+    (before now : BitReceiving) (taker taker_now : T) (bits : List Bool) : Type 0 where
+  pub part : ReceivedPart took broke before now taker taker_now bits
+  pub symbols : SayFirstSymbols before bits part.tried
+
+-- an origin was noted, and nothing else is changed
+abbrev pub Notes : BitReceiving → BitReceiving → Type 0
+Notes before now = now ≡ record before { origins = now.origins }
+
+-- With this origin, that of the bits from the next on, the symbols of all bits are known that are not
+-- passed, where they are so many bits before.
+abbrev pub NotesOrigin : BitReceiving → BitReceiving → (rate : Rate) → (origin : ℕ) → Type 0
+NotesOrigin before now rate origin = (bits : List Bool) (at then : ℕ → ℕ)
+    → length bits < bits_bound → BitReceiverStandsFor before bits
+    → AreKnown (Some rate) before.batch.config at (length bits) before
+    → ((n : ℕ) → n < length bits → then n ≡ at n)
+    → ((n : ℕ) → length bits ≤ n → then n ≡ symbol_by (Some rate) before.batch.config origin n)
+    → ((n : ℕ) → before.finder.passed ≤ n
+    → symbol_by (Some rate) before.batch.config (origin_at now.origins.origins n) n ≡ then n)
+    × ((to : ℕ) → length bits + before.batch.config.keep ≤ to
+    → AreSpaced before.batch.config.keep to now.origins.origins)
+
 -- the items that were not due before the end of the bits was known were handed over
 pub record ReceivedLast {T : Type 0} (took : T → ItemValue → T → Type 0) (before : BitReceiving)
     (taker taker_now : T) : Type 0 where
   pub items : List ItemValue
   pub handed : HandedOver took taker items taker_now
   pub last : AreLast before.batch.config (BitReceiverStandsFor before) items
+  pub symbols : (count : ℕ) (at : ℕ → ℕ) → AreAt at count before.batch.symbols
+      → AreAt at count (map place_symbol items)
 
 -- first ones of these were handed over, until the taker failed at one of them
 pub record ReceivedLastPart {T : Type 0} (took broke : T → ItemValue → T → Type 0)
@@ -212,6 +321,8 @@ pub record ReceivedLastPart {T : Type 0} (took broke : T → ItemValue → T →
   pub tried : List ItemValue
   pub handed : HandedPart took broke taker tried taker_now
   pub first : AreFirstLast before.batch.config (BitReceiverStandsFor before) tried
+  pub symbols : (count : ℕ) (at : ℕ → ℕ) → AreAt at count before.batch.symbols
+      → AreAt at count (map place_symbol tried)
 
 -- ---- octets that are taken
 
@@ -251,6 +362,30 @@ pub record Decodes (before now : InnerDecoding) (more : List (Handed WindowBlock
       → HasRead now given (done ++ more) × (unread now ≡ None)
       × (before.has_ended ≡ false → IsChosenSoFar now.config given now.chosen)
 
+-- Whatever octets were put in, and blocks decoded, before: the symbols of these blocks are known too,
+-- and these items say theirs.
+abbrev pub DecodesSymbols : Stages → Stages → List WindowBlock → List ItemValue → Type 0
+DecodesSymbols before now blocks items = (given : List ℕ) (done : List WindowBlock)
+    → InnerDecoderStandsFor before.inner given done → is_some before.inner.config.inner ≡ true
+    → before.bits.batch.config ≡ before.inner.config
+    → BitReceiverStandsFor before.bits (bits_of_blocks done)
+    → SymbolsFor before.inner.config (skip_of before.inner.chosen) done
+    (length (bits_of_blocks done)) before.bits
+    → SymbolsFor before.inner.config (skip_of now.inner.chosen) (done ++ blocks)
+    (length (bits_of_blocks (done ++ blocks))) now.bits
+    × AreAt (symbol_at before.inner.config (skip_of now.inner.chosen) (done ++ blocks))
+    (length (bits_of_blocks (done ++ blocks))) (map place_symbol items)
+
+abbrev pub DecodesFirstSymbols : Stages → Stages → List WindowBlock → List ItemValue → Type 0
+DecodesFirstSymbols before now blocks tried = (given : List ℕ) (done : List WindowBlock)
+    → InnerDecoderStandsFor before.inner given done → is_some before.inner.config.inner ≡ true
+    → before.bits.batch.config ≡ before.inner.config
+    → BitReceiverStandsFor before.bits (bits_of_blocks done)
+    → SymbolsFor before.inner.config (skip_of before.inner.chosen) done
+    (length (bits_of_blocks done)) before.bits
+    → AreAt (symbol_at before.inner.config (skip_of now.inner.chosen) (done ++ blocks))
+    (length (bits_of_blocks (done ++ blocks))) (map place_symbol tried)
+
 -- the phase that it has read went to the taker, and the bits of the blocks to the search
 pub record Decoded {T : Type 0} (took_phase : T → ℕ → ℕ → T → Type 0)
     (took : T → ItemValue → T → Type 0) (before now : Stages) (taker taker_now : T)
@@ -262,6 +397,9 @@ pub record Decoded {T : Type 0} (took_phase : T → ℕ → ℕ → T → Type 0
   pub phased : HandedOver (on_handed {I = ItemValue} took_phase took) taker (with_phase phase [])
       middle
   pub received : Received took before.bits now.bits middle taker_now (bits_of_blocks blocks)
+  pub symbols : DecodesSymbols before now blocks received.items
+  pub plain : before.bits.batch.config.inner ≡ None
+      → SaySymbols before.bits now.bits (bits_of_blocks blocks) received.items
 
 -- the taker failed at the phase, or at one of the first items that are due with these bits
 pub record DecodedPart {T : Type 0} (took_phase broke_phase : T → ℕ → ℕ → T → Type 0)
@@ -275,3 +413,6 @@ pub record DecodedPart {T : Type 0} (took_phase broke_phase : T → ℕ → ℕ 
       (with_phase phase [] ++ map Item tried) taker_now
   pub first : AreFirstDue before.bits.batch.config (BitReceiverStandsFor before.bits)
       (bits_of_blocks blocks) tried
+  pub symbols : DecodesFirstSymbols before now blocks tried
+  pub plain : before.bits.batch.config.inner ≡ None
+      → SayFirstSymbols before.bits (bits_of_blocks blocks) tried

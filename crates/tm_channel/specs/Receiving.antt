@@ -13,6 +13,7 @@ use Rattle.tm_sync.specs.Bits.{bits_bound}
 use Rattle.tm_codeblock.specs.ReceivedCodeblock.{rules_of, codeblock_in, columns_of, places_in, sound_in}
 use Rattle.tm_channel.specs.Items.{ItemValue, IsItem, AreItemsOf, AreFirstItemsOf}
 use Rattle.tm_channel.specs.Due.{due_count, due}
+use Rattle.tm_channel.specs.Origins.{PlaceSymbol}
 
 -- ---- when an item is handed over
 
@@ -90,11 +91,12 @@ IsHanded c before stored items =
     ((length before < c.batch) × (stored ≡ before) × (items ≡ []))
     ⊎ ((length before ≡ c.batch) × (stored ≡ []) × AreItemsFor c before items)
 
--- what contracts see of a batch of codeblocks: those that are stored, and the items that were
--- written when these were repaired
+-- what contracts see of a batch of codeblocks: those that are stored, their symbols, and the items
+-- that were written when these were repaired
 pub record Batching : Type 0 where
   pub config : Configuration
   pub stored : List StoredCodeblock
+  pub symbols : List PlaceSymbol
   pub items : List ItemValue
 
 -- each is repaired as it is stored, where places are looked for inside codeblocks

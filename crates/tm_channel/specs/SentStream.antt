@@ -14,6 +14,7 @@ use Rattle.tm_sync.specs.Marked.{Entry, IsMarked, places_of}
 use Rattle.tm_sync.specs.PlacesInside.{HasNoneInside, MayStand}
 use Rattle.tm_codeblock.specs.Cadu.{codeblock_of, cadu}
 use Rattle.tm_codeblock.specs.ReceivedCodeblock.{rules_of, codeblock_in, received_columns, columns_of, sound_in}
+use Rattle.tm_inner.specs.SymbolPlaces.{symbols_before}
 use Rattle.tm_channel.specs.Items.{ItemValue}
 
 -- a transfer frame of a configuration
@@ -119,6 +120,7 @@ abbrev pub clean_items : Configuration → ℕ → List (List ℕ) → List Item
 clean_items c at [] = []
 clean_items c at (frame ∷ frames) = record {
   found = record { place = at; distance = 0; bridged = false; inverted = false };
+  symbol = symbols_before c.inner at;
   answers = clean_answers c;
   frame = frame;
 } ∷ clean_items c (at + marker_size + 8 * codeblock_length c) frames

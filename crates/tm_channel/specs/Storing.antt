@@ -7,6 +7,7 @@ use Rattle.tm_workers.specs.declared.words.Word.{Word}
 use Rattle.tm_codeblock.specs.ReceivedCodeblock.{column_count, received_columns}
 use Rattle.tm_channel.specs.ColumnWords.{all_symbols}
 use Rattle.tm_channel.specs.Items.{ItemValue, AreNearest, is_given}
+use Rattle.tm_channel.specs.Origins.{PlaceSymbol}
 use Rattle.tm_channel.specs.Receiving.{StoredCodeblock}
 use Rattle.tm_channel.specs.declared.slot.Slot.{Slot}
 
@@ -14,10 +15,15 @@ use Rattle.tm_channel.specs.declared.slot.Slot.{Slot}
 abbrev pub stored_in : ℕ → Slot → StoredCodeblock
 stored_in size slot = record { found = slot.found; codeblock = take size slot.octets }
 
+-- where the codeblock in a slot stands
+abbrev pub place_in : Slot → PlaceSymbol
+place_in slot = record { place = slot.found.place; symbol = slot.symbol }
+
 -- the item that is written in a slot
 abbrev pub item_in : Configuration → Slot → ItemValue
 item_in c slot = record {
   found = slot.found;
+  symbol = slot.symbol;
   answers = take (column_count c) slot.answers;
   frame = if is_given c (take (column_count c) slot.answers) then take c.frame_length slot.frame
       else [];

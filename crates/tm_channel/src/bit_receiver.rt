@@ -1,5 +1,5 @@
 // Bits in, items out.
-ghost use Rattle.std.specs.Prelude.{◌≡◌, ◌<◌, ◌≤◌, ◌*◌, ℕ, Bool, false, List, [], ◌++◌, length, take, drop, OnOk, OnErr, IsTrue};
+ghost use Rattle.std.specs.Prelude.{◌≡◌, ◌<◌, ◌≤◌, ◌*◌, ℕ, Bool, false, List, [], ◌++◌, length, map, take, drop, OnOk, OnErr, IsTrue};
 ghost use Rattle.tm_base.specs.Bits.{bits_of};
 ghost use Rattle.tm_base.specs.Outside.{HasCause};
 ghost use Rattle.tm_base.specs.Takers.{HandedOver, HandedPart};
@@ -7,11 +7,13 @@ ghost use Rattle.tm_sync.specs.declared.found.Found.{Found};
 ghost use Rattle.tm_sync.specs.Bits.{bits_bound};
 ghost use Rattle.tm_codeblock.specs.ReceivedCodeblock.{places_in};
 ghost use Rattle.tm_channel.specs.Items.{ItemValue};
-ghost use Rattle.tm_channel.specs.Receiving.{Agree, AreItemsFor, AreWritten, HoldsFound, IsHanded, IsReady};
-ghost use Rattle.tm_channel.specs.OctetReceiving.{Received, ReceivedPart, Settles, SettlesPart};
+ghost use Rattle.tm_channel.specs.Origins.{AreHandedSymbols, place_symbol};
+ghost use Rattle.tm_channel.specs.Receiving.{Agree, AreItemsFor, AreWritten, HoldsFound, IsHanded, IsReady, Stands};
+ghost use Rattle.tm_channel.specs.OctetReceiving.{KeepsSymbols, ReceivedAt, ReceivedPartAt, Settles, SettlesPart, SettlesSymbols, SettlesSymbolsPart, receiving};
 
 use crate::crew::ReceiverCrew;
 use crate::item::ItemTaker;
+use crate::origins::Origins;
 use crate::store::Codeblocks;
 use tm_base::Failed;
 use tm_sync::{Finder, RecentBits};
@@ -20,10 +22,11 @@ use tm_sync::{Finder, RecentBits};
 fn hand_over<T: ItemTaker>(batch: &Codeblocks, taker: &mut T) -> Result<(), Failed>
     requires { AreItemsFor batch.now.config batch.now.stored batch.now.items }
     ensures all { OnOk result ((items : List ItemValue) × AreItemsFor batch.now.config batch.now.stored items
-        × HandedOver T.took taker.old items taker.new) }
+        × HandedOver T.took taker.old items taker.new × (map place_symbol items ≡ batch.now.symbols)) }
     ensures part { OnErr result ((count : ℕ) × (items : List ItemValue)
         × AreItemsFor batch.now.config (take count batch.now.stored) items
-        × HandedPart T.took T.broke taker.old items taker.new) }
+        × HandedPart T.took T.broke taker.old items taker.new
+        × (map place_symbol items ≡ take count batch.now.symbols)) }
     ensures cause { HasCause (T.faults taker.old) (T.faults taker.new) (T.is_last taker.new) result }
 {
     for i in 0..batch.count() {
@@ -52,6 +55,7 @@ impl BitReceiver {
     pub fn receive<C: ReceiverCrew, T: ItemTaker>(
         &mut self,
         crew: &C,
+        origins: &Origins,
         octets: &[u8],
         from: usize,
         taker: &mut T,
@@ -61,14 +65,10 @@ impl BitReceiver {
         requires ready { IsReady self.old.finder self.old.recent self.old.batch }
         ensures ready { IsReady self.new.finder self.new.recent self.new.batch }
         ensures config { self.new.batch.config ≡ self.old.batch.config }
-        ensures handed { OnOk result (Received T.took
-            (record { finder = self.old.finder; recent = self.old.recent; batch = self.old.batch })
-            (record { finder = self.new.finder; recent = self.new.recent; batch = self.new.batch })
-            taker.old taker.new (drop from (bits_of octets.now))) }
-        ensures part { OnErr result (ReceivedPart T.took T.broke
-            (record { finder = self.old.finder; recent = self.old.recent; batch = self.old.batch })
-            (record { finder = self.new.finder; recent = self.new.recent; batch = self.new.batch })
-            taker.old taker.new (drop from (bits_of octets.now))) }
+        ensures handed { OnOk result (ReceivedAt T.took (receiving self.old origins.now)
+            (receiving self.new origins.now) taker.old taker.new (drop from (bits_of octets.now))) }
+        ensures part { OnErr result (ReceivedPartAt T.took T.broke (receiving self.old origins.now)
+            (receiving self.new origins.now) taker.old taker.new (drop from (bits_of octets.now))) }
         ensures cause { HasCause (T.faults taker.old) (T.faults taker.new) (T.is_last taker.new) result }
     {
         let mut first = from / 8;
@@ -76,7 +76,7 @@ impl BitReceiver {
         while first < octets.len() {
             let end = first + self.recent.free().min(octets.len() - first);
             self.recent.push(&octets[first..end], begun);
-            match self.keep_all(crew, taker) {
+            match self.keep_all(crew, origins, taker) {
                 Ok(()) => {}
                 Err(Failed) => return Err(Failed),
             }
@@ -86,10 +86,21 @@ impl BitReceiver {
         Ok(())
     }
 
+    /// How many bits it was given.
+    pub fn count(&self) -> u64
+        ensures { (bits : List Bool) → length bits < bits_bound
+            → Stands self.now.finder self.now.recent self.now.batch bits → result ≡ length bits }
+    {
+        self.finder
+            .passed()
+            .wrapping_add(self.recent.count() as u64)
+    }
+
     // Keeps the codeblocks that are whole with the last bits, and hands over each batch that is full with them.
     fn keep_all<C: ReceiverCrew, T: ItemTaker>(
         &mut self,
         crew: &C,
+        origins: &Origins,
         taker: &mut T,
     ) -> Result<(), Failed>
         requires crew { C.can_decode crew.now }
@@ -98,18 +109,18 @@ impl BitReceiver {
         ensures ready { IsReady self.new.finder self.new.recent self.new.batch }
         ensures config { self.new.batch.config ≡ self.old.batch.config }
         ensures all { OnOk result ((items : List ItemValue) × HandedOver T.took taker.old items taker.new
-            × Settles (record { finder = self.old.finder; recent = self.old.recent; batch = self.old.batch })
-            (record { finder = self.new.finder; recent = self.new.recent; batch = self.new.batch }) items) }
+            × Settles (receiving self.old origins.now) (receiving self.new origins.now) items
+            × SettlesSymbols (receiving self.old origins.now) (receiving self.new origins.now) items) }
         ensures broke { OnErr result ((tried : List ItemValue) × HandedPart T.took T.broke taker.old tried taker.new
-            × SettlesPart (record { finder = self.old.finder; recent = self.old.recent; batch = self.old.batch })
-            tried) }
+            × SettlesPart (receiving self.old origins.now) tried
+            × SettlesSymbolsPart (receiving self.old origins.now) tried) }
         ensures cause { HasCause (T.faults taker.old) (T.faults taker.new) (T.is_last taker.new) result }
     {
-        while self.keep_next() {
+        while self.keep_next(origins) {
             match self.hand_full(crew, taker) {
                 Ok(()) => {}
                 Err(Failed) => {
-                    self.skip_whole();
+                    self.skip_whole(origins);
                     return Err(Failed);
                 }
             }
@@ -118,20 +129,20 @@ impl BitReceiver {
     }
 
     // Passes over the codeblocks that are whole, and keeps none.
-    fn skip_whole(&mut self)
+    fn skip_whole(&mut self, origins: &Origins)
         requires agree { Agree self.old.finder self.old.recent self.old.batch }
         requires few { length self.old.batch.stored < self.old.batch.config.batch }
         ensures ready { IsReady self.new.finder self.new.recent self.new.batch }
         ensures config { self.new.batch.config ≡ self.old.batch.config }
     {
-        while self.keep_next() {
+        while self.keep_next(origins) {
             self.batch.clear();
         }
     }
 
-    // Keeps the next codeblock that is whole with the last bits, or passes it where it does not count. Answers whether
+    // Keeps the next codeblock that is whole with the last bits, or passes it where it does not count. Returns whether
     // there was one.
-    fn keep_next(&mut self) -> bool
+    fn keep_next(&mut self, origins: &Origins) -> bool
         requires agree { Agree self.old.finder self.old.recent self.old.batch }
         requires few { length self.old.batch.stored < self.old.batch.config.batch }
         ensures agree { Agree self.new.finder self.new.recent self.new.batch }
@@ -146,11 +157,14 @@ impl BitReceiver {
         ensures kept { IsTrue result → (next : List Found) × ((handed : ℕ) (bits : List Bool) (found : List Found)
             → length bits < bits_bound → HoldsFound self.old.finder self.old.recent self.old.batch handed bits found
             → HoldsFound self.new.finder self.new.recent self.new.batch handed bits (found ++ next)) }
+        ensures symbols { KeepsSymbols (receiving self.old origins.now) (receiving self.new origins.now) }
     {
         match self.finder.next(&mut self.recent) {
             None => false,
             Some(found) => {
-                let sound = self.batch.keep(found, &self.recent);
+                let origin = origins.at(found.place);
+                let symbol = self.batch.symbol(origin, found.place);
+                let sound = self.batch.keep(found, symbol, &self.recent);
                 if !self.finder.take(&mut self.recent, found, sound) {
                     self.batch.drop_last();
                 }
@@ -175,11 +189,13 @@ impl BitReceiver {
         ensures few { length self.new.batch.stored < self.new.batch.config.batch }
         ensures all { OnOk result ((items : List ItemValue)
             × IsHanded self.old.batch.config self.old.batch.stored self.new.batch.stored items
-            × HandedOver T.took taker.old items taker.new) }
+            × HandedOver T.took taker.old items taker.new
+            × AreHandedSymbols self.old.batch.symbols self.new.batch.symbols items) }
         ensures broke { OnErr result ((count : ℕ) × (items : List ItemValue)
             × AreItemsFor self.old.batch.config (take count self.old.batch.stored) items
             × (length self.old.batch.stored ≡ self.old.batch.config.batch)
-            × HandedPart T.took T.broke taker.old items taker.new) }
+            × HandedPart T.took T.broke taker.old items taker.new
+            × (map place_symbol items ≡ take count self.old.batch.symbols)) }
         ensures cause { HasCause (T.faults taker.old) (T.faults taker.new) (T.is_last taker.new) result }
     {
         if self.batch.count() < self.batch.room() {
@@ -204,12 +220,15 @@ impl BitReceiver {
         ensures config { self.new.batch.config ≡ self.old.batch.config }
         ensures written { AreWritten self.new.batch }
         ensures stored { self.new.batch.stored ≡ [] }
+        ensures symbols { self.new.batch.symbols ≡ [] }
         ensures all { OnOk result ((items : List ItemValue)
             × AreItemsFor self.old.batch.config self.old.batch.stored items
-            × HandedOver T.took taker.old items taker.new) }
+            × HandedOver T.took taker.old items taker.new
+            × (map place_symbol items ≡ self.old.batch.symbols)) }
         ensures broke { OnErr result ((count : ℕ) × (items : List ItemValue)
             × AreItemsFor self.old.batch.config (take count self.old.batch.stored) items
-            × HandedPart T.took T.broke taker.old items taker.new) }
+            × HandedPart T.took T.broke taker.old items taker.new
+            × (map place_symbol items ≡ take count self.old.batch.symbols)) }
         ensures cause { HasCause (T.faults taker.old) (T.faults taker.new) (T.is_last taker.new) result }
     {
         self.batch.repair(crew);

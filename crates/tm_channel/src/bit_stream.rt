@@ -2,15 +2,18 @@
 ghost use Rattle.std.specs.Prelude.{◌≡◌, ◌+◌, ◌*◌, ◌<◌, ◌≤◌, [], drop, length, None, OnOk, OnErr};
 ghost use Rattle.tm_base.specs.Bits.{bits_of};
 ghost use Rattle.tm_base.specs.Outside.{HasCause};
+ghost use Rattle.tm_conv.specs.declared.rates.Rate.{Rate};
 ghost use Rattle.tm_sync.specs.Bits.{bits_bound};
 ghost use Rattle.tm_sync.specs.Places.{settled_by};
 ghost use Rattle.tm_codeblock.specs.ReceivedCodeblock.{columns_of, rules_of};
+ghost use Rattle.tm_channel.specs.Origins.{ReachesBack};
 ghost use Rattle.tm_channel.specs.Receiving.{waiting_bits};
-ghost use Rattle.tm_channel.specs.OctetReceiving.{AreSpare, BitReceiverStandsFor, Received, ReceivedPart, ReceivedLast, ReceivedLastPart, spare_bits};
+ghost use Rattle.tm_channel.specs.OctetReceiving.{AreSpare, BitReceiverStandsFor, Notes, NotesOrigin, ReceivedAt, ReceivedPartAt, ReceivedLast, ReceivedLastPart, spare_bits};
 
 use crate::bit_receiver::BitReceiver;
 use crate::crew::ReceiverCrew;
 use crate::item::ItemTaker;
+use crate::origins::Origins;
 use crate::store::Codeblocks;
 use std::marker::Model;
 use tm_base::Failed;
@@ -20,9 +23,12 @@ use tm_sync::{Finder, RecentBits};
 #[derive(Drop)]
 pub struct BitStream {
     receiver: BitReceiver,
+    // Of the bits that it was given last, and of all that are not passed.
+    origins: Origins,
 }
 
 impl Model for BitStream {
+    ghost use Rattle.tm_channel.specs.Origins.{ReachesBack};
     ghost use Rattle.tm_channel.specs.Receiving.{IsReady};
     ghost use Rattle.tm_channel.specs.OctetReceiving.{BitReceiving};
 
@@ -32,14 +38,17 @@ impl Model for BitStream {
       finder = s.receiver.finder;
       recent = s.receiver.recent;
       batch = s.receiver.batch;
+      origins = s.origins;
     } };
 
-    ghost invariant = { λ s. IsReady s.receiver.finder s.receiver.recent s.receiver.batch };
+    ghost invariant = { λ s. IsReady s.receiver.finder s.receiver.recent s.receiver.batch
+        × ReachesBack s.receiver.batch.config s.origins.size };
 }
 
 impl BitStream {
-    /// A receiver that was given no bits. There is room for a few octets more than the search may have to keep.
-    pub fn new(finder: Finder, recent: RecentBits, batch: Codeblocks) -> BitStream
+    /// A receiver that was given no bits. There is room for a few octets more than the search may have to keep, and for
+    /// the origins of as many windows as keep all these bits.
+    pub fn new(finder: Finder, recent: RecentBits, batch: Codeblocks, origins: Origins) -> BitStream
         requires finder { finder ≡ record {
           rules = rules_of batch.config;
           columns = columns_of batch.config;
@@ -48,8 +57,11 @@ impl BitStream {
         } }
         requires recent { recent.bits ≡ [] }
         requires sized { settled_by finder.rules.verify finder.rules.block_bits + 14 ≤ 8 * recent.size }
-        requires batch { batch ≡ record { config = batch.config; stored = []; items = [] } }
+        requires batch { batch ≡ record { config = batch.config; stored = []; symbols = []; items = [] } }
         requires some { 0 < batch.config.batch }
+        requires origins { origins.origins ≡ [] }
+        requires reaches { ReachesBack batch.config origins.size }
+        ensures symbols { (result.batch.symbols ≡ []) × (result.origins.origins ≡ []) }
         ensures config { result.batch.config ≡ batch.config }
         ensures stands { BitReceiverStandsFor result [] }
     {
@@ -59,7 +71,17 @@ impl BitStream {
                 recent,
                 batch,
             },
+            origins,
         }
+    }
+
+    /// Notes how many of the octets that were given are of no step before the next bit.
+    pub fn note(&mut self, origin: u64)
+        ensures same { Notes self.old self.new }
+        ensures noted { (rate : Rate) → NotesOrigin self.old self.new rate origin }
+    {
+        let first = self.receiver.count();
+        self.origins.note(first, origin);
     }
 
     /// Takes the next bits, those of octets after the first `from` ones, and hands over the items that are due with
@@ -76,12 +98,15 @@ impl BitStream {
         requires most { 8 * length octets.now < bits_bound }
         ensures config { self.new.batch.config ≡ self.old.batch.config }
         ensures handed { OnOk result
-            (Received T.took self.old self.new taker.old taker.new (drop from (bits_of octets.now))) }
+            (ReceivedAt T.took self.old self.new taker.old taker.new (drop from (bits_of octets.now))) }
         ensures part { OnErr result
-            (ReceivedPart T.took T.broke self.old self.new taker.old taker.new (drop from (bits_of octets.now))) }
+            (ReceivedPartAt T.took T.broke self.old self.new taker.old taker.new (drop from (bits_of octets.now))) }
         ensures cause { HasCause (T.faults taker.old) (T.faults taker.new) (T.is_last taker.new) result }
     {
-        match self.receiver.receive(crew, octets, from, taker) {
+        match self
+            .receiver
+            .receive(crew, &self.origins, octets, from, taker)
+        {
             Ok(()) => Ok(()),
             Err(Failed) => Err(Failed),
         }

@@ -13,6 +13,10 @@ use tm_rs_solve::Answer;
 pub struct Item<'a> {
     /// How many received bits stand before its marker.
     pub place: u64,
+    /// The number, from 0, of the first symbol of its marker among all octets that were given, or with no inner code and
+    /// packed bits among all bits, those counted that were skipped or dropped. With an inner code it is the first symbol
+    /// of the step of the marker's first bit.
+    pub symbol: u64,
     /// How many of the marker's 32 bits are wrong, in the codeblock's polarity.
     pub distance: u8,
     /// Whether the marker matches in no way, and its place was taken since it directly follows a codeblock.
@@ -35,6 +39,7 @@ impl<'a> Model for Item<'a> {
 
     ghost view = { λ i. record {
       found = record { place = i.place; distance = i.distance; bridged = i.bridged; inverted = i.inverted };
+      symbol = i.symbol;
       answers = i.answers.now;
       frame = i.frame.now;
     } };

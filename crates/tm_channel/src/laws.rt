@@ -24,7 +24,7 @@ ghost use Rattle.tm_channel.specs.SoundCodeblocks.{IsFoundAt, IsSoundAt};
 ghost use Rattle.tm_channel.specs.Disturbed as disturbed;
 
 use tm_conv::{best_path_law, complement_law};
-use tm_inner::{clean_inner_law, due_bits_law, inner_law};
+use tm_inner::{clean_inner_law, inner_law};
 use tm_viterbi::complemented_blocks_law;
 use tm_windows::{closed_prefix_law, due_windows_law, phase_law, whole_window_law};
 
@@ -51,7 +51,8 @@ pub fn due_items_law()
         → ReceiveDue c phase octets due → Receive c phase (octets ++ more) items
         → (rest : List ItemValue) × (items ≡ due ++ rest) }
 {
-    due_bits_law();
+    closed_prefix_law();
+    due_windows_law();
 }
 
 /// Items that are first ones for octets stand first among the items of these octets with any others after them, and
@@ -102,7 +103,7 @@ pub fn received_law()
 }
 
 /// However the units of frames were disturbed, with gaps before and after them, their items stand exactly at their
-/// markers, with distances, bridges and polarities, and each column that is within the repair bound answers how many of
+/// markers, with distances, bridges and polarities, and each column that is within the repair bound says how many of
 /// its symbols were wrong. Where that is so of every column, the frames come out in order. It does nothing.
 pub fn disturbed_law()
     ensures items { (c : Configuration) (phase : ℕ) (octets : List ℕ) (bits : List Bool) (units : List SentUnit)

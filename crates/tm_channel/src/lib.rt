@@ -9,6 +9,7 @@ mod column_words;
 mod crew;
 mod item;
 mod laws;
+mod origins;
 mod packed;
 mod pipeline;
 mod receiver;
@@ -29,7 +30,9 @@ pub use sender::Sender;
 pub use store::waiting_bits;
 pub use tm_codeblock::{basis_of, cadu};
 pub use tm_config::{Config, ConfigError, Raw};
-pub use tm_inner::{InnerEnd, InnerReceiver, InnerSender, SendError, inner_all};
+pub use tm_inner::{
+    InnerEnd, InnerReceiver, InnerSender, NoWatch, SendError, Window, WindowWatch, inner_all,
+};
 pub use tm_rs_solve::Answer;
 pub use tm_viterbi::{Block, BlockTaker};
 pub use tm_windows::{AllError, Alone, Chosen, Crew, FeedError, Threaded};

@@ -2,7 +2,7 @@
 ghost use Rattle.std.specs.Prelude.{◌≡◌, ◌<◌, ◌≤◌, ◌⊎◌, ◌*◌, ◌%◌, ◌==◌, length, map, OnOk, OnErr};
 ghost use Rattle.tm_base.specs.Outside.{HasCause};
 ghost use Rattle.tm_channel.specs.Calls.{TakesBits};
-ghost use Rattle.tm_channel.specs.OctetReceiving.{Received, ReceivedPart};
+ghost use Rattle.tm_channel.specs.OctetReceiving.{ReceivedAt, ReceivedPartAt};
 ghost use Rattle.tm_channel.specs.Receiving.{run_size};
 
 use crate::bit_stream::BitStream;
@@ -24,9 +24,9 @@ pub fn take_bits<C: ReceiverCrew, T: ItemTaker>(
     requires crew { C.can_decode crew.now }
     ensures config { stream.new.batch.config ≡ stream.old.batch.config }
     ensures handed { OnOk result
-        (Received T.took stream.old stream.new taker.old taker.new (map (λ bit. bit == 1) bits.now)) }
+        (ReceivedAt T.took stream.old stream.new taker.old taker.new (map (λ bit. bit == 1) bits.now)) }
     ensures part { OnErr result
-        (ReceivedPart T.took T.broke stream.old stream.new taker.old taker.new (map (λ bit. bit == 1) bits.now)) }
+        (ReceivedPartAt T.took T.broke stream.old stream.new taker.old taker.new (map (λ bit. bit == 1) bits.now)) }
     ensures cause { HasCause (T.faults taker.old) (T.faults taker.new) (T.is_last taker.new) result }
 {
     let mut done = 0;

@@ -1,5 +1,5 @@
 // The receiver: octets in, items out.
-ghost use Rattle.std.specs.Prelude.{◌≡◌, ◌≢◌, ◌⊎◌, ℕ, ◌+◌, ◌*◌, ◌<◌, ◌≤◌, true, false, List, [], length, None, IfOk, IsErrOf, Err};
+ghost use Rattle.std.specs.Prelude.{◌≡◌, ◌≢◌, ◌⊎◌, ◌++◌, ℕ, ◌+◌, ◌*◌, ◌<◌, ◌≤◌, true, false, List, [], length, None, IfOk, OnOk, IsErrOf, Err};
 ghost use Rattle.std.specs.Thread.{IsSync};
 ghost use Rattle.tm_base.specs.Handed.{Handed, on_handed};
 ghost use Rattle.tm_base.specs.Outside.{Rose};
@@ -7,7 +7,10 @@ ghost use Rattle.tm_base.specs.Takers.{HandedOver, HandedPart};
 ghost use Rattle.tm_base.specs.Limits.{most_workers};
 ghost use Rattle.tm_config.specs.Accepted.{IsAccepted};
 ghost use Rattle.tm_inner.specs.InnerDecoding.{HasWorkers};
+ghost use Rattle.tm_inner.specs.InnerWindows.{AreDecoded, AreTold, AreWindows};
 ghost use Rattle.tm_inner.specs.Phase.{IsChosenSoFar};
+ghost use Rattle.tm_inner.specs.Receiving.{Hands};
+ghost use Rattle.tm_inner.specs.declared.window.Window.{Window};
 ghost use Rattle.tm_sync.specs.Places.{settled_by};
 ghost use Rattle.tm_codeblock.specs.ReceivedCodeblock.{columns_of, rules_of};
 ghost use Rattle.tm_workers.specs.Batch.{EachBecomes, IsBatch};
@@ -22,6 +25,7 @@ ghost use Rattle.tm_channel.specs.Receiving.{waiting_bits};
 use crate::bit_stream::BitStream;
 use crate::crew::ReceiverCrew;
 use crate::item::ItemTaker;
+use crate::origins::Origins;
 use crate::pipeline::{PIECE, end, take};
 use crate::store::{Codeblocks, waiting_bits};
 use crate::totals::Totals;
@@ -32,7 +36,7 @@ use thiserror::Error;
 use tm_base::{Failed, NoMemory};
 use tm_codeblock::{codeblock_size, columns_of, finds_polarity};
 use tm_config::Config;
-use tm_inner::InnerDecoder;
+use tm_inner::{InnerDecoder, NoWatch, WindowWatch};
 use tm_rs_code::Params;
 use tm_sync::{Finder, RecentBits};
 use tm_windows::{AllError, Chosen, Threaded};
@@ -44,7 +48,7 @@ pub enum RecvError {
     /// The taker of the items failed.
     #[error("taker")]
     Taker,
-    /// An earlier call answered `Taker`, or the receiver was finished.
+    /// An earlier call returned `Taker`, or the receiver was finished.
     #[error("stopped")]
     Stopped,
 }
@@ -104,6 +108,7 @@ impl Receiver {
         ensures workers { IfOk result (λ r. HasWorkers workers (waiting_bits config config.batch)
             r.stages.inner.queue) }
         ensures by { IfOk result (λ r. r.by ≡ workers) }
+        ensures decoded { IfOk result (λ r. AreDecoded r.stages.inner) }
     {
         let waiting = waiting_bits(&config, config.batch());
         let Ok(inner) = InnerDecoder::open(alloc, &config, workers, waiting) else {
@@ -115,10 +120,13 @@ impl Receiver {
         let Ok((search, recent)) = open_search(alloc, &config) else {
             return Err(NoMemory);
         };
+        let Ok(origins) = Origins::open(alloc, &config) else {
+            return Err(NoMemory);
+        };
         Ok(Receiver {
             config,
             inner,
-            stream: BitStream::new(search, recent, batch),
+            stream: BitStream::new(search, recent, batch, origins),
             has_stopped: false,
             by: usize::from(workers),
         })
@@ -130,7 +138,7 @@ impl Receiver {
     /// be compared, or with no inner code at the first octet. Then it is handed over, once, before any item.
     ///
     /// `Taker` comes where `taker` fails; a prefix of what is due was then handed over. `Stopped` comes where an
-    /// earlier call answered `Taker` or the receiver was finished; nothing is handed over then.
+    /// earlier call returned `Taker` or the receiver was finished; nothing is handed over then.
     ///
     /// The octets given in all are to be below 2^60. Workers enter `gate` before each word that they decode.
     pub fn feed<R: Threads + Sync, T: ItemTaker, G: Gate + Sync>(
@@ -148,27 +156,41 @@ impl Receiver {
             requires { IsSync R.row × IsSync G.row × IsBatch params.now.e repair (length words.old) workers }
             ensures { EachBecomes (Decodes params.now repair) words.old words.new }
         { decode_batch(rt, alloc, params, repair, words, workers, gate) };
-        self.receive(&Threaded { rt, words }, octets, taker)
+        self.receive(&Threaded { rt, words }, octets, &mut NoWatch, taker)
     }
 
-    /// Does what `feed` does, by this crew. Calls of both kinds, and of several crews, may follow one another: the items
-    /// are the same.
-    pub fn receive<C: ReceiverCrew, T: ItemTaker>(
+    /// Does what `feed` does, by this crew, and tells of each window of the inner code that is decoded. Calls of both
+    /// kinds, and of several crews, may follow one another: the items are the same, and windows that `feed` decodes are
+    /// not told of.
+    pub fn receive<C: ReceiverCrew, W: WindowWatch, T: ItemTaker>(
         &mut self,
         crew: &C,
         octets: &[u8],
+        watch: &mut W,
         taker: &mut T,
     ) -> Result<(), RecvError>
         requires crew { C.is_ready crew.now × C.can_decode crew.now }
         ensures feeds { Feeds (on_handed T.took_phase T.took) (on_handed T.broke_phase T.broke) T.faults T.is_last
             self.old self.new taker.old taker.new octets.now result }
+        ensures watched { self.old.stages.inner.has_ended ≡ false → OnOk result
+            (Hands W.took AreTold self.old.stages.inner self.new.stages.inner watch.old watch.new octets.now) }
+        ensures all { C.share crew.now 2 ≤ 1 → OnOk result (AreDecoded self.new.stages.inner) }
+        ensures of { (self.old.stages.inner.config ≡ self.old.config)
+            × (self.new.stages.inner.config ≡ self.old.config) × IsAccepted self.old.config }
         ensures by { self.old.has_stopped ≡ false → self.new.by ≡ C.share crew.now self.old.config.workers }
     {
         if self.has_stopped {
             return Err(RecvError::Stopped);
         }
         self.by = workers_by(&self.config, crew);
-        match take(&mut self.inner, &mut self.stream, crew, octets, taker) {
+        match take(
+            &mut self.inner,
+            &mut self.stream,
+            crew,
+            octets,
+            watch,
+            taker,
+        ) {
             Ok(()) => Ok(()),
             Err(Failed) => {
                 self.has_stopped = true;
@@ -178,10 +200,10 @@ impl Receiver {
     }
 
     /// Hands over what is left: the symbol phase, where it is to be found and was not chosen yet, and the last items.
-    /// Answers what all octets came to. It is called once, at the end of the octets.
+    /// Returns what all octets came to. It is called once, at the end of the octets.
     ///
     /// `Taker` comes where `taker` fails; a prefix of all was then handed over. `Stopped` comes where an earlier call
-    /// answered `Taker` or the receiver was finished; nothing is handed over then.
+    /// returned `Taker` or the receiver was finished; nothing is handed over then.
     pub fn finish<R: Threads + Sync, T: ItemTaker, G: Gate + Sync>(
         &mut self,
         rt: &R,
@@ -196,18 +218,23 @@ impl Receiver {
             requires { IsSync R.row × IsSync G.row × IsBatch params.now.e repair (length words.old) workers }
             ensures { EachBecomes (Decodes params.now repair) words.old words.new }
         { decode_batch(rt, alloc, params, repair, words, workers, gate) };
-        self.end(&Threaded { rt, words }, taker)
+        self.end(&Threaded { rt, words }, &mut NoWatch, taker)
     }
 
-    /// Does what `finish` does, by this crew, whichever calls were before.
-    pub fn end<C: ReceiverCrew, T: ItemTaker>(
+    /// Does what `finish` does, by this crew, and tells of the windows that are left, whichever calls were before.
+    pub fn end<C: ReceiverCrew, W: WindowWatch, T: ItemTaker>(
         &mut self,
         crew: &C,
+        watch: &mut W,
         taker: &mut T,
     ) -> Result<Totals, RecvError>
         requires crew { C.is_ready crew.now × C.can_decode crew.now }
         ensures finishes { Finishes (on_handed T.took_phase T.took) (on_handed T.broke_phase T.broke) T.faults T.is_last
             self.old self.new taker.old taker.new result }
+        ensures watched { OnOk result ((last : List Window) × HandedOver W.took watch.old last watch.new
+            × ((given : List ℕ) (done : List Window) → AreTold self.old.stages.inner given done
+            → AreWindows self.old.config given (done ++ last))) }
+        ensures of { (self.old.stages.inner.config ≡ self.old.config) × IsAccepted self.old.config }
         ensures by { self.old.has_stopped ≡ false → self.new.by ≡ C.share crew.now self.old.config.workers }
     {
         if self.has_stopped {
@@ -215,7 +242,7 @@ impl Receiver {
         }
         self.has_stopped = true;
         self.by = workers_by(&self.config, crew);
-        let Ok(totals) = end(&mut self.inner, &mut self.stream, crew, taker) else {
+        let Ok(totals) = end(&mut self.inner, &mut self.stream, crew, watch, taker) else {
             return Err(RecvError::Taker);
         };
         Ok(totals)
@@ -273,7 +300,7 @@ fn open_search(alloc: Global, config: &Config) -> Result<(Finder, RecentBits), N
     Ok((finder, RecentBits::new(room)))
 }
 
-/// Hands over the symbol phase of octets, fewer than 2^60, where it is to be found, and all their items. Answers what
+/// Hands over the symbol phase of octets, fewer than 2^60, where it is to be found, and all their items. Returns what
 /// the octets came to.
 ///
 /// `Memory` comes only where there isn't enough of it; nothing is handed over then. `Taker` comes where `taker` fails;

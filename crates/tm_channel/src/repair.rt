@@ -4,7 +4,7 @@ ghost use Rattle.tm_config.specs.Configuration.{codeblock_length, most_batch};
 ghost use Rattle.tm_codeblock.specs.ReceivedCodeblock.{column_count};
 ghost use Rattle.tm_channel.specs.Items.{IsItem};
 ghost use Rattle.tm_channel.specs.Receiving.{AreItemsFor};
-ghost use Rattle.tm_channel.specs.Storing.{AreDecoded, AreRead, item_in, stored_in};
+ghost use Rattle.tm_channel.specs.Storing.{AreDecoded, AreRead, item_in, place_in, stored_in};
 
 use crate::column_words::read_columns;
 use crate::crew::ReceiverCrew;
@@ -32,6 +32,7 @@ pub fn repair<C: ReceiverCrew>(
     requires words { length words.old ≡ length slots.old * column_count config.now }
     ensures stored { map (stored_in (codeblock_length config.now)) (take count slots.new)
         ≡ map (stored_in (codeblock_length config.now)) (take count slots.old) }
+    ensures places { map place_in (take count slots.new) ≡ map place_in (take count slots.old) }
     ensures items { AreItemsFor config.now (map (stored_in (codeblock_length config.now)) (take count slots.old))
         (map (item_in config.now) (take count slots.new)) }
     ensures slots { length slots.new ≡ length slots.old }
@@ -49,6 +50,7 @@ pub fn repair_slot(alloc: Global, config: &Config, slot: &mut Slot, words: &mut 
     requires words { column_count config.now ≤ length words.old }
     ensures stored { stored_in (codeblock_length config.now) slot.new
         ≡ stored_in (codeblock_length config.now) slot.old }
+    ensures place { place_in slot.new ≡ place_in slot.old }
     ensures item { IsItem config.now slot.old.found (take (codeblock_length config.now) slot.old.octets)
         (item_in config.now slot.new) }
     ensures words { length words.new ≡ length words.old }
@@ -109,6 +111,7 @@ fn write_items(config: &Config, words: &[Word], slots: &mut [Slot])
     requires decoded { AreDecoded config.now slots.old words.now }
     ensures stored { map (stored_in (codeblock_length config.now)) slots.new
         ≡ map (stored_in (codeblock_length config.now)) slots.old }
+    ensures places { map place_in slots.new ≡ map place_in slots.old }
     ensures items { AreItemsFor config.now (map (stored_in (codeblock_length config.now)) slots.old)
         (map (item_in config.now) slots.new) }
     ensures length { length slots.new ≡ length slots.old }

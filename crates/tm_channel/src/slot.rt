@@ -5,7 +5,7 @@ ghost use Rattle.tm_config.specs.Configuration.{codeblock_length, longest_codebl
 ghost use Rattle.tm_codeblock.specs.ReceivedCodeblock.{column_count};
 ghost use Rattle.tm_channel.specs.Items.{IsItem};
 ghost use Rattle.tm_channel.specs.Receiving.{stored_of};
-ghost use Rattle.tm_channel.specs.Storing.{IsDecoded, answers_of, item_in, stored_in};
+ghost use Rattle.tm_channel.specs.Storing.{IsDecoded, answers_of, item_in, place_in, stored_in};
 
 use crate::column_words::write_frame;
 use crate::item::{Item, are_fixed};
@@ -19,20 +19,30 @@ use tm_workers::Word;
 #[derive(Clone, Copy)]
 pub struct Slot {
     pub found: Found,
+    pub symbol: u64,
     pub octets: [u8; LONGEST_CODEBLOCK],
     pub answers: [Answer; 8],
     pub frame: [u8; LONGEST_CODEBLOCK],
 }
 
 impl Slot {
-    /// Writes the codeblock of this place, which the bits begin with.
-    pub fn fill(&mut self, config: &Config, found: Found, size: usize, recent: &RecentBits)
+    /// Writes the codeblock of this place and its symbol. The bits begin with it.
+    pub fn fill(
+        &mut self,
+        config: &Config,
+        found: Found,
+        symbol: u64,
+        size: usize,
+        recent: &RecentBits,
+    )
         requires whole { marker_size + 8 * size ≤ length recent.now.bits }
         requires most { size ≤ longest_codeblock }
-        ensures { stored_in size self.new
+        ensures stored { stored_in size self.new
             ≡ stored_of config.now found (take (8 * size) (drop marker_size recent.now.bits)) }
+        ensures place { place_in self.new ≡ record { place = found.place; symbol = symbol } }
     {
         self.found = found;
+        self.symbol = symbol;
         recent.copy(32, &mut self.octets[..size]);
         read_codeblock(config, found.inverted, &mut self.octets[..size]);
     }
@@ -42,6 +52,7 @@ impl Slot {
         requires words { length words.now ≡ column_count config.now }
         requires decoded { IsDecoded config.now (take (codeblock_length config.now) self.old.octets) words.now }
         ensures found { self.new.found ≡ self.old.found }
+        ensures symbol { self.new.symbol ≡ self.old.symbol }
         ensures octets { self.new.octets ≡ self.old.octets }
         ensures item { IsItem config.now self.old.found (take (codeblock_length config.now) self.old.octets)
             (item_in config.now self.new) }
@@ -68,6 +79,7 @@ impl Slot {
         };
         Item {
             place: self.found.place,
+            symbol: self.symbol,
             distance: self.found.distance,
             bridged: self.found.bridged,
             inverted: self.found.inverted,

@@ -1,12 +1,16 @@
 // The codeblocks of a batch.
-ghost use Rattle.std.specs.Prelude.{◌≡◌, ◌<◌, ◌≤◌, ◌+◌, ◌-◌, ◌*◌, true, [], ◌∷◌, ◌++◌, IfOk, drop, length, take};
+ghost use Rattle.std.specs.Prelude.{◌≡◌, ◌<◌, ◌≤◌, ◌+◌, ◌-◌, ◌*◌, ◌^◌, true, [], ◌∷◌, ◌++◌, IfOk, drop, length, take};
+ghost use Rattle.std.specs.Option.{is_some};
 ghost use Rattle.tm_base.specs.Marker.{marker_size};
 ghost use Rattle.tm_config.specs.Configuration.{longest_codeblock, most_batch, codeblock_length};
 ghost use Rattle.tm_codeblock.specs.ReceivedCodeblock.{codeblock_in, is_sound};
+ghost use Rattle.tm_conv.specs.Path.{farthest_step};
+ghost use Rattle.tm_channel.specs.Origins.{place_symbol, symbol_by};
 ghost use Rattle.tm_channel.specs.Receiving.{AreItemsFor, AreWritten, IsItemAt, least_bits, stored_of, waiting_bits};
 
 use crate::crew::ReceiverCrew;
 use crate::item::{Item, are_fixed};
+use crate::origins::symbol_of;
 use crate::repair::{repair, repair_slot};
 use crate::slot::Slot;
 use std::alloc::{AllocError, Global};
@@ -37,13 +41,14 @@ impl Model for Codeblocks {
     ghost use Rattle.tm_config.specs.Configuration.{codeblock_length, longest_codeblock, most_batch};
     ghost use Rattle.tm_channel.specs.Receiving.{Batching};
     ghost use Rattle.tm_codeblock.specs.ReceivedCodeblock.{column_count};
-    ghost use Rattle.tm_channel.specs.Storing.{item_in, stored_in};
+    ghost use Rattle.tm_channel.specs.Storing.{item_in, place_in, stored_in};
 
     ghost Value = { Batching };
 
     ghost view = { λ s. record {
       config = s.config;
       stored = map (stored_in s.size) (take s.count s.slots.items);
+      symbols = map place_in (take s.count s.slots.items);
       items = map (item_in s.config) (take s.count s.slots.items);
     } };
 
@@ -57,7 +62,7 @@ impl Codeblocks {
     /// Room for codeblocks of this configuration, with none in it. It takes all its memory here.
     pub fn open(alloc: Global, config: Config) -> Result<Codeblocks, AllocError>
         ensures { IfOk result (λ codeblocks. codeblocks
-            ≡ record { config = config; stored = []; items = [] }) }
+            ≡ record { config = config; stored = []; symbols = []; items = [] }) }
     {
         let word = Word {
             symbols: [Gf(0); 255],
@@ -65,6 +70,7 @@ impl Codeblocks {
         };
         let slot = Slot {
             found: NO_PLACE,
+            symbol: 0,
             octets: [0; LONGEST_CODEBLOCK],
             answers: [Answer::Beyond; 8],
             frame: [0; LONGEST_CODEBLOCK],
@@ -80,15 +86,16 @@ impl Codeblocks {
         })
     }
 
-    /// Keeps the codeblock of this place, which the bits begin with, and answers whether it is sound; where none are
-    /// looked for inside codeblocks that is not asked, and it is not repaired yet.
-    pub fn keep(&mut self, found: Found, recent: &RecentBits) -> bool
+    /// Keeps the codeblock of this place, which the bits begin with, and its symbol, and returns whether it is sound;
+    /// where none are looked for inside codeblocks that is not asked, and it is not repaired yet.
+    pub fn keep(&mut self, found: Found, symbol: u64, recent: &RecentBits) -> bool
         requires room { length self.old.stored < self.old.config.batch }
         requires whole { marker_size + 8 * codeblock_length self.old.config ≤ length recent.now.bits }
         requires written { AreWritten self.old }
         ensures config { self.new.config ≡ self.old.config }
         ensures stored { self.new.stored ≡ self.old.stored ++ stored_of self.old.config found
             (take (8 * codeblock_length self.old.config) (drop marker_size recent.now.bits)) ∷ [] }
+        ensures symbols { self.new.symbols ≡ self.old.symbols ++ record { place = found.place; symbol = symbol } ∷ [] }
         ensures written { AreWritten self.new }
         ensures sound { self.old.config.rescan ≡ true → result
             ≡ is_sound self.old.config (codeblock_in self.old.config found.inverted
@@ -96,7 +103,7 @@ impl Codeblocks {
     {
         let size = self.size;
         let index = self.count;
-        self.slots[index].fill(&self.config, found, size, recent);
+        self.slots[index].fill(&self.config, found, symbol, size, recent);
         self.count = index + 1;
         if !self.config.values().rescan {
             return true;
@@ -115,9 +122,20 @@ impl Codeblocks {
         requires some { 0 < length self.old.stored }
         ensures config { self.new.config ≡ self.old.config }
         ensures stored { self.new.stored ≡ take (length self.old.stored - 1) self.old.stored }
+        ensures symbols { self.new.symbols ≡ take (length self.old.symbols - 1) self.old.symbols }
         ensures written { AreWritten self.old → AreWritten self.new }
     {
         self.count -= 1;
+    }
+
+    /// The first symbol of the step of a bit, before which `octets` octets are of no step; with no inner code its
+    /// own.
+    pub fn symbol(&self, octets: u64, bit: u64) -> u64
+        ensures { (is_some self.now.config.inner ≡ true → bit ≤ farthest_step)
+            → symbol_by self.now.config.inner self.now.config octets bit < 2 ^ 64
+            → result ≡ symbol_by self.now.config.inner self.now.config octets bit }
+    {
+        symbol_of(&self.config, octets, bit)
     }
 
     /// How many codeblocks a batch has.
@@ -130,7 +148,8 @@ impl Codeblocks {
 
     /// How many codeblocks are stored.
     pub fn count(&self) -> usize
-        ensures { result ≡ length self.now.stored }
+        ensures value { result ≡ length self.now.stored }
+        ensures symbols { result ≡ length self.now.symbols }
     {
         self.count
     }
@@ -152,6 +171,7 @@ impl Codeblocks {
         requires written { AreWritten self.old }
         ensures config { self.new.config ≡ self.old.config }
         ensures stored { self.new.stored ≡ self.old.stored }
+        ensures symbols { self.new.symbols ≡ self.old.symbols }
         ensures repaired { AreItemsFor self.new.config self.new.stored self.new.items }
     {
         if self.config.values().rescan {
@@ -171,7 +191,8 @@ impl Codeblocks {
     pub fn item(&self, index: usize) -> Item<'_>
         requires repaired { AreItemsFor self.now.config self.now.stored self.now.items }
         requires within { index < length self.now.stored }
-        ensures { IsItemAt self.now.config self.now.stored index result }
+        ensures item { IsItemAt self.now.config self.now.stored index result }
+        ensures symbol { take (index + 1) self.now.symbols ≡ take index self.now.symbols ++ place_symbol result ∷ [] }
     {
         self.slots[index].item(&self.config)
     }
@@ -180,6 +201,7 @@ impl Codeblocks {
     pub fn clear(&mut self)
         ensures config { self.new.config ≡ self.old.config }
         ensures stored { self.new.stored ≡ [] }
+        ensures symbols { self.new.symbols ≡ [] }
         ensures written { AreWritten self.new }
     {
         self.count = 0;

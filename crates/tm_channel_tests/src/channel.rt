@@ -7,7 +7,8 @@ use std::test::Fail;
 use std::thread::Threads;
 use tm_base::{Failed, MemSink, Sink};
 use tm_channel::{
-    AllError, Alone, Answer, Config, Item, ItemTaker, Raw, Receiver, RecvError, Sender, receive_all,
+    AllError, Alone, Answer, Config, Item, ItemTaker, NoWatch, Raw, Receiver, RecvError, Sender,
+    receive_all,
 };
 
 // The sync marker, and the codeblock of the frame 7B: the coefficients of the generator of the code that corrects 16
@@ -234,11 +235,11 @@ fn receive_by_workers(
 }
 
 fn feed_alone(receiver: &mut Receiver, octets: &[u8], taken: &mut Digest) -> Result<(), RecvError> {
-    receiver.receive(&Alone, octets, taken)
+    receiver.receive(&Alone, octets, &mut NoWatch, taken)
 }
 
 fn finish_alone(receiver: &mut Receiver, taken: &mut Digest) -> Result<u64, RecvError> {
-    Ok(receiver.end(&Alone, taken)?.bits)
+    Ok(receiver.end(&Alone, &mut NoWatch, taken)?.bits)
 }
 
 // Takes octets that are given in pieces, and that the caller alone decodes.

@@ -9,6 +9,8 @@ mod places;
 #[cfg(test)]
 mod receiving;
 #[cfg(test)]
+mod symbols;
+#[cfg(test)]
 mod sync;
 #[cfg(test)]
 mod waiting;

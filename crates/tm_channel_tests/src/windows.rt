@@ -6,7 +6,8 @@ use std::thread::Threads;
 use tm_base::{Failed, MemSink};
 use tm_channel::{Config, Item, ItemTaker, Raw, Receiver, RecvError, Sender};
 
-// Keeps one number that goes on with the place and the first octet of each item, and with the end of each piece.
+// Keeps one number that goes on with the place, the symbol and the first octet of each item, and with the end of each
+// piece.
 #[derive(Drop)]
 struct Digest {
     number: u64,
@@ -33,6 +34,7 @@ impl ItemTaker for Digest {
 
     fn item(&mut self, item: &Item<'_>) -> Result<(), Failed> {
         self.add(item.place);
+        self.add(item.symbol);
         match item.frame.first() {
             Some(octet) => self.add(u64::from(*octet)),
             None => self.add(999),

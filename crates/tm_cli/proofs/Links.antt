@@ -3,7 +3,7 @@ use Rattle.std.proofs.Common.{◌≡◌, ◌⊎◌, ℕ, zero, suc, ◌+◌, ◌
 use Rattle.std.specs.List.{concat}
 use Rattle.std.proofs.lemmas.List.{length-map}
 use Rattle.tm_base.specs.Bits.{AreOctets}
-use Rattle.tm_base.specs.Handed.{Handed, items_of}
+use Rattle.tm_base.specs.Handed.{Handed, Item, items_of}
 use Rattle.tm_base.specs.Written.{Wrote}
 use Rattle.tm_config.specs.Configuration.{Configuration, codeblock_length, is_uncoded}
 use Rattle.tm_viterbi.specs.declared.block.Start.TheVariants.{Any}
@@ -15,6 +15,7 @@ use Rattle.tm_windows.specs.declared.choosing.Chosen.{Chosen}
 use Rattle.tm_viterbi.specs.WindowBlock.{WindowBlock}
 use Rattle.tm_inner.specs.Inner.{AreInnerBlocks, BlocksAt, Inner, IsStartKnown, plain_count, reported_slips}
 use Rattle.tm_inner.specs.Phase.{IsChosen, PhaseAt, phase_octets, skip_of, with_phase}
+use Rattle.tm_inner.specs.SymbolPlaces.{symbol_at}
 use Rattle.tm_inner.proofs.PhasePieces.{items_of-with_phase}
 use Rattle.tm_inner.proofs.WithPhase.{OnePhase, one-choice}
 use Rattle.tm_inner.proofs.ReceivedBits.{bits-plain}
@@ -23,9 +24,9 @@ use Rattle.tm_rs_solve.specs.declared.answers.Answer.TheVariants.{Fixed}
 use Rattle.tm_sync.specs.declared.found.Found.{Found}
 use Rattle.tm_viterbi.specs.Clean.{complemented_octets}
 use Rattle.tm_codeblock.specs.Frames.{whole_frames}
-use Rattle.tm_codeblock.specs.ReceivedCodeblock.{received_columns}
+use Rattle.tm_codeblock.specs.ReceivedCodeblock.{places_in, received_columns}
 use Rattle.tm_channel.specs.Sent.{cadus, sent, sent_phase}
-use Rattle.tm_channel.specs.Items.{ItemValue, are_fixed, frames_of, complemented_item}
+use Rattle.tm_channel.specs.Items.{ItemValue, HaveSymbols, are_fixed, frames_of, complemented_item}
 use Rattle.tm_channel.specs.declared.totals.Totals.{Totals}
 use Rattle.tm_channel.specs.Handing.{AreReceived, clean_totals, totals_of}
 use Rattle.tm_channel.specs.Receive.{Receive}
@@ -33,12 +34,15 @@ use Rattle.tm_channel.specs.SentStream.{SentUnit, AreRepaired, AreWithin, AreAsS
 use Rattle.tm_channel.proofs.ReceivedOctets.{SentItems, SentFrames}
 use Rattle.tm_channel.proofs.SentPhase.{sent-skip}
 use Rattle.tm_channel.proofs.SoundItems.{FoundItems}
+use Rattle.tm_channel.proofs.Symbols.{have-said, items-said, said}
+use Rattle.tm_driver.specs.Lines.{phase_text, slips_text}
+use Rattle.tm_cli.specs.Lines.{item_text, report_end_text}
 use Rattle.tm_driver.specs.Meaning.{Ends, WroteOutput, taken_by}
 use Rattle.tm_driver.specs.Statuses.{status_of}
 use Rattle.tm_driver.specs.declared.ending.Ending.{Ending}
 use Rattle.tm_driver.specs.declared.ending.Ending.TheVariants.{Done, Bad, BadWindow, LeftOver, SourceFault, SinkFault, PastLimit}
 use Rattle.tm_cli.specs.Decode.{HasBad, decode_meaning}
-use Rattle.tm_cli.specs.Report.{bad, report_text}
+use Rattle.tm_cli.specs.Report.{bad, fixed, fixed_of, good, items_end_text, items_text, report_text}
 use Rattle.tm_cli.specs.Link.{KeepsCleanLink, KeepsDisturbedLink, KeepsComplementedInput, KeepsComplementedSymbols, KeepsFound}
 
 -- octets come to one list of bits, of blocks and of items
@@ -279,7 +283,14 @@ came one_phase one e status c octets chosen taken taken_now noted noted_now ok s
       bits = all.0;
       items = r.items;
       inner = inner;
-      receive = record { bits = all.0; inner = inner; are_items = all.3 };
+      receive = record {
+        bits = all.0;
+        inner = inner;
+        are_items = all.3;
+        symbols =
+            subst (λ (o : Option Chosen). HaveSymbols (symbol_at c (skip_of o) was.blocks) r.items) same
+            all.4;
+      };
       out = subst (Wrote taken taken_now) (d.are_frames ∙ ap frames_of items) wrote.2.out;
       handed = d.handed;
       totals = d.totals;
@@ -364,6 +375,52 @@ keeps-disturbed one_phase one one_bits one_blocks sent_items sent_frames e statu
       ),
     )
 
+-- no line shows a symbol, and no frame does
+frames-said : (at : ℕ → ℕ) (items : List ItemValue) → frames_of (map (said at) items) ≡ frames_of items
+frames-said at [] = refl
+frames-said at (item ∷ items) = ap (λ l. item.frame ++ l) (frames-said at items)
+
+lines-said : (at : ℕ → ℕ) (number : ℕ) (items : List ItemValue)
+    → items_text number (map Item (map complemented_item (map (said at) items)))
+    ≡ items_text number (map Item (map complemented_item items))
+lines-said at number [] = refl
+lines-said at number (item ∷ items) =
+    ap (λ l. item_text number (complemented_item item) ++ l) (lines-said at (number + 1) items)
+
+phased-said : (at : ℕ → ℕ) (chosen : Option Chosen) (items : List ItemValue)
+    → items_text 0 (with_phase chosen (map complemented_item (map (said at) items)))
+    ≡ items_text 0 (with_phase chosen (map complemented_item items))
+phased-said at None items = lines-said at 0 items
+phased-said at (Some chosen) items = ap (λ l. phase_text chosen.skip chosen.cost ++ l) (lines-said at 0 items)
+
+good-said : (at : ℕ → ℕ) (items : List ItemValue)
+    → good (map complemented_item (map (said at) items)) ≡ good (map complemented_item items)
+good-said at [] = refl
+good-said at (item ∷ items) = ap (λ n. (if are_fixed item.answers then 1 else 0) + n) (good-said at items)
+
+bad-said : (at : ℕ → ℕ) (items : List ItemValue)
+    → bad (map complemented_item (map (said at) items)) ≡ bad (map complemented_item items)
+bad-said at [] = refl
+bad-said at (item ∷ items) = ap (λ n. (if are_fixed item.answers then 0 else 1) + n) (bad-said at items)
+
+fixed-said : (at : ℕ → ℕ) (items : List ItemValue)
+    → fixed (map complemented_item (map (said at) items)) ≡ fixed (map complemented_item items)
+fixed-said at [] = refl
+fixed-said at (item ∷ items) = ap (λ n. fixed_of item.answers + n) (fixed-said at items)
+
+report-said : (at : ℕ → ℕ) (chosen : Option Chosen) (items : List ItemValue) (totals : Totals)
+    → report_text (with_phase chosen (map complemented_item (map (said at) items))) totals
+    ≡ report_text (with_phase chosen (map complemented_item items)) totals
+report-said at chosen items totals =
+    let xs = map complemented_item (map (said at) items) in
+    let ys = map complemented_item items in
+    ap (λ (l : List ItemValue). items_text 0 (with_phase chosen xs) ++ items_end_text l totals)
+    (items_of-with_phase chosen xs)
+    ∙ (λ i. phased-said at chosen items i ++ (slips_text totals.slips
+    ++ report_end_text (good-said at items i) (bad-said at items i) (fixed-said at items i) totals.bits))
+    ∙ sym (ap (λ (l : List ItemValue). items_text 0 (with_phase chosen ys) ++ items_end_text l totals)
+    (items_of-with_phase chosen ys))
+
 pub keeps-complemented_input : OnePhase → OneHanded → OneItems → ComplementedItems
     → (e : Ending) (status : ℕ) (c : Configuration) (octets : List ℕ)
     (taken taken_now noted noted_now : Option (List ℕ))
@@ -371,20 +428,28 @@ pub keeps-complemented_input : OnePhase → OneHanded → OneItems → Complemen
     (taken_by taken taken_now noted noted_now) → (status ≡ 0) ⊎ (status ≡ 1)
     → KeepsComplementedInput c octets taken taken_now noted noted_now
 keeps-complemented_input one_phase one one_items complemented e status c octets taken taken_now noted noted_now ok
-    said ends read = λ other bits items chosen plain find small is choice inner are.
-    let r = came one_phase one e status c octets chosen taken taken_now noted noted_now ok said ends read
+    stated ends read = λ other bits items chosen plain find small is choice inner are.
+    let r = came one_phase one e status c octets chosen taken taken_now noted noted_now ok stated ends read
     (choice-plain c other octets chosen plain choice) in
-    let receive : Receive c (skip_of chosen) octets (map complemented_item items) =
-    subst (λ (l : List ℕ). Receive c (skip_of chosen) l (map complemented_item items)) (sym is)
-    (complemented c (skip_of chosen) other items ok plain find small
-    (record { bits = bits; inner = inner; are_items = are })) in
-    let same : r.items ≡ map complemented_item items = one_items c (skip_of chosen) octets r.items
-    (map complemented_item items) ok r.receive receive in
+    let at = symbol_at c (skip_of chosen) inner.blocks in
+    let with_symbols = map (said at) items in
+    let receive : Receive c (skip_of chosen) octets (map complemented_item with_symbols) =
+    subst (λ (l : List ℕ). Receive c (skip_of chosen) l (map complemented_item with_symbols)) (sym is)
+    (complemented c (skip_of chosen) other with_symbols ok plain find small
+    (record {
+      bits = bits;
+      inner = inner;
+      are_items = items-said c at bits (places_in c bits) items are;
+      symbols = have-said at items;
+    })) in
+    let same : r.items ≡ map complemented_item with_symbols = one_items c (skip_of chosen) octets r.items
+    (map complemented_item with_symbols) ok r.receive receive in
     let count : r.totals ≡ totals_of c bits inner.blocks =
     r.counted ∙ same-totals c (skip_of chosen) octets other r.bits bits plain
     (ap length is ∙ length-map other (λ octet. 255 - octet)) r.inner inner in (
-      subst (Wrote taken taken_now) (ap frames_of same ∙ frames-complemented items) r.out,
+      subst (Wrote taken taken_now) (ap frames_of same ∙ frames-complemented with_symbols ∙ frames-said at items) r.out,
       subst (Wrote noted noted_now) (ap (λ (l : List ItemValue). report_text (with_phase chosen l) r.totals) same
+          ∙ report-said at chosen items r.totals
           ∙ ap (report_text (with_phase chosen (map complemented_item items))) count) r.notes,
     )
 

@@ -162,7 +162,7 @@ none-due c accepted = elim (given_or_find c.phase) as (λ _. AreReceivedDue c []
           chosen = None;
           choice = given;
           items = [];
-          are_items = record { blocks = []; are_due = blocks; are_items = items };
+          are_items = record { blocks = []; are_due = blocks; are_items = items; symbols = tt };
           are = refl;
         },
       )

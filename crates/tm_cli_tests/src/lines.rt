@@ -140,6 +140,7 @@ fn item_of<'a>(rt: &impl Abort, row: &Row<'a>) -> Item<'a> {
     assert!(rt; answers.len() <= 8);
     Item {
         place: row.place,
+        symbol: 0,
         distance: row.distance,
         bridged: row.bridged,
         inverted: row.inverted,

@@ -119,7 +119,14 @@ impl Finder {
         }
     }
 
-    /// Passes bits up to the next place whose codeblock is whole, and answers it: it is to be taken then. None where
+    /// How many bits are passed.
+    pub fn passed(&self) -> u64
+        ensures { result ≡ self.now.passed }
+    {
+        self.passed
+    }
+
+    /// Passes bits up to the next place whose codeblock is whole, and returns it: it is to be taken then. None where
     /// these bits have no more; then they are fewer than settle a place that is searched for.
     ///
     /// The bits in all are to be below 2^63.
@@ -141,7 +148,7 @@ impl Finder {
         None
     }
 
-    /// Takes the place that was found, whose codeblock is sound or not. Answers whether it is a place: always but for
+    /// Takes the place that was found, whose codeblock is sound or not. Returns whether it is a place: always but for
     /// one inside of a codeblock, which is one where its own is sound. Without columns there is none inside, and it
     /// does not matter which are sound.
     pub fn take(&mut self, recent: &mut RecentBits, found: Found, sound: bool) -> bool

@@ -1,5 +1,5 @@
-use Rattle.tm_channel.proofs.DueItems.{due-first}
+use Rattle.tm_channel.proofs.FirstItems.{due-stand}
 use Rattle.tm_channel.proofs.laws.due_items_law.Goals as goal
 
 pub returns : goal.returns
-returns c = due-first c.due_bits_law.ensures
+returns c = due-stand c.closed_prefix_law.ensures c.due_windows_law.ensures.first

@@ -8,7 +8,7 @@ pub returns-clause-exists : goal.returns-clause-exists
 returns-clause-exists c = has-items c.inner_law.ensures.exists
 
 pub returns-clause-one : goal.returns-clause-one
-returns-clause-one c = received-only c.inner_law.ensures.one
+returns-clause-one c = received-only c.inner_law.ensures.one c.inner_law.ensures.blocks
 
 pub returns-clause-passed : goal.returns-clause-passed
 returns-clause-passed c = received-dropped

@@ -1,7 +1,7 @@
 use Rattle.std.proofs.Common.{◌++◌, ◌+◌, ◌∙◌, List, ℕ, take, drop, sym, refl, arith, subst}
 use Rattle.std.proofs.lemmas.List.{take_all}
-use Rattle.tm_channel.specs.OctetReceiving.{Received, ReceivedPart}
-use Rattle.tm_channel.proofs.ReceivedPieces.{part-all, part-then, received-none, received-then}
+use Rattle.tm_channel.specs.OctetReceiving.{ReceivedAt, ReceivedPartAt}
+use Rattle.tm_channel.proofs.ReceivedPieces.{part_at-all, part_at-then, received_at-none, received_at-then}
 use Rattle.tm_channel.proofs.Ones.{all-ones, next-ones, next_octets, ones}
 use Rattle.tm_channel.proofs.packed.take_bits.Goals as goal
 
@@ -10,7 +10,7 @@ loop-done-init g c = record {
   within = omega arith;
   config = refl;
   faults = refl;
-  received = received-none g.T.ItemTaker.took c.args.stream.now c.args.taker.now;
+  received = received_at-none g.T.ItemTaker.took c.args.stream.now c.args.taker.now;
 }
 
 pub loop-done-preserved : goal.loop-done-preserved
@@ -24,9 +24,9 @@ loop-done-preserved g c =
       within = omega (arith, c.run_length-count.ensures.within);
       config = c.take_run.ensures.config ∙ i.config;
       faults = c.in-Ok.ensures.cause.same ∙ i.faults;
-      received = subst (Received took c.args.stream.now now.stream c.args.taker.now now.taker)
+      received = subst (ReceivedAt took c.args.stream.now now.stream c.args.taker.now now.taker)
           (sym (next-ones bits done count))
-          (received-then took c.args.stream.now c.loop-done.stream now.stream c.args.taker.now c.loop-done.taker
+          (received_at-then took c.args.stream.now c.loop-done.stream now.stream c.args.taker.now c.loop-done.taker
           now.taker
           (ones (take done bits)) (ones (next_octets done count bits)) i.received c.in-Ok.ensures.handed);
     }
@@ -41,14 +41,14 @@ returns-in-Err-clause-part g c =
     let took = g.T.ItemTaker.took in
     let broke = g.T.ItemTaker.broke in
     let piece = ones (next_octets done count bits) in
-    subst (ReceivedPart took broke c.args.stream.now now.stream c.args.taker.now now.taker) (all-ones bits done count)
-    (part-all took broke c.args.stream.now now.stream c.args.taker.now now.taker (ones (take done bits) ++ piece)
+    subst (ReceivedPartAt took broke c.args.stream.now now.stream c.args.taker.now now.taker) (all-ones bits done count)
+    (part_at-all took broke c.args.stream.now now.stream c.args.taker.now now.taker (ones (take done bits) ++ piece)
     (ones (drop (done + count) bits))
-    (part-then took broke c.args.stream.now c.loop-done.stream now.stream c.args.taker.now c.loop-done.taker now.taker
+    (part_at-then took broke c.args.stream.now c.loop-done.stream now.stream c.args.taker.now c.loop-done.taker now.taker
     (ones (take done bits)) piece i.received c.in-Err.ensures.part))
 
 pub returns-clause-handed : goal.returns-clause-handed
 returns-clause-handed g c =
-    subst (λ (l : List ℕ). Received g.T.ItemTaker.took c.args.stream.now c.loop-done.stream c.args.taker.now
+    subst (λ (l : List ℕ). ReceivedAt g.T.ItemTaker.took c.args.stream.now c.loop-done.stream c.args.taker.now
     c.loop-done.taker (ones l))
     (take_all c.loop-done.done c.args.bits.now c.loop-done-test.false) c.loop-done.invariant.received

@@ -1,5 +1,5 @@
 use Rattle.std.proofs.Common.{◌≡◌, ◌==◌, ◌-◌, ◌≤◌, take, map, length}
-use Rattle.tm_channel.specs.OctetReceiving.{Received}
+use Rattle.tm_channel.specs.OctetReceiving.{ReceivedAt}
 use Rattle.tm_channel.proofs.packed.take_bits.Given as goal
 
 abbrev pub invariant-loop-done : goal.invariant-loop-done
@@ -7,7 +7,7 @@ invariant-loop-done g l = record {
   within : l.done ≤ length l.bits;
   config : l.stream.batch.config ≡ l.initial.stream.batch.config;
   faults : g.T.ItemTaker.faults l.taker ≡ g.T.ItemTaker.faults l.initial.taker;
-  received : Received g.T.ItemTaker.took l.initial.stream l.stream l.initial.taker l.taker
+  received : ReceivedAt g.T.ItemTaker.took l.initial.stream l.stream l.initial.taker l.taker
       (map (λ bit. bit == 1) (take l.done l.bits));
 }
 

@@ -1,13 +1,19 @@
-use Rattle.std.proofs.Common.{rules, ◌≡◌, ◌⊎◌, ◌<◌, ◌-◌, ◌∙◌, ℕ, nat_lt, if◌then◌else◌, inl, inr, List, [], length, take, drop, true, arith, refl, ap, sym, subst, take-append-drop}
+use Rattle.std.proofs.Common.{rules, ◌≡◌, ◌⊎◌, ◌<◌, ◌-◌, ◌∙◌, ℕ, nat_lt, if◌then◌else◌, inl, inr, List, [], length, take, drop, true, false, OnOk, Result, Ok, Err, arith, refl, ap, sym, subst, take-append-drop}
 use Rattle.std.proofs.lemmas.List.{take_all, take_rest}
 use Rattle.std.proofs.Math.Seq.{take-add}
 use Rattle.std.specs.Option.{is_some}
+use Rattle.std.proofs.lemmas.Bool.Decides.{nat_tests}
 use Rattle.tm_base.specs.Handed.{on_handed}
+use Rattle.tm_config.specs.Configuration.{Configuration}
 use Rattle.tm_inner.specs.InnerDecoding.{HoldsMore, InnerDecoding}
-use Rattle.tm_inner.specs.Receiving.{HandsPrefix}
+use Rattle.tm_inner.specs.InnerWindows.{AreTold}
+use Rattle.tm_inner.specs.Receiving.{Hands, HandsPrefix}
+use Rattle.tm_inner.proofs.DecodedWindows.{decoded-drained}
+use Rattle.tm_inner.proofs.GivenPieces.{hands-more}
 use Rattle.tm_channel.specs.OctetReceiving.{BitReceiving, FirstWith, MayNotWait, Stages, StagesFor, StagesHand, spare_bits}
 use Rattle.tm_channel.proofs.FirstStage.{Fills, fills-of}
 use Rattle.tm_channel.proofs.GivenOctets.{holds-due, holds-part, holds-wait, stages-none}
+use Rattle.tm_channel.proofs.WatchedStages.{decoded-plain, decoded-waits, watched-filled, watched-then}
 use Rattle.tm_channel.proofs.pipeline.take.Goals as goal
 
 pub loop-done-init : goal.loop-done-init
@@ -15,6 +21,8 @@ loop-done-init g c =
     let inner = c.args.inner.now in
     let octets = c.args.octets.now in
     let e = c.fill-done.ensures in
+    let fills = fills-of inner c.fill-done.new.self octets c.fill-done.result
+    (record { config = e.config; phase = e.phase.0; stays = e.settled }) e.phase.1 e.coded e.most e.stands in
     record {
       grows = omega arith;
       first = inr (refl, refl, refl);
@@ -30,10 +38,12 @@ loop-done-init g c =
         hands = stages-none (on_handed g.T.ItemTaker.took_phase g.T.ItemTaker.took)
             (record { inner = inner; bits = c.args.stream.now }) c.args.taker.now;
         piece = take c.fill-done.result octets;
-        fills = fills-of inner c.fill-done.new.self octets c.fill-done.result
-            (record { config = e.config; phase = e.phase.0; stays = e.settled }) e.phase.1 e.coded e.most e.stands;
+        fills = fills;
         all = refl;
       };
+      ended = e.phase.1;
+      told = watched-filled g.W.WindowWatch.took inner c.fill-done.new.self c.args.watch.now
+          (take c.fill-done.result octets) fills;
     }
 
 pub loop-done-preserved : goal.loop-done-preserved
@@ -50,6 +60,11 @@ loop-done-preserved g c =
     let coded : is_some c.args.inner.now.config.inner ≡ true =
     sym c.has_inner_code.ensures ∙ c.if-not-has_inner_code.false in
     let rest : take (length octets - done) (drop done octets) ≡ drop done octets = take_rest octets done in
+    let fills = subst (λ (l : List ℕ). Fills d.new.inner f.new.self (take f.result l)) rest
+    (fills-of d.new.inner f.new.self (take (length octets - done) (drop done octets)) f.result
+    (record { config = e.config; phase = e.phase.0; stays = e.settled }) e.phase.1 e.coded e.most e.stands) in
+    let ended = c.in-Ok.ensures.decoded.decodes.ended ∙ i.ended in
+    let watched = g.W.WindowWatch.took in
     record {
       grows = omega (arith, i.grows);
       first = inl (omega (arith, i.grows, c.loop-done-test.true));
@@ -66,12 +81,19 @@ loop-done-preserved g c =
             c.loop-done.taker d.new.taker (take done octets) coded i.holds c.in-Ok.ensures.decoded
             c.in-Ok.ensures.drained;
         piece = take f.result (drop done octets);
-        fills =
-            subst (λ (l : List ℕ). Fills d.new.inner f.new.self (take f.result l)) rest
-            (fills-of d.new.inner f.new.self (take (length octets - done) (drop done octets)) f.result
-            (record { config = e.config; phase = e.phase.0; stays = e.settled }) e.phase.1 e.coded e.most e.stands);
+        fills = fills;
         all = sym (take-add done f.result octets);
       };
+      ended = e.phase.1 ∙ ended;
+      told = λ going.
+          subst (Hands watched AreTold c.args.inner.now f.new.self c.args.watch.now d.new.watch)
+          (sym (take-add done f.result octets))
+          (hands-more watched AreTold c.args.inner.now d.new.inner f.new.self c.args.watch.now d.new.watch d.new.watch
+          (take done octets) (take f.result (drop done octets))
+          (watched-then watched c.args.inner.now c.loop-done.inner d.new.inner c.args.watch.now c.loop-done.watch
+          d.new.watch (take done octets) (i.told going) c.in-Ok.ensures.watched)
+          (watched-filled watched d.new.inner f.new.self d.new.watch (take f.result (drop done octets)) fills
+          (ended ∙ going)));
     }
 
 pub returns-in-Err-clause-takes : goal.returns-in-Err-clause-takes
@@ -197,3 +219,49 @@ returns-in-Err-take_decoded-clause-takes g c =
           c.in-Err-take_decoded.ensures.part);
       cause = search rules;
     }
+
+-- ---- what the watch was told
+
+pub returns-then-may_wait-clause-watched : goal.returns-then-may_wait-clause-watched
+returns-then-may_wait-clause-watched g c = λ going.
+    subst (Hands g.W.WindowWatch.took AreTold c.args.inner.now c.loop-done.inner c.args.watch.now c.loop-done.watch)
+    (take_all c.loop-done.done c.args.octets.now c.loop-done-test.false) (c.loop-done.invariant.told going)
+
+pub returns-in-Ok-take_decoded-clause-watched : goal.returns-in-Ok-take_decoded-clause-watched
+returns-in-Ok-take_decoded-clause-watched g c = λ going.
+    let d = c.take_decoded-2 in
+    let done = c.loop-done.done in
+    subst (Hands g.W.WindowWatch.took AreTold c.args.inner.now d.new.inner c.args.watch.now d.new.watch)
+    (take_all done c.args.octets.now c.loop-done-test.false)
+    (watched-then g.W.WindowWatch.took c.args.inner.now c.loop-done.inner d.new.inner c.args.watch.now
+    c.loop-done.watch d.new.watch (take done c.args.octets.now) (c.loop-done.invariant.told going)
+    c.in-Ok-take_decoded.ensures.watched)
+
+-- ---- all that is due was decoded
+
+on_ok : {T E P : Type 0} (r : Result T E) → P → OnOk r P
+on_ok (Ok x) p = p
+on_ok (Err e) p = tt
+
+pub returns-then-not-has_inner_code-clause-all : goal.returns-then-not-has_inner_code-clause-all
+returns-then-not-has_inner_code-clause-all g c = λ alone.
+    on_ok c.take_plain.result (decoded-plain c.take_plain.new.inner
+    (ap (λ (k : Configuration). is_some k.inner) c.take_plain.ensures.takes.inner
+    ∙ sym c.has_inner_code.ensures ∙ c.if-not-has_inner_code.true))
+
+pub returns-then-may_wait-clause-all : goal.returns-then-may_wait-clause-all
+returns-then-may_wait-clause-all g c = λ alone.
+    let share : ℕ = g.C.Crew.share c.args.crew.now 2 in
+    let one : nat_lt 1 share ≡ false = grind (arith, nat_tests) in
+    decoded-waits c.loop-done.inner c.spare_bits.result
+    (omega (
+      arith,
+      c.requires.accepted.some_keep,
+      ap (λ (k : Configuration). k.keep) c.loop-done.invariant.inner,
+    ))
+    (c.spare_bits.ensures.exact ∙ ap (λ b. if b then spare_bits c.loop-done.stream else 0) one)
+    (c.may_wait.ensures.waits c.if-may_wait.true)
+
+pub returns-in-Ok-take_decoded-clause-all : goal.returns-in-Ok-take_decoded-clause-all
+returns-in-Ok-take_decoded-clause-all g c = λ alone.
+    decoded-drained c.take_decoded-2.new.inner c.in-Ok-take_decoded.ensures.drained

@@ -1,5 +1,7 @@
-use Rattle.std.proofs.Common.{◌≡◌, ◌⊎◌, ◌<◌, ◌≤◌, ◌-◌, take, length}
+use Rattle.std.proofs.Common.{◌≡◌, ◌⊎◌, ◌<◌, ◌≤◌, ◌-◌, false, take, length}
 use Rattle.tm_base.specs.Handed.{on_handed}
+use Rattle.tm_inner.specs.InnerWindows.{AreTold}
+use Rattle.tm_inner.specs.Receiving.{Hands}
 use Rattle.tm_channel.proofs.GivenOctets.{Holds}
 use Rattle.tm_channel.proofs.pipeline.take.Given as goal
 
@@ -15,6 +17,9 @@ invariant-loop-done g l = record {
   holds : Holds (on_handed g.T.ItemTaker.took_phase g.T.ItemTaker.took)
       (record { inner = l.fn.inner; bits = l.fn.stream }) l.inner l.stream l.fn.taker l.taker
       (take l.done l.octets);
+  ended : l.inner.has_ended ≡ l.fn.inner.has_ended;
+  told : l.fn.inner.has_ended ≡ false
+      → Hands g.W.WindowWatch.took AreTold l.fn.inner l.inner l.fn.watch l.watch (take l.done l.octets);
 }
 
 abbrev pub decreases-loop-done : goal.decreases-loop-done

@@ -1,6 +1,6 @@
 use Rattle.std.proofs.Common.{rules, ◌∙◌, drop, sym, ap, subst, OnOk, OnErr}
 use Rattle.tm_base.specs.Bits.{bits_of}
-use Rattle.tm_channel.specs.OctetReceiving.{Received, ReceivedPart}
+use Rattle.tm_channel.specs.OctetReceiving.{ReceivedAt, ReceivedPartAt}
 use Rattle.tm_inner.proofs.PlainBits.{plain-nearest, plain-packed}
 use Rattle.tm_channel.proofs.Between.{drop-most}
 use Rattle.tm_channel.proofs.pipeline.take_after.Goals as goal
@@ -15,11 +15,11 @@ returns-then-not-is_packed g c =
       config = c.take_nearest.ensures.config;
       handed =
           subst (λ l. OnOk c.take_nearest.result
-          (Received t.took c.args.stream.now now.stream c.args.taker.now now.taker l)) same
+          (ReceivedAt t.took c.args.stream.now now.stream c.args.taker.now now.taker l)) same
           c.take_nearest.ensures.handed;
       part =
           subst (λ l. OnErr c.take_nearest.result
-          (ReceivedPart t.took t.broke c.args.stream.now now.stream c.args.taker.now now.taker l)) same
+          (ReceivedPartAt t.took t.broke c.args.stream.now now.stream c.args.taker.now now.taker l)) same
           c.take_nearest.ensures.part;
       cause = c.take_nearest.ensures.cause;
     }
@@ -32,7 +32,7 @@ returns-in-Ok g c =
     record {
       config = c.receive.ensures.config;
       handed =
-          subst (Received g.T.ItemTaker.took c.args.stream.now c.receive.new.self c.args.taker.now c.receive.new.taker)
+          subst (ReceivedAt g.T.ItemTaker.took c.args.stream.now c.receive.new.self c.args.taker.now c.receive.new.taker)
           (ap (λ n. drop n (bits_of octets)) c.min-from.ensures ∙ drop-most c.args.skip octets ∙ packed)
           c.in-Ok.ensures.handed;
       part = search rules;
@@ -48,7 +48,7 @@ returns-in-Err g c =
       config = c.receive.ensures.config;
       handed = search rules;
       part =
-          subst (ReceivedPart g.T.ItemTaker.took g.T.ItemTaker.broke c.args.stream.now c.receive.new.self
+          subst (ReceivedPartAt g.T.ItemTaker.took g.T.ItemTaker.broke c.args.stream.now c.receive.new.self
           c.args.taker.now c.receive.new.taker)
           (ap (λ n. drop n (bits_of octets)) c.min-from.ensures ∙ drop-most c.args.skip octets ∙ packed)
           c.in-Err.ensures.part;

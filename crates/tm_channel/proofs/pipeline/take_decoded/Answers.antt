@@ -1,12 +1,13 @@
-use Rattle.std.proofs.Common.{◌∙◌, [], length, arith, refl, ap, sym, subst}
+use Rattle.std.proofs.Common.{◌∙◌, ◌++◌, [], length, arith, refl, ap, sym, subst}
 use Rattle.std.proofs.lemmas.List.{append-nil}
 use Rattle.tm_base.specs.Handed.{on_handed}
 use Rattle.tm_base.specs.Takers.{HandedPart}
 use Rattle.tm_inner.specs.InnerDecoding.{InnerDecoding, IsDrained, IsSettledQueue, held_in, ready_in, unread}
+use Rattle.tm_inner.specs.InnerWindows.{AreThere, windows_in}
 use Rattle.tm_inner.specs.Phase.{with_phase}
-use Rattle.tm_channel.specs.OctetReceiving.{Stages}
-use Rattle.tm_channel.proofs.ReceivedPieces.{received-none}
-use Rattle.tm_channel.proofs.FirstStage.{Running, Runs, left-falls, decodes-first, running-more, running-none, running-part}
+use Rattle.tm_inner.proofs.ToldWindows.{ToldBut, told-all, told-next, told-read, told-run}
+use Rattle.tm_channel.specs.OctetReceiving.{BitReceiving, Stages}
+use Rattle.tm_channel.proofs.FirstStage.{Running, Runs, running-start, left-falls, decodes-first, running-more, running-none, running-part}
 use Rattle.tm_channel.proofs.pipeline.take_decoded.Goals as goal
 
 pub returns-in-Err-clause-part : goal.returns-in-Err-clause-part
@@ -29,6 +30,8 @@ returns-in-Err-clause-part g c =
       handed = subst (λ l. HandedPart (on_handed t.took_phase t.took) (on_handed t.broke_phase t.broke)
           c.args.taker.now l c.hand_phase.new.taker) (sym (append-nil (with_phase phase []))) c.in-Err.ensures.err;
       first = λ bits few stood. tt;
+      symbols = λ given done stood coded of stands known. tt;
+      plain = λ none bits count at few le stood h. tt;
     }
 
 pub loop-count-init : goal.loop-count-init
@@ -46,7 +49,6 @@ loop-count-init g c =
     let read = c.hand_phase.ensures.read in
     let start : Stages = record { inner = c.args.inner.now; bits = c.args.stream.now } in
     let after : InnerDecoding = c.hand_phase.new.inner in
-    let is = decodes-first c.args.inner.now now after ready run read in
     record {
       config = ap (λ (k : InnerDecoding). k.config) read ∙ e.config;
       stream = refl;
@@ -55,17 +57,21 @@ loop-count-init g c =
       count = e.count ∙ ap (λ (k : InnerDecoding). length (ready_in k.queue)) (sym read);
       drained = λ none. subst (λ (k : InnerDecoding). IsDrained k.queue) (sym read) (e.drained none);
       faults = c.in-Ok.ensures.cause.same;
+      there = subst (λ (k : InnerDecoding). AreThere k.queue) (sym read) e.there;
+      told = subst (λ (k : InnerDecoding). ToldBut g.W.WindowWatch.took c.args.inner.now k c.args.watch.now c.args.watch.now)
+          (sym read) (record {
+            more = [];
+            told = refl;
+            are = λ given done is. told-read now given (done ++ windows_in now)
+                (told-run c.args.inner.now now e.config e.settled (λ given blocks s. (e.stands given blocks s).0) e.windows
+                given done is);
+          });
       runs =
           subst (λ (k : InnerDecoding). Running t.took_phase t.took start
           (record { inner = after; bits = c.args.stream.now }) c.args.taker.now c.hand_phase.new.taker
-          (ready_in k.queue)) (sym read) (record {
-            phase = unread now;
-            blocks = [];
-            decodes = is;
-            middle = c.hand_phase.new.taker;
-            phased = c.in-Ok.ensures.ok;
-            received = received-none t.took c.args.stream.now c.hand_phase.new.taker;
-          });
+          (ready_in k.queue)) (sym read)
+          (running-start t.took_phase t.took c.args.inner.now now after c.args.stream.now c.args.taker.now
+          c.hand_phase.new.taker ready run read e.later c.in-Ok.ensures.ok);
     }
 
 pub loop-count-smaller : goal.loop-count-smaller
@@ -90,27 +96,35 @@ loop-count-preserved g c =
     } in
     record {
       config = e.config ∙ i.config;
-      stream = c.take_ready.ensures.config ∙ i.stream;
+      stream = c.take_ready.ensures.config ∙ ap (λ (v : BitReceiving). v.batch.config) c.note.ensures.same ∙ i.stream;
       settled = λ settled. e.still (i.settled settled);
       count = e.count;
       drained = e.drained;
       faults = c.in-Ok-take_ready.ensures.cause.same ∙ i.faults;
+      there = e.there;
+      told = told-next g.W.WindowWatch.took c.args.inner.now before d.new.self c.args.watch.now c.loop-count.watch
+          c.watch_ready.new.watch i.told c.watch_ready.ensures
+          (told-run before d.new.self e.config e.settled (λ given blocks s. (e.stands given blocks s).0) e.windows);
       runs = running-more t.took_phase t.took (record { inner = c.args.inner.now; bits = c.args.stream.now })
-          (record { inner = before; bits = c.loop-count.stream }) d.new.self c.take_ready.new.stream c.args.taker.now
-          c.loop-count.taker c.take_ready.new.taker ready next i.runs
-          (omega (arith, c.loop-count-test.true, i.count)) c.in-Ok-take_ready.ensures.handed run;
+          (record { inner = before; bits = c.loop-count.stream }) d.new.self c.note.new.self c.take_ready.new.stream
+          c.origin.result c.args.taker.now c.loop-count.taker c.take_ready.new.taker ready next i.runs
+          (omega (arith, c.loop-count-test.true, i.count))
+          (c.note.ensures.same, c.note.ensures.noted, c.origin.ensures.value, c.origin.ensures.few)
+          c.in-Ok-take_ready.ensures.handed run e.later;
     }
 
 pub returns-in-Err-take_ready-clause-of : goal.returns-in-Err-take_ready-clause-of
-returns-in-Err-take_ready-clause-of g c = let i = c.loop-count.invariant in (i.config, c.take_ready.ensures.config ∙ i.stream)
+returns-in-Err-take_ready-clause-of g c = let i = c.loop-count.invariant in (i.config, c.take_ready.ensures.config ∙ ap (λ (v : BitReceiving). v.batch.config) c.note.ensures.same ∙ i.stream)
 
 pub returns-in-Err-take_ready-clause-part : goal.returns-in-Err-take_ready-clause-part
 returns-in-Err-take_ready-clause-part g c =
     let t = g.T.ItemTaker in
     let start : Stages = record { inner = c.args.inner.now; bits = c.args.stream.now } in
     let now : Stages = record { inner = c.loop-count.inner; bits = c.loop-count.stream } in
-    running-part t.took_phase t.broke_phase t.took t.broke start now c.take_ready.new.stream c.args.taker.now
-    c.loop-count.taker c.take_ready.new.taker (ready_in c.loop-count.inner.queue) c.loop-count.invariant.runs
+    running-part t.took_phase t.broke_phase t.took t.broke start now c.note.new.self c.take_ready.new.stream
+    c.origin.result c.args.taker.now c.loop-count.taker c.take_ready.new.taker (ready_in c.loop-count.inner.queue)
+    c.loop-count.invariant.runs
+    (c.note.ensures.same, c.note.ensures.noted, c.origin.ensures.value, c.origin.ensures.few)
     c.in-Err-take_ready.ensures.part
 
 pub returns-clause-of : goal.returns-clause-of
@@ -127,3 +141,8 @@ returns-clause-decoded g c =
     running-none t.took_phase t.took start now c.args.taker.now c.loop-count.taker
     (ready_in c.loop-count.inner.queue) c.loop-count.invariant.runs
     (omega (arith, c.loop-count-test.false, c.loop-count.invariant.count))
+
+pub returns-clause-watched : goal.returns-clause-watched
+returns-clause-watched g c =
+    told-all g.W.WindowWatch.took c.args.inner.now c.loop-count.inner c.args.watch.now c.loop-count.watch
+    c.loop-count.invariant.told (omega (arith, c.loop-count-test.false, c.loop-count.invariant.count))

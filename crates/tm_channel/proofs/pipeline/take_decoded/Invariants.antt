@@ -1,5 +1,7 @@
 use Rattle.std.proofs.Common.{◌≡◌, length}
 use Rattle.tm_inner.specs.InnerDecoding.{IsDrained, IsSettledQueue, held_in, ready_in}
+use Rattle.tm_inner.specs.InnerWindows.{AreThere}
+use Rattle.tm_inner.proofs.ToldWindows.{ToldBut}
 use Rattle.tm_channel.proofs.FirstStage.{Running, left_for}
 use Rattle.tm_channel.proofs.pipeline.take_decoded.Given as goal
 
@@ -11,6 +13,8 @@ invariant-loop-count g l = record {
   count : l.count ≡ length (ready_in l.inner.queue);
   drained : l.count ≡ 0 → IsDrained l.inner.queue;
   faults : g.T.ItemTaker.faults l.taker ≡ g.T.ItemTaker.faults l.fn.taker;
+  there : AreThere l.inner.queue;
+  told : ToldBut g.W.WindowWatch.took l.fn.inner l.inner l.fn.watch l.watch;
   runs : Running g.T.ItemTaker.took_phase g.T.ItemTaker.took
       (record { inner = l.fn.inner; bits = l.fn.stream }) (record { inner = l.inner; bits = l.stream })
       l.fn.taker l.taker (ready_in l.inner.queue);

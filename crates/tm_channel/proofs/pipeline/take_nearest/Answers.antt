@@ -1,6 +1,6 @@
 use Rattle.std.proofs.Common.{rules, subst, OnOk, OnErr}
 use Rattle.tm_inner.proofs.PlainBits.{nearest-after}
-use Rattle.tm_channel.specs.OctetReceiving.{Received, ReceivedPart}
+use Rattle.tm_channel.specs.OctetReceiving.{ReceivedAt, ReceivedPartAt}
 use Rattle.tm_channel.proofs.pipeline.take_nearest.Goals as goal
 
 pub returns : goal.returns
@@ -13,11 +13,11 @@ returns g c =
       config = c.take_bits.ensures.config;
       handed =
           subst (λ l. OnOk c.take_bits.result
-          (Received t.took c.args.stream.now now.stream c.args.taker.now now.taker l)) same
+          (ReceivedAt t.took c.args.stream.now now.stream c.args.taker.now now.taker l)) same
           c.take_bits.ensures.handed;
       part =
           subst (λ l. OnErr c.take_bits.result
-          (ReceivedPart t.took t.broke c.args.stream.now now.stream c.args.taker.now now.taker l)) same
+          (ReceivedPartAt t.took t.broke c.args.stream.now now.stream c.args.taker.now now.taker l)) same
           c.take_bits.ensures.part;
       cause = search rules;
     }

@@ -2,9 +2,10 @@ use Rattle.std.proofs.Common.{rules, ◌≡◌, ◌∙◌, ◌-◌, ℕ, List, a
 use Rattle.tm_config.specs.Configuration.{Configuration}
 use Rattle.tm_inner.specs.Inner.{plain_bits, plain_count}
 use Rattle.tm_inner.specs.InnerDecoding.{InnerDecoding}
-use Rattle.tm_channel.specs.OctetReceiving.{Received, ReceivedPart, Stages}
+use Rattle.tm_channel.specs.OctetReceiving.{ReceivedAt, ReceivedPartAt, Stages}
 use Rattle.tm_channel.proofs.FirstStage.{Fills}
 use Rattle.tm_channel.proofs.PlainOctets.{found_in, plain-fills, plain-hands, plain-part, plain-prefix}
+use Rattle.tm_channel.proofs.WatchedStages.{watched-filled, watched-then}
 use Rattle.tm_channel.proofs.pipeline.take_piece.Goals as goal
 
 -- the bits that are given to the second stage are those of the piece
@@ -17,8 +18,8 @@ same_found inner now skip octets is same =
     same
 
 -- the taker failed before them
-pub returns-in-Err : goal.returns-in-Err
-returns-in-Err g c =
+pub returns-in-Err-clause-takes : goal.returns-in-Err-clause-takes
+returns-in-Err-clause-takes g c =
     let t = g.T.ItemTaker in
     let inner = c.args.inner.now in
     let e = c.fill.ensures in
@@ -38,8 +39,8 @@ returns-in-Err g c =
       cause = search rules;
     }
 
-pub returns-in-Err-take_after : goal.returns-in-Err-take_after
-returns-in-Err-take_after g c =
+pub returns-in-Err-take_after-clause-takes : goal.returns-in-Err-take_after-clause-takes
+returns-in-Err-take_after-clause-takes g c =
     let t = g.T.ItemTaker in
     let inner = c.args.inner.now in
     let octets = c.args.octets.now in
@@ -60,13 +61,13 @@ returns-in-Err-take_after g c =
       prefix =
           plain-prefix t.took_phase t.broke_phase t.took t.broke s c.fill.new.self between now.stream
           c.args.taker.now d.new.taker now.taker octets c.requires.of c.requires.plain fills c.in-Ok.ensures.decoded
-          (subst (ReceivedPart t.took t.broke d.new.stream now.stream d.new.taker now.taker) found
+          (subst (ReceivedPartAt t.took t.broke d.new.stream now.stream d.new.taker now.taker) found
           c.in-Err-take_after.ensures.part);
       cause = search rules;
     }
 
-pub returns-in-Ok-take_after : goal.returns-in-Ok-take_after
-returns-in-Ok-take_after g c =
+pub returns-in-Ok-take_after-clause-takes : goal.returns-in-Ok-take_after-clause-takes
+returns-in-Ok-take_after-clause-takes g c =
     let t = g.T.ItemTaker in
     let inner = c.args.inner.now in
     let octets = c.args.octets.now in
@@ -86,8 +87,24 @@ returns-in-Ok-take_after g c =
       handed =
           plain-hands t.took_phase t.took s c.fill.new.self between now.stream c.args.taker.now d.new.taker now.taker
           octets c.requires.of c.requires.plain fills c.in-Ok.ensures.drained c.in-Ok.ensures.decoded
-          (subst (Received t.took d.new.stream now.stream d.new.taker now.taker) found
+          (subst (ReceivedAt t.took d.new.stream now.stream d.new.taker now.taker) found
           c.in-Ok-take_after.ensures.handed);
       prefix = search rules;
       cause = search rules;
     }
+
+pub returns-in-Ok-take_after-clause-ended : goal.returns-in-Ok-take_after-clause-ended
+returns-in-Ok-take_after-clause-ended g c = c.in-Ok.ensures.decoded.decodes.ended ∙ c.fill.ensures.phase.1
+
+pub returns-in-Ok-take_after-clause-watched : goal.returns-in-Ok-take_after-clause-watched
+returns-in-Ok-take_after-clause-watched g c = λ going.
+    let inner = c.args.inner.now in
+    let octets = c.args.octets.now in
+    let watch = c.args.watch.now in
+    let e = c.fill.ensures in
+    watched-then g.W.WindowWatch.took inner c.fill.new.self c.take_decoded.new.inner watch watch c.take_decoded.new.watch
+    octets
+    (watched-filled g.W.WindowWatch.took inner c.fill.new.self watch octets
+    (plain-fills inner c.fill.new.self octets c.fill.result c.requires.plain
+    (record { config = e.config; phase = e.phase.0; stays = e.settled }) e.phase.1 e.most e.all e.stands) going)
+    c.in-Ok.ensures.watched

@@ -1,5 +1,7 @@
-use Rattle.std.proofs.Common.{◌≡◌, ◌≤◌, ◌-◌, take, length}
+use Rattle.std.proofs.Common.{◌≡◌, ◌≤◌, ◌-◌, false, take, length}
 use Rattle.tm_base.specs.Handed.{on_handed}
+use Rattle.tm_inner.specs.InnerWindows.{AreTold}
+use Rattle.tm_inner.specs.Receiving.{Hands}
 use Rattle.tm_channel.specs.OctetReceiving.{StagesHand}
 use Rattle.tm_channel.proofs.pipeline.take_plain.Given as goal
 
@@ -12,6 +14,9 @@ invariant-loop-done g l = record {
   handed : StagesHand (on_handed g.T.ItemTaker.took_phase g.T.ItemTaker.took)
       (record { inner = l.initial.inner; bits = l.initial.stream }) (record { inner = l.inner; bits = l.stream })
       l.initial.taker l.taker (take l.done l.octets);
+  ended : l.inner.has_ended ≡ l.initial.inner.has_ended;
+  told : l.initial.inner.has_ended ≡ false
+      → Hands g.W.WindowWatch.took AreTold l.initial.inner l.inner l.initial.watch l.watch (take l.done l.octets);
 }
 
 abbrev pub decreases-loop-done : goal.decreases-loop-done

@@ -3,8 +3,8 @@ use Rattle.std.proofs.lemmas.List.{append-nil, map-append, take_all}
 use Rattle.tm_viterbi.specs.Clean.{kept_bits}
 use Rattle.tm_viterbi.specs.WindowBlock.{WindowBlock}
 use Rattle.tm_inner.specs.InnerDecoding.{ready_in}
-use Rattle.tm_channel.specs.OctetReceiving.{Received, ReceivedPart, bits_of_blocks}
-use Rattle.tm_channel.proofs.ReceivedPieces.{all_bits-append, part-all, part-then, received-none, received-then}
+use Rattle.tm_channel.specs.OctetReceiving.{ReceivedAt, ReceivedPartAt, bits_of_blocks}
+use Rattle.tm_channel.proofs.ReceivedPieces.{all_bits-append, part_at-all, part_at-then, received_at-none, received_at-then}
 use Rattle.tm_channel.proofs.pipeline.take_ready.Goals as goal
 
 -- the bits of one block more
@@ -32,7 +32,7 @@ pub loop-index-init : goal.loop-index-init
 loop-index-init g c = record {
   config = refl;
   faults = refl;
-  received = received-none g.T.ItemTaker.took c.args.stream.now c.args.taker.now;
+  received = received_at-none g.T.ItemTaker.took c.args.stream.now c.args.taker.now;
 }
 
 pub loop-index-preserved : goal.loop-index-preserved
@@ -46,10 +46,10 @@ loop-index-preserved g c =
     record {
       config = c.take_bits.ensures.config ∙ i.config;
       faults = c.in-Ok.ensures.cause.same ∙ i.faults;
-      received = subst (Received took c.args.stream.now now.stream c.args.taker.now now.taker)
+      received = subst (ReceivedAt took c.args.stream.now now.stream c.args.taker.now now.taker)
           (sym (bits-next blocks index bits (omega (arith, c.loop-index-test.true, c.ready-index-end.ensures))
           c.kept_bits.ensures))
-          (received-then took c.args.stream.now c.loop-index.stream now.stream c.args.taker.now c.loop-index.taker
+          (received_at-then took c.args.stream.now c.loop-index.stream now.stream c.args.taker.now c.loop-index.taker
           now.taker (bits_of_blocks (take index blocks)) (map (λ bit. bit == 1) bits) i.received
           c.in-Ok.ensures.handed);
     }
@@ -70,15 +70,15 @@ returns-in-Err-clause-part g c =
     (sym (bits-next blocks index bits (omega (arith, c.loop-index-test.true, c.ready-index-end.ensures)) c.kept_bits.ensures))
     ∙ sym (all_bits-append (take (index + 1) blocks) rest)
     ∙ ap (λ (l : List WindowBlock). bits_of_blocks l) (take-append-drop (index + 1) blocks) in
-    subst (ReceivedPart took broke c.args.stream.now now.stream c.args.taker.now now.taker) whole
-    (part-all took broke c.args.stream.now now.stream c.args.taker.now now.taker first (bits_of_blocks rest)
-    (part-then took broke c.args.stream.now c.loop-index.stream now.stream c.args.taker.now c.loop-index.taker
+    subst (ReceivedPartAt took broke c.args.stream.now now.stream c.args.taker.now now.taker) whole
+    (part_at-all took broke c.args.stream.now now.stream c.args.taker.now now.taker first (bits_of_blocks rest)
+    (part_at-then took broke c.args.stream.now c.loop-index.stream now.stream c.args.taker.now c.loop-index.taker
     now.taker (bits_of_blocks (take index blocks)) (map (λ bit. bit == 1) bits) i.received c.in-Err.ensures.part))
 
 pub returns-clause-handed : goal.returns-clause-handed
 returns-clause-handed g c =
     let blocks = ready_in c.args.inner.now.queue in
-    subst (λ (l : List WindowBlock). Received g.T.ItemTaker.took c.args.stream.now c.loop-index.stream
+    subst (λ (l : List WindowBlock). ReceivedAt g.T.ItemTaker.took c.args.stream.now c.loop-index.stream
     c.args.taker.now c.loop-index.taker (bits_of_blocks l))
     (take_all c.loop-index.index blocks (omega (arith, c.loop-index-test.false, c.ready-index-end.ensures)))
     c.loop-index.invariant.received

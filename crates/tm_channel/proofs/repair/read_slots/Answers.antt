@@ -9,6 +9,7 @@ abbrev none : Slot
 none =
     record {
       found = record { place = 0; distance = 0; bridged = false; inverted = false };
+      symbol = 0;
       octets = [];
       answers = [];
       frame = [];

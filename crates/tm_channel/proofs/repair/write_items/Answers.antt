@@ -2,7 +2,7 @@ use Rattle.std.proofs.Common.{◌∙◌, take, arith}
 use Rattle.std.proofs.Math.Seq.{map-set_same}
 use Rattle.std.proofs.lemmas.List.{get_or-set_other}
 use Rattle.tm_config.specs.Configuration.{codeblock_length}
-use Rattle.tm_channel.specs.Storing.{stored_in}
+use Rattle.tm_channel.specs.Storing.{place_in, stored_in}
 use Rattle.tm_channel.proofs.Repaired.{item-more, items-are}
 use Rattle.tm_channel.proofs.repair.write_items.Goals as goal
 
@@ -15,6 +15,11 @@ loop-index-preserved c =
             found = c.write_item.ensures.found k;
             codeblock = take (codeblock_length config) (c.write_item.ensures.octets k);
           }) ∙ l.invariant.stored;
+      places = map-set_same place_in l.slots l.index c.write_item.new.self _
+          (λ k. record {
+            place = (c.write_item.ensures.found k).place;
+            symbol = c.write_item.ensures.symbol k;
+          }) ∙ l.invariant.places;
       rest =
           λ j slot above. get_or-set_other l.slots l.index j c.write_item.new.self slot (λ e. absurd (omega arith))
           ∙ l.invariant.rest j slot (omega arith);

@@ -1,48 +1,35 @@
 use Rattle.std.proofs.Common.{◌∙◌, ◌++◌, [], refl}
 use Rattle.tm_base.proofs.Handing.{HandedOver-append, HandedPart-after}
-use Rattle.tm_channel.specs.OctetReceiving.{BitReceiving}
+use Rattle.tm_channel.specs.OctetReceiving.{receiving}
+use Rattle.tm_channel.specs.Due.{due_count_of}
 use Rattle.tm_channel.proofs.Holding.{agree-batch}
+use Rattle.tm_channel.proofs.KeptSymbols.{symbols-handed, symbols-some, symbols-then}
 use Rattle.tm_channel.proofs.Settling.{settling-all, settling-broke, settling-handed, settling-start}
 use Rattle.tm_channel.proofs.bit_receiver.BitReceiver.keep_all.Goals as goal
 
 pub loop-self-init : goal.loop-self-init
 loop-self-init g c =
-    let start : BitReceiving = record {
-      finder = c.args.self.now.finder;
-      recent = c.args.self.now.recent;
-      batch = c.args.self.now.batch;
-    } in record {
+    let start = receiving c.args.self.now c.args.origins.now in record {
       agree = c.requires.agree;
       few = c.requires.few;
       config = refl;
       faults = refl;
-      settling = ([], refl, λ bits more short h. settling-start start bits more h);
+      settling = (
+        [],
+        refl,
+        λ bits more short h. settling-start start bits more h,
+        λ bits more count at few le h s. (s, tt),
+      );
     }
 
 pub loop-self-preserved : goal.loop-self-preserved
 loop-self-preserved g c =
     let i = c.loop-self.invariant in
     let took = g.T.ItemTaker.took in
-    let start : BitReceiving = record {
-      finder = c.args.self.now.finder;
-      recent = c.args.self.now.recent;
-      batch = c.args.self.now.batch;
-    } in
-    let before : BitReceiving = record {
-      finder = c.loop-self.self.finder;
-      recent = c.loop-self.self.recent;
-      batch = c.loop-self.self.batch;
-    } in
-    let middle : BitReceiving = record {
-      finder = c.keep_next.new.self.finder;
-      recent = c.keep_next.new.self.recent;
-      batch = c.keep_next.new.self.batch;
-    } in
-    let now : BitReceiving = record {
-      finder = c.hand_full.new.self.finder;
-      recent = c.hand_full.new.self.recent;
-      batch = c.hand_full.new.self.batch;
-    } in
+    let start = receiving c.args.self.now c.args.origins.now in
+    let before = receiving c.loop-self.self c.args.origins.now in
+    let middle = receiving c.keep_next.new.self c.args.origins.now in
+    let now = receiving c.hand_full.new.self c.args.origins.now in
     let stored = c.keep_next.ensures.kept c.loop-self-test.true in
     let some = c.in-Ok.ensures.all in record {
       agree =
@@ -60,27 +47,23 @@ loop-self-preserved g c =
             c.keep_next.ensures.config c.hand_full.ensures.finder c.hand_full.ensures.recent
             c.hand_full.ensures.config stored.1 some.1 bits (bits ++ more) i.settling.0 short
             (i.settling.2 bits more short h),
+        λ bits more count at few le h s.
+            let was = i.settling.3 bits more count at few le h s in
+            let held = i.settling.2 bits more few h in
+            let kept = c.keep_next.ensures.symbols (due_count_of start.batch.config held.found) (bits ++ more) held.found
+            count at few le held.holds was.0 in
+            let now_at = symbols-handed middle now count at some.0 c.hand_full.ensures.finder c.hand_full.ensures.config
+            refl some.3 kept in
+            (now_at.0, symbols-then at count i.settling.0 some.0 was.1 now_at.1),
       );
     }
 
 pub returns-in-Err-clause-broke : goal.returns-in-Err-clause-broke
 returns-in-Err-clause-broke g c =
     let i = c.loop-self.invariant in
-    let start : BitReceiving = record {
-      finder = c.args.self.now.finder;
-      recent = c.args.self.now.recent;
-      batch = c.args.self.now.batch;
-    } in
-    let before : BitReceiving = record {
-      finder = c.loop-self.self.finder;
-      recent = c.loop-self.self.recent;
-      batch = c.loop-self.self.batch;
-    } in
-    let middle : BitReceiving = record {
-      finder = c.keep_next.new.self.finder;
-      recent = c.keep_next.new.self.recent;
-      batch = c.keep_next.new.self.batch;
-    } in
+    let start = receiving c.args.self.now c.args.origins.now in
+    let before = receiving c.loop-self.self c.args.origins.now in
+    let middle = receiving c.keep_next.new.self c.args.origins.now in
     let stored = c.keep_next.ensures.kept c.loop-self-test.true in
     let some = c.in-Err.ensures.broke in (
       i.settling.0 ++ some.1,
@@ -89,29 +72,31 @@ returns-in-Err-clause-broke g c =
       λ bits more short h. settling-broke start before middle stored.0 some.0 some.1 i.config
           c.keep_next.ensures.config stored.1 some.3 some.2 bits more i.settling.0 short
           (i.settling.2 bits more short h),
+      λ bits more count at few le h s.
+          let was = i.settling.3 bits more count at few le h s in
+          let held = i.settling.2 bits more few h in
+          let kept = c.keep_next.ensures.symbols (due_count_of start.batch.config held.found) (bits ++ more) held.found
+          count at few le held.holds was.0 in
+          symbols-then at count i.settling.0 some.1 was.1
+          (symbols-some at count some.0 middle.batch.symbols some.1 some.5 kept.stored),
     )
 
 pub returns-clause-all : goal.returns-clause-all
 returns-clause-all g c =
     let i = c.loop-self.invariant in
-    let start : BitReceiving = record {
-      finder = c.args.self.now.finder;
-      recent = c.args.self.now.recent;
-      batch = c.args.self.now.batch;
-    } in
-    let before : BitReceiving = record {
-      finder = c.loop-self.self.finder;
-      recent = c.loop-self.self.recent;
-      batch = c.loop-self.self.batch;
-    } in
-    let now : BitReceiving = record {
-      finder = c.keep_next.new.self.finder;
-      recent = c.keep_next.new.self.recent;
-      batch = c.keep_next.new.self.batch;
-    } in (
+    let start = receiving c.args.self.now c.args.origins.now in
+    let before = receiving c.loop-self.self c.args.origins.now in
+    let now = receiving c.keep_next.new.self c.args.origins.now in (
       i.settling.0,
       i.settling.1,
       λ bits more short h. settling-all start before now i.config c.keep_next.ensures.config
           (c.keep_next.ensures.none c.loop-self-test.false) bits more i.settling.0 short
           (i.settling.2 bits more short h),
+      λ bits more count at few le h s.
+          let was = i.settling.3 bits more count at few le h s in
+          let held = i.settling.2 bits more few h in (
+            c.keep_next.ensures.symbols (due_count_of start.batch.config held.found) (bits ++ more) held.found
+                count at few le held.holds was.0,
+            was.1,
+          ),
     )

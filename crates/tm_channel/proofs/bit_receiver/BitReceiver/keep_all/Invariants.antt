@@ -3,6 +3,7 @@ use Rattle.tm_base.specs.Takers.{HandedOver}
 use Rattle.tm_channel.specs.Due.{due_count}
 use Rattle.tm_channel.specs.Items.{ItemValue}
 use Rattle.tm_channel.specs.Receiving.{Agree, HoldsMore}
+use Rattle.tm_channel.specs.OctetReceiving.{SettlesSymbols, receiving}
 use Rattle.tm_channel.proofs.Settling.{Settling}
 use Rattle.tm_channel.proofs.bit_receiver.BitReceiver.keep_all.Given as goal
 
@@ -16,12 +17,9 @@ invariant-loop-self g l = record {
       × ((bits more : List Bool) → length (bits ++ more) < 2 ^ 63
       → HoldsMore l.initial.self.finder l.initial.self.recent l.initial.self.batch
       (due_count l.initial.self.batch.config bits) bits more
-      → Settling (record {
-        finder = l.initial.self.finder;
-        recent = l.initial.self.recent;
-        batch = l.initial.self.batch;
-      })
-      (record { finder = l.self.finder; recent = l.self.recent; batch = l.self.batch }) bits (bits ++ more) items);
+      → Settling (receiving l.initial.self l.origins) (receiving l.self l.origins) bits (bits ++ more)
+      items)
+      × SettlesSymbols (receiving l.initial.self l.origins) (receiving l.self l.origins) items;
 }
 
 abbrev pub decreases-loop-self : goal.decreases-loop-self

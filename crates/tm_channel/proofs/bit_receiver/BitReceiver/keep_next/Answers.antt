@@ -1,6 +1,10 @@
-use Rattle.std.proofs.Common.{◌∙◌, ◌++◌, ◌∷◌, [], ap, arith}
+use Rattle.std.proofs.Common.{◌≡◌, ◌<◌, ◌≤◌, ◌+◌, ◌-◌, ◌^◌, ℕ, Bool, List, ◌∙◌, ◌++◌, ◌∷◌, [], length, length-drop, refl, sym, subst, ap, arith}
+use Rattle.tm_sync.specs.Finding.{Finding, Passes}
 use Rattle.tm_sync.specs.Places.{Rules}
-use Rattle.tm_channel.proofs.Holding.{Takes, drop-last, holding-all, holding-left, holding-passed, holding-taken, holds-config}
+use Rattle.tm_channel.specs.Origins.{AreAt}
+use Rattle.tm_channel.proofs.KeptSymbols.{symbols-kept, symbols-stored}
+use Rattle.tm_channel.specs.OctetReceiving.{receiving}
+use Rattle.tm_channel.proofs.Holding.{Takes, recent-count, drop-last, holding-all, holding-left, holding-passed, holding-taken, holds-config}
 use Rattle.tm_channel.proofs.bit_receiver.BitReceiver.keep_next.Goals as goal
 
 -- ---- none is whole
@@ -74,3 +78,66 @@ returns-then-not-take-clause-kept c = λ one.
           (holding-passed k was.finder c.next.new.self was.recent.bits c.next.new.recent.bits b.stored handed bits found
           few passes h)),
     )
+
+-- ---- the symbols of those that are stored
+
+-- the search goes on to a later bit, and those from there on are left
+passes-on : (was next : Finding) (recent rest : List Bool) (size : ℕ) → Passes was next recent rest
+    → was.passed + length recent ≡ size → size < 2 ^ 63
+    → (was.passed ≤ next.passed) × (next.passed + length rest ≡ size)
+passes-on was next recent rest size p all few =
+    let now : next.passed ≡ was.passed + p.count = p.passed (omega (arith, all, few)) in
+    let left : length rest ≡ length recent - p.count = ap length p.rest ∙ length-drop p.count recent in
+    let within = p.within in
+    (omega (arith, now), omega (arith, now, left, within, all))
+
+pub returns-in-None-clause-symbols : goal.returns-in-None-clause-symbols
+returns-in-None-clause-symbols c = λ handed bits found count at few le h s.
+    let was = c.args.self.now in
+    let b = was.batch in
+    let on = passes-on was.finder c.next.new.self was.recent.bits c.next.new.recent.bits (length bits)
+    c.next.ensures.passes
+    (recent-count b.config was.finder was.recent.bits b.stored handed bits found h) few in
+    symbols-stored (receiving was c.args.origins.now)
+    (record { finder = c.next.new.self; recent = c.next.new.recent; batch = b; origins = c.args.origins.now }) count at
+    on.0 refl refl s.stored s
+
+pub returns-else-not-take-clause-symbols : goal.returns-else-not-take-clause-symbols
+returns-else-not-take-clause-symbols c = λ handed bits found count at few le h s.
+    let was = c.args.self.now in
+    let b = was.batch in
+    let f = c.in-Some.found in
+    let some = c.in-Some.ensures.some in
+    let on = passes-on was.finder c.next.new.self was.recent.bits c.next.new.recent.bits (length bits)
+    c.next.ensures.passes
+    (recent-count b.config was.finder was.recent.bits b.stored handed bits found h) few in
+    let taken : c.take.new.self.passed ≡ c.next.new.self.passed + 1 =
+    c.take.ensures.passed (omega (arith, on.1, few)) in
+    let here : f.place ≡ c.next.new.self.passed = some.at in
+    symbols-kept (receiving was c.args.origins.now) (record {
+      finder = c.take.new.self;
+      recent = c.take.new.recent;
+      batch = c.keep-sound.new.self;
+      origins = c.args.origins.now;
+    }) count f.place c.at-origin.result c.symbol-symbol.result at (omega (arith, on.0, taken))
+    c.keep-sound.ensures.config refl (omega (arith, here, on.0)) (omega (arith, here, on.1, some.room, le))
+    c.at-origin.ensures c.symbol-symbol.ensures c.keep-sound.ensures.symbols s
+
+pub returns-then-not-take-clause-symbols : goal.returns-then-not-take-clause-symbols
+returns-then-not-take-clause-symbols c = λ handed bits found count at few le h s.
+    let was = c.args.self.now in
+    let b = was.batch in
+    let on = passes-on was.finder c.next.new.self was.recent.bits c.next.new.recent.bits (length bits)
+    c.next.ensures.passes
+    (recent-count b.config was.finder was.recent.bits b.stored handed bits found h) few in
+    let taken : c.take.new.self.passed ≡ c.next.new.self.passed + 1 =
+    c.take.ensures.passed (omega (arith, on.1, few)) in
+    let same = c.drop_last.ensures.symbols
+    ∙ drop-last b.symbols c.keep-sound.new.self.symbols _ c.keep-sound.ensures.symbols in
+    symbols-stored (receiving was c.args.origins.now) (record {
+      finder = c.take.new.self;
+      recent = c.take.new.recent;
+      batch = c.drop_last.new.self;
+      origins = c.args.origins.now;
+    }) count at (omega (arith, on.0, taken)) (c.drop_last.ensures.config ∙ c.keep-sound.ensures.config) refl
+    (subst (AreAt at count) (sym same) s.stored) s

@@ -1,17 +1,13 @@
 use Rattle.std.proofs.Common.{◌≡◌, ◌+◌, ◌-◌, ◌*◌, ◌/◌, ◌%◌, ◌<◌, ◌≤◌, ℕ, Bool, List, ◌∙◌, drop, take, length, arith, ap, refl, subst, length-take-le, length-drop}
 use Rattle.tm_base.specs.Bits.{bits_of}
 use Rattle.tm_sync.specs.Finding.{Recent}
-use Rattle.tm_channel.specs.OctetReceiving.{BitReceiving, Received, ReceivedPart}
+use Rattle.tm_channel.specs.OctetReceiving.{BitReceiving, ReceivedAt, ReceivedPartAt, receiving}
 use Rattle.tm_channel.specs.Receiving.{bits_between}
-use Rattle.tm_channel.specs.declared.bit_receiver.BitReceiver.{BitReceiver}
 use Rattle.tm_channel.proofs.Between.{between-all, between-joined, between-none, between-octets, between-rest}
 use Rattle.tm_channel.proofs.Holding.{agree-more, holds-more}
-use Rattle.tm_channel.proofs.ReceivedPieces.{part-all, part-pushed, part-then, received-none, received-pushed, received-then}
+use Rattle.tm_channel.proofs.KeptSymbols.{symbols-stored}
+use Rattle.tm_channel.proofs.ReceivedPieces.{part_at-all, part_at-pushed, part_at-then, received_at-none, received_at-pushed, received_at-then}
 use Rattle.tm_channel.proofs.bit_receiver.BitReceiver.receive.Goals as goal
-
--- what contracts see of it
-abbrev receiving : BitReceiver → BitReceiving
-receiving r = record { finder = r.finder; recent = r.recent; batch = r.batch }
 
 -- the bits of whole octets after the first ones
 abbrev piece_of : ℕ → ℕ → ℕ → List ℕ → List Bool
@@ -23,18 +19,18 @@ room-left size bits settled short sized = omega (arith, short, sized)
 
 pub loop-first-init : goal.loop-first-init
 loop-first-init g c =
-    let start = receiving c.args.self.now in
+    let start = receiving c.args.self.now c.args.origins.now in
     let from : c.args.from ≡ 8 * (c.args.from / 8) + c.args.from % 8 = omega arith in record {
       first = omega (arith, from);
       begun = omega arith;
       within = omega (arith, from, c.requires.from);
       ready = c.requires.ready;
       faults = refl;
-      received = subst (λ to. Received g.T.ItemTaker.took start start c.args.taker.now c.args.taker.now
+      received = subst (λ to. ReceivedAt g.T.ItemTaker.took start start c.args.taker.now c.args.taker.now
           (bits_between c.args.from to c.args.octets.now)) from
-          (subst (Received g.T.ItemTaker.took start start c.args.taker.now c.args.taker.now)
+          (subst (ReceivedAt g.T.ItemTaker.took start start c.args.taker.now c.args.taker.now)
           (between-none c.args.from c.args.octets.now)
-          (received-none g.T.ItemTaker.took start c.args.taker.now));
+          (received_at-none g.T.ItemTaker.took start c.args.taker.now));
     }
 
 pub push-requires-clause-from : goal.push-requires-clause-from
@@ -81,31 +77,37 @@ loop-first-preserved g c =
     let begun = c.loop-first.begun in
     let end = first + c.min.result in
     let took = g.T.ItemTaker.took in
-    let start = receiving c.args.self.now in
-    let before = receiving c.loop-first.self in
-    let middle : BitReceiving = record { finder = before.finder; recent = c.push.new.self; batch = before.batch } in
-    let now = receiving c.keep_all.new.self in
+    let start = receiving c.args.self.now c.args.origins.now in
+    let before = receiving c.loop-first.self c.args.origins.now in
+    let middle : BitReceiving = record {
+      finder = before.finder;
+      recent = c.push.new.self;
+      batch = before.batch;
+      origins = c.args.origins.now;
+    } in
+    let now = receiving c.keep_all.new.self c.args.origins.now in
     let some = c.in-Ok.ensures.all in
     let room = room-left before.recent.size (length before.recent.bits) _ i.ready.short i.ready.agree.sized in
     let rises : 0 < c.min.result = omega (arith, room, c.free.ensures, c.min.ensures, c.loop-first-test.true) in
     let from = i.first in
     let odd = i.begun in
-    let pushed = received-pushed took before middle now c.loop-first.taker c.keep_all.new.taker
+    let pushed = received_at-pushed took before middle now c.loop-first.taker c.keep_all.new.taker
     (piece_of first c.min.result begun octets) some.0 refl
     (λ handed bits few h. holds-more before.finder before.recent c.push.new.self before.batch
     (piece_of first c.min.result begun octets) (ap (λ (l : Recent). l.bits) c.push.ensures) handed bits h)
-    c.keep_all.ensures.config some.2 some.1 in record {
+    (λ count at h. symbols-stored before middle count at (omega arith) refl refl h.stored h)
+    c.keep_all.ensures.config refl some.2 some.3 some.1 in record {
       first = omega (arith, from, odd, rises);
       begun = omega arith;
       within = omega (arith, c.min.ensures, c.loop-first-test.true);
       ready = c.keep_all.ensures.ready;
       faults = c.in-Ok.ensures.cause.same ∙ i.faults;
-      received = subst (Received took start now c.args.taker.now c.keep_all.new.taker)
+      received = subst (ReceivedAt took start now c.args.taker.now c.keep_all.new.taker)
           (between-joined c.args.from (8 * first + begun) (8 * end + 0) octets from (omega (arith, odd, rises)))
-          (received-then took start before now c.args.taker.now c.loop-first.taker c.keep_all.new.taker
+          (received_at-then took start before now c.args.taker.now c.loop-first.taker c.keep_all.new.taker
           (bits_between c.args.from (8 * first + begun) octets) (bits_between (8 * first + begun) (8 * end + 0) octets)
           i.received
-          (subst (Received took before now c.loop-first.taker c.keep_all.new.taker)
+          (subst (ReceivedAt took before now c.loop-first.taker c.keep_all.new.taker)
           (between-octets first end begun octets (omega arith) (omega (arith, odd, rises))) pushed));
     }
 
@@ -125,37 +127,43 @@ returns-in-Err-clause-part g c =
     let end = first + c.min.result in
     let took = g.T.ItemTaker.took in
     let broke = g.T.ItemTaker.broke in
-    let start = receiving c.args.self.now in
-    let before = receiving c.loop-first.self in
-    let middle : BitReceiving = record { finder = before.finder; recent = c.push.new.self; batch = before.batch } in
-    let now = receiving c.keep_all.new.self in
+    let start = receiving c.args.self.now c.args.origins.now in
+    let before = receiving c.loop-first.self c.args.origins.now in
+    let middle : BitReceiving = record {
+      finder = before.finder;
+      recent = c.push.new.self;
+      batch = before.batch;
+      origins = c.args.origins.now;
+    } in
+    let now = receiving c.keep_all.new.self c.args.origins.now in
     let some = c.in-Err.ensures.broke in
     let room = room-left before.recent.size (length before.recent.bits) _ i.ready.short i.ready.agree.sized in
     let rises : 0 < c.min.result = omega (arith, room, c.free.ensures, c.min.ensures, c.loop-first-test.true) in
     let from = i.first in
     let odd = i.begun in
-    let pushed = part-pushed took broke before middle now c.loop-first.taker c.keep_all.new.taker
+    let pushed = part_at-pushed took broke before middle now c.loop-first.taker c.keep_all.new.taker
     (piece_of first c.min.result begun octets) some.0 refl
     (λ handed bits few h. holds-more before.finder before.recent c.push.new.self before.batch
     (piece_of first c.min.result begun octets) (ap (λ (l : Recent). l.bits) c.push.ensures) handed bits h)
-    c.keep_all.ensures.config some.2 some.1 in
-    let part = subst (ReceivedPart took broke start now c.args.taker.now c.keep_all.new.taker)
+    (λ count at h. symbols-stored before middle count at (omega arith) refl refl h.stored h)
+    c.keep_all.ensures.config some.2 some.3 some.1 in
+    let part = subst (ReceivedPartAt took broke start now c.args.taker.now c.keep_all.new.taker)
     (between-joined c.args.from (8 * first + begun) (8 * end + 0) octets from (omega (arith, odd, rises)))
-    (part-then took broke start before now c.args.taker.now c.loop-first.taker c.keep_all.new.taker
+    (part_at-then took broke start before now c.args.taker.now c.loop-first.taker c.keep_all.new.taker
     (bits_between c.args.from (8 * first + begun) octets) (bits_between (8 * first + begun) (8 * end + 0) octets)
     i.received
-    (subst (ReceivedPart took broke before now c.loop-first.taker c.keep_all.new.taker)
+    (subst (ReceivedPartAt took broke before now c.loop-first.taker c.keep_all.new.taker)
     (between-octets first end begun octets (omega arith) (omega (arith, odd, rises))) pushed)) in
-    subst (ReceivedPart took broke start now c.args.taker.now c.keep_all.new.taker)
+    subst (ReceivedPartAt took broke start now c.args.taker.now c.keep_all.new.taker)
     (between-rest c.args.from (8 * end + 0) octets (omega (arith, from, odd, rises)))
-    (part-all took broke start now c.args.taker.now c.keep_all.new.taker (bits_between c.args.from (8 * end + 0) octets)
+    (part_at-all took broke start now c.args.taker.now c.keep_all.new.taker (bits_between c.args.from (8 * end + 0) octets)
     _ part)
 
 pub returns-clause-handed : goal.returns-clause-handed
 returns-clause-handed g c =
-    let start = receiving c.args.self.now in
-    let now = receiving c.loop-first.self in
-    subst (Received g.T.ItemTaker.took start now c.args.taker.now c.loop-first.taker)
+    let start = receiving c.args.self.now c.args.origins.now in
+    let now = receiving c.loop-first.self c.args.origins.now in
+    subst (ReceivedAt g.T.ItemTaker.took start now c.args.taker.now c.loop-first.taker)
     (between-all c.args.from (8 * c.loop-first.first + c.loop-first.begun) c.args.octets.now
     (omega (arith, c.loop-first-test.false)))
     c.loop-first.invariant.received

@@ -1,5 +1,5 @@
 use Rattle.std.proofs.Common.{◌≡◌, ◌+◌, ◌-◌, ◌*◌, ◌<◌, ◌≤◌, length}
-use Rattle.tm_channel.specs.OctetReceiving.{Received}
+use Rattle.tm_channel.specs.OctetReceiving.{ReceivedAt, receiving}
 use Rattle.tm_channel.specs.Receiving.{IsReady, bits_between}
 use Rattle.tm_channel.proofs.bit_receiver.BitReceiver.receive.Given as goal
 
@@ -10,9 +10,8 @@ invariant-loop-first g l = record {
   within : 8 * l.first + l.begun ≤ 8 * length l.octets;
   ready : IsReady l.self.finder l.self.recent l.self.batch;
   faults : g.T.ItemTaker.faults l.taker ≡ g.T.ItemTaker.faults l.initial.taker;
-  received : Received g.T.ItemTaker.took
-      (record { finder = l.initial.self.finder; recent = l.initial.self.recent; batch = l.initial.self.batch })
-      (record { finder = l.self.finder; recent = l.self.recent; batch = l.self.batch }) l.initial.taker l.taker
+  received : ReceivedAt g.T.ItemTaker.took (receiving l.initial.self l.origins)
+      (receiving l.self l.origins) l.initial.taker l.taker
       (bits_between l.from (8 * l.first + l.begun) l.octets);
 }
 

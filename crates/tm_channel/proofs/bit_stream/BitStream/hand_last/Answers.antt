@@ -1,6 +1,8 @@
 use Rattle.std.proofs.Common.{sym, subst, Result, Ok, Err, OnOk, OnErr}
 use Rattle.tm_base.specs.declared.outside.Failed.{Failed}
 use Rattle.tm_channel.specs.OctetReceiving.{BitReceiving, ReceivedLast, ReceivedLastPart}
+use Rattle.tm_channel.specs.Origins.{AreAt}
+use Rattle.tm_channel.proofs.KeptSymbols.{symbols-some}
 use Rattle.tm_channel.proofs.Streaming.{items-last, first-last}
 use Rattle.tm_channel.proofs.bit_stream.BitStream.hand_last.Goals as goal
 use Rattle.tm_channel.proofs.bit_stream.BitStream.hand_last.Goals.{in-Ok, in-Err}
@@ -8,7 +10,7 @@ use Rattle.tm_channel.proofs.bit_stream.BitStream.hand_last.Goals.{in-Ok, in-Err
 pub returns-clause-handed : goal.returns-clause-handed
 returns-clause-handed g c =
     let r = c.self.inside.receiver in
-    let before : BitReceiving = record { finder = r.finder; recent = r.recent; batch = r.batch } in
+    let before : BitReceiving = record { finder = r.finder; recent = r.recent; batch = r.batch; origins = c.self.inside.origins } in
     let b = r.batch in
     let Said : BitReceiving → Result (Unit {0}) Failed → Type 0 =
     λ s result. OnOk result (ReceivedLast g.T.ItemTaker.took s c.args.taker.now c.hand_all.new.taker) in
@@ -20,6 +22,7 @@ returns-clause-handed g c =
             items = some.0;
             handed = some.2;
             last = λ bits h. items-last b.config r.finder r.recent.bits b.stored bits some.0 h some.1;
+            symbols = λ count at are. subst (AreAt at count) (sym some.3) are;
           } in
           subst (Said before) (sym w.result-is) said
           )
@@ -29,7 +32,7 @@ returns-clause-handed g c =
 pub returns-clause-part : goal.returns-clause-part
 returns-clause-part g c =
     let r = c.self.inside.receiver in
-    let before : BitReceiving = record { finder = r.finder; recent = r.recent; batch = r.batch } in
+    let before : BitReceiving = record { finder = r.finder; recent = r.recent; batch = r.batch; origins = c.self.inside.origins } in
     let b = r.batch in
     let Said : BitReceiving → Result (Unit {0}) Failed → Type 0 =
     λ s result. OnErr result
@@ -44,6 +47,7 @@ returns-clause-part g c =
             handed = some.3;
             first =
                 λ bits h. first-last b.config r.finder r.recent.bits b.stored bits some.0 some.1 h some.2;
+            symbols = λ count at are. symbols-some at count some.0 b.symbols some.1 some.4 are;
           } in
           subst (Said before) (sym w.result-is) said
           )

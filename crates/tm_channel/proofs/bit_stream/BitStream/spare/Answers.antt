@@ -5,13 +5,13 @@ use Rattle.tm_channel.proofs.Spare.{lacking-most, spare-due}
 use Rattle.tm_channel.proofs.bit_stream.BitStream.spare.Goals as goal
 
 pub bits_lacking-lacking-requires : goal.bits_lacking-lacking-requires
-bits_lacking-lacking-requires c = record { some = c.self.invariant.few }
+bits_lacking-lacking-requires c = record { some = c.self.invariant.0.few }
 
 pub returns-clause-value : goal.returns-clause-value
 returns-clause-value c =
     let r = c.self.inside.receiver in
     subst (λ (v : BitReceiving). AreSpare v c.saturating_sub.result) c.self.view_is
-    (λ bits more stood few. spare-due r.finder r.recent r.batch bits more c.self.invariant.agree c.self.invariant.few
+    (λ bits more stood few. spare-due r.finder r.recent r.batch bits more c.self.invariant.0.agree c.self.invariant.0.few
     stood (omega (arith, few, c.bits_lacking-lacking.ensures.value, c.saturating_sub.ensures, c.count.ensures.value)))
 
 pub returns-clause-most : goal.returns-clause-most

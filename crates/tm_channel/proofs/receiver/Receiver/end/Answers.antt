@@ -1,8 +1,11 @@
-use Rattle.std.proofs.Common.{rules, ◌++◌, true, refl, sym, subst, Ok, Err}
+use Rattle.std.proofs.Common.{rules, ◌≡◌, ℕ, List, ◌++◌, true, refl, sym, subst, Ok, Err}
 use Rattle.tm_base.specs.Handed.{items_of, on_handed}
 use Rattle.tm_config.specs.Configuration.{Configuration}
 use Rattle.tm_config.specs.Accepted.{IsAccepted}
+use Rattle.tm_base.specs.Takers.{HandedOver}
+use Rattle.tm_inner.specs.InnerWindows.{AreTold, AreWindows}
 use Rattle.tm_inner.specs.Phase.{IsChosen}
+use Rattle.tm_inner.specs.declared.window.Window.{Window}
 use Rattle.tm_channel.specs.Calls.{Finishes}
 use Rattle.tm_channel.specs.Handing.{AreReceived, AreReceivedPrefix}
 use Rattle.tm_channel.specs.Most.{AreFew}
@@ -71,3 +74,31 @@ returns-in_default-clause-finishes g c =
           λ given done stood _. subst (λ (k : Configuration). IsChosen k given c.end.new.inner.chosen)
           c.self.invariant.0 (c.end.ensures.chosen given done stood);
     })
+
+pub returns-clause-watched : goal.returns-clause-watched
+returns-clause-watched g c =
+    let p = c.in-Ok.ensures.watched in
+    subst (λ (r : OctetReceiving). (last : List Window)
+    × HandedOver g.W.WindowWatch.took c.args.watch.now last c.end.new.watch
+    × ((given : List ℕ) (done : List Window) → AreTold r.stages.inner given done
+    → AreWindows r.config given (done ++ last))) c.self.view_is (
+      p.0,
+      p.1,
+      λ given done told. subst (λ (k : Configuration). AreWindows k given (done ++ p.0)) c.self.invariant.0
+          (p.2 given done told),
+    )
+
+-- the configuration that is kept
+kept_config : (before now : OctetReceiving) → before ≡ now → before.stages.inner.config ≡ before.config
+    → IsAccepted before.config → (now.stages.inner.config ≡ now.config) × IsAccepted now.config
+kept_config before now is same accepted =
+    subst (λ (r : OctetReceiving). (r.stages.inner.config ≡ r.config) × IsAccepted r.config) is (same, accepted)
+
+pub returns-then-self-clause-of : goal.returns-then-self-clause-of
+returns-then-self-clause-of g c = kept_config _ _ c.self.view_is c.self.invariant.0 c.self.invariant.2
+
+pub returns-clause-of : goal.returns-clause-of
+returns-clause-of g c = kept_config _ _ c.self.view_is c.self.invariant.0 c.self.invariant.2
+
+pub returns-in_default-clause-of : goal.returns-in_default-clause-of
+returns-in_default-clause-of g c = kept_config _ _ c.self.view_is c.self.invariant.0 c.self.invariant.2

@@ -1,8 +1,10 @@
-use Rattle.std.proofs.Common.{rules, ◌++◌, ◌∙◌, length, true, refl, sym, subst, Ok, Err}
+use Rattle.std.proofs.Common.{rules, ◌≡◌, ◌++◌, false, ◌∙◌, length, true, refl, sym, ap, subst, Ok, Err}
 use Rattle.tm_base.specs.Handed.{items_of, on_handed}
 use Rattle.tm_config.specs.Configuration.{Configuration}
 use Rattle.tm_config.specs.Accepted.{IsAccepted}
+use Rattle.tm_inner.specs.InnerWindows.{AreTold}
 use Rattle.tm_inner.specs.Phase.{IsChosenSoFar}
+use Rattle.tm_inner.specs.Receiving.{Hands}
 use Rattle.tm_channel.specs.Calls.{Feeds}
 use Rattle.tm_channel.specs.Handing.{AreReceivedDue, AreReceivedFirst}
 use Rattle.tm_channel.specs.Most.{AreFew}
@@ -87,3 +89,38 @@ returns-in-Err-clause-feeds g c =
           (λ (k : Configuration). IsChosenSoFar k (given ++ octets) c.take.new.inner.chosen)
           c.self.invariant.0 (p.first given done few stood).1;
     })
+
+pub returns-in-Ok-clause-watched : goal.returns-in-Ok-clause-watched
+returns-in-Ok-clause-watched g c =
+    subst (λ (r : OctetReceiving). r.stages.inner.has_ended ≡ false → Hands g.W.WindowWatch.took AreTold
+    r.stages.inner c.take.new.inner c.args.watch.now c.take.new.watch c.args.octets.now) c.self.view_is
+    c.in-Ok.ensures.watched
+
+pub take-requires-clause-accepted : goal.take-requires-clause-accepted
+take-requires-clause-accepted g c = subst IsAccepted (sym c.self.invariant.0) c.self.invariant.2
+
+-- the configuration that is kept
+kept_config : (before now : OctetReceiving) → before ≡ now → before.stages.inner.config ≡ before.config
+    → IsAccepted before.config → (now.stages.inner.config ≡ now.config) × IsAccepted now.config
+kept_config before now is same accepted =
+    subst (λ (r : OctetReceiving). (r.stages.inner.config ≡ r.config) × IsAccepted r.config) is (same, accepted)
+
+pub returns-then-self-clause-of : goal.returns-then-self-clause-of
+returns-then-self-clause-of g c =
+    let k = kept_config _ _ c.self.view_is c.self.invariant.0 c.self.invariant.2 in (k.0, k.0, k.1)
+
+pub returns-in-Ok-clause-of : goal.returns-in-Ok-clause-of
+returns-in-Ok-clause-of g c =
+    let k = kept_config _ _ c.self.view_is c.self.invariant.0 c.self.invariant.2 in (
+      k.0,
+      c.take.ensures.takes.inner ∙ c.self.invariant.0 ∙ ap (λ (r : OctetReceiving). r.config) c.self.view_is,
+      k.1,
+    )
+
+pub returns-in-Err-clause-of : goal.returns-in-Err-clause-of
+returns-in-Err-clause-of g c =
+    let k = kept_config _ _ c.self.view_is c.self.invariant.0 c.self.invariant.2 in (
+      k.0,
+      c.take.ensures.takes.inner ∙ c.self.invariant.0 ∙ ap (λ (r : OctetReceiving). r.config) c.self.view_is,
+      k.1,
+    )

@@ -2,7 +2,7 @@ use Rattle.std.proofs.Common.{◌≡◌, ◌-◌, ◌∙◌, ℕ, List, length, 
 use Rattle.std.proofs.lemmas.List.{length-map, length-take-le}
 use Rattle.tm_channel.specs.Items.{ItemValue}
 use Rattle.tm_channel.specs.Receiving.{AreItemsFor, AreWritten, Batching, StoredCodeblock}
-use Rattle.tm_channel.specs.Storing.{item_in, stored_in}
+use Rattle.tm_channel.specs.Storing.{item_in, place_in, stored_in}
 use Rattle.tm_channel.specs.declared.slot.Slot.{Slot}
 use Rattle.tm_channel.proofs.Repaired.{items-first}
 use Rattle.tm_channel.proofs.Streaming.{take-map', take-take}
@@ -24,6 +24,15 @@ returns-clause-stored c =
     sym (but-last (stored_in s.size) s.count slots)
     ∙ ap (λ n. take (n - 1) (map (stored_in s.size) (take s.count slots))) (sym size)
     ∙ ap (λ (v : Batching). take (length v.stored - 1) v.stored) c.self.view_is
+
+pub returns-clause-symbols : goal.returns-clause-symbols
+returns-clause-symbols c =
+    let s = c.self.inside in
+    let slots = s.slots.items in
+    let size : length (map place_in (take s.count slots)) ≡ s.count =
+    length-map (take s.count slots) place_in ∙ length-take-le s.count slots (omega (arith, c.self.invariant)) in
+    sym (but-last place_in s.count slots) ∙ ap (λ n. take (n - 1) (map place_in (take s.count slots))) (sym size)
+    ∙ ap (λ (v : Batching). take (length v.symbols - 1) v.symbols) c.self.view_is
 
 pub returns-clause-written : goal.returns-clause-written
 returns-clause-written c = λ were on.

@@ -2,7 +2,7 @@ use Rattle.std.proofs.Common.{◌≡◌, ◌∙◌, ap, sym, map, take, length, 
 use Rattle.std.proofs.lemmas.List.{with_items_is}
 use Rattle.tm_config.specs.Configuration.{Configuration}
 use Rattle.tm_channel.specs.Receiving.{AreItemsFor, Batching, StoredCodeblock}
-use Rattle.tm_channel.specs.Storing.{item_in, stored_in}
+use Rattle.tm_channel.specs.Storing.{item_in, place_in, stored_in}
 use Rattle.tm_channel.specs.declared.slot.Slot.{Slot}
 use Rattle.tm_channel.proofs.store.Codeblocks.repair.Goals as goal
 
@@ -22,6 +22,14 @@ returns-clause-stored g c =
     let now = with_items_is s.slots c.repair.new.slots (c.repair.ensures.slots ∙ ap length old ∙ sym s.slots.ok.0) in
     stored-through _ _ s.count _ _ _ _ _ c.self.invariant.0 now c.repair.ensures.stored old
     (ap (λ (v : Batching). v.stored) c.self.view_is)
+
+pub returns-clause-symbols : goal.returns-clause-symbols
+returns-clause-symbols g c =
+    let s = c.self.inside in
+    let old = c.as_mut_slice.ensures.value in
+    let now = with_items_is s.slots c.repair.new.slots (c.repair.ensures.slots ∙ ap length old ∙ sym s.slots.ok.0) in
+    ap (λ (l : List Slot). map place_in (take s.count l)) now ∙ c.repair.ensures.places
+    ∙ ap (λ (l : List Slot). map place_in (take s.count l)) old ∙ ap (λ (v : Batching). v.symbols) c.self.view_is
 
 -- the items of repaired slots are those of what was stored
 items-through : (c : Configuration) (size number count : ℕ) (now repaired given : List Slot) → size ≡ number
