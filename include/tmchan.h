@@ -3,7 +3,7 @@
  * (CADUs). Streams: a sender, a soft decoder of the convolutional code, a search for sync markers, and a whole
  * receiver.
  *
- * The library is proved in Rattle: what each call writes and answers is a clause of it, for every value that can be
+ * The library is proved in Rattle: what each call writes and returns is a clause of it, for every value that can be
  * passed (docs/PROMISES.md, "The C library").
  *
  * What holds of every call
@@ -11,16 +11,16 @@
  * - It starts no thread and calls nothing outside but memcpy, memmove, memset, and where it is said malloc, realloc
  *   and free. Calls that are passed different handles, or none, may be made by different threads at the same time; a
  *   handle is passed to one call at a time.
- * - An array is passed as a pointer followed by its length, in octets, and of reports in reports. A call reads and
- *   writes nothing beyond it.
- * - Any length may be passed, 0 too, and any number. What does not fit is answered by a negative number, and nothing
- *   is written then, but by a receiver's push and finish (TMCHAN_ROOM), and to a tmchan_written, which says so.
+ * - An array is passed as a pointer followed by its length, in octets, and of reports or windows in elements. A call
+ *   reads and writes nothing beyond it.
+ * - Any length may be passed, 0 too, and any number. Where something does not fit, the call returns a negative number
+ *   and writes nothing but a tmchan_written, which says so; a receiver's push and finish may write (TMCHAN_ROOM).
  *
  * What the caller owes, since no call can test it
  *
  * - A pointer is never null, not even where the length is 0. The memory that it points to is readable, or writable
  *   where it is not const, for the length passed.
- * - An array of options or reports is aligned to 8 octets, as C does it.
+ * - An array of options, reports or windows is aligned to 8 octets, as C does it.
  * - What a call may write, that is all that a pointer without const points to, an array or a struct, overlaps nothing
  *   else that is passed to that call, or to another call under way. Each call that takes a handle or a tmchan_search
  *   writes it: two threads do not pass one at the same time. What is const may be shared.
@@ -52,7 +52,8 @@ extern "C" {
 
 /* The version that this header describes: 65,536 times the first number, 256 times the second, and the third. While
  * the first is 0, a program is compiled anew for each second number: in 0.3 each push and finish takes a tmchan_written
- * as its last argument, and the calls that take options take their number too, which macros of their names pass. */
+ * as its last argument, the calls that take options take their number too, which macros of their names pass, and
+ * tmchan_report is longer. */
 #define TMCHAN_VERSION 0x000300
 
 /* The codes. TMCHAN_NO_CODE is taken by tmchan_cadu, tmchan_cadu_length and the field code of tmchan_config alone. */
@@ -93,9 +94,9 @@ extern "C" {
 #define TMCHAN_DROP 0
 #define TMCHAN_PASS 1
 
-/* Answers below 0. Each call lists its own; where several apply it gives the first of its list. After any of them all
- * arrays are as they were, but for those of a receiver's push or finish: after TMCHAN_ROOM the tmchan_written says what
- * stands in them. tmchan_text has what each means. */
+/* What calls return below 0. Each call lists its own; where several apply it returns the first of its list. After any
+ * of them all arrays are as they were, but for those of a receiver's push or finish: after TMCHAN_ROOM the
+ * tmchan_written says what stands in them. tmchan_text has what each means. */
 #define TMCHAN_BEYOND (-1)      /* uncorrectable: no codeword is within the repair bound. No mistake of the caller */
 #define TMCHAN_ROOM (-2)        /* the length of an array does not fit those of the others, or the code */
 #define TMCHAN_FLAGS (-3)       /* there are not as many flags as symbols */
@@ -132,11 +133,11 @@ extern "C" {
 /* The version of the library that is linked. */
 uint32_t tmchan_version(void);
 
-/* The octets in which the text of each answer has room, with the 0 after it. */
+/* The octets in which each text has room, with the 0 after it. */
 #define TMCHAN_TEXT_LENGTH 96
 
-/* Writes what an answer means to text: a sentence in ASCII without a full stop, and a 0 after it. Answers the length of
- * the sentence; TMCHAN_ROOM, where text is too short: never with TMCHAN_TEXT_LENGTH. */
+/* Writes what a returned number means to text: a sentence in ASCII without a full stop, and a 0 after it. Returns the
+ * length of the sentence; TMCHAN_ROOM, where text is too short: never with TMCHAN_TEXT_LENGTH. */
 int32_t tmchan_text(int64_t answer, char *text, size_t text_length);
 
 /* Reed-Solomon codes */
@@ -144,14 +145,14 @@ int32_t tmchan_text(int64_t answer, char *text, size_t text_length);
 /* Writes the 2E check octets of data octets to checks: the data followed by the checks are the one codeword, in this
  * basis, that begins with the data. data_length is 1 to 255 - 2E, checks_length is 2E.
  *
- * Answers 0; TMCHAN_BAD_CODE, TMCHAN_BAD_LENGTH (of the data), TMCHAN_BAD_BASIS, TMCHAN_ROOM (of the checks). */
+ * Returns 0; TMCHAN_BAD_CODE, TMCHAN_BAD_LENGTH (of the data), TMCHAN_BAD_BASIS, TMCHAN_ROOM (of the checks). */
 int32_t tmchan_rs_encode(uint32_t code, uint32_t basis, const uint8_t *data, size_t data_length, uint8_t *checks,
                          size_t checks_length);
 
 /* Repairs a word, 2E + 1 to 255 octets, in place: where a codeword differs from it in at most `repair` octets, it
  * becomes that codeword. There is at most one. repair is 0 to E; 0 says whether the word is a codeword.
  *
- * Answers the number of octets that were wrong, 0 to repair; TMCHAN_BEYOND where there is no such codeword;
+ * Returns the number of octets that were wrong, 0 to repair; TMCHAN_BEYOND where there is no such codeword;
  * TMCHAN_BAD_CODE, TMCHAN_BAD_LENGTH (of the word), TMCHAN_BAD_BASIS, TMCHAN_BAD_REPAIR. */
 int32_t tmchan_rs_decode(uint32_t code, uint32_t basis, uint32_t repair, uint8_t *word, size_t word_length);
 
@@ -160,7 +161,7 @@ int32_t tmchan_rs_decode(uint32_t code, uint32_t basis, uint32_t repair, uint8_t
  * codeword that differs from it in at most `repair` octets that are not erased, where twice their number and the number
  * of erased octets are at most 2E together. There is at most one.
  *
- * Answers the number of octets that were wrong, erased or not (an erased octet that was right is not counted), 0 to 2E;
+ * Returns the number of octets that were wrong, erased or not (an erased octet that was right is not counted), 0 to 2E;
  * TMCHAN_BEYOND where there is no such codeword; TMCHAN_BAD_CODE, TMCHAN_BAD_LENGTH (of the word), TMCHAN_BAD_BASIS,
  * TMCHAN_BAD_REPAIR, TMCHAN_FLAGS. */
 int32_t tmchan_rs_decode_erased(uint32_t code, uint32_t basis, uint32_t repair, uint8_t *word, size_t word_length,
@@ -175,14 +176,14 @@ void tmchan_randomize(uint8_t *block, size_t block_length);
 /* Copies column `index`, from 0, of a codeblock of this depth to word. block_length is depth times word_length. Any
  * depth will do.
  *
- * Answers 0; TMCHAN_COLUMN, TMCHAN_ROOM. */
+ * Returns 0; TMCHAN_COLUMN, TMCHAN_ROOM. */
 int32_t tmchan_take_column(uint32_t depth, uint32_t index, const uint8_t *block, size_t block_length, uint8_t *word,
                            size_t word_length);
 
 /* Replaces column `index`, from 0, of a codeblock of this depth by word; no other column changes. block_length is
  * depth times word_length. Any depth will do.
  *
- * Answers 0; TMCHAN_COLUMN, TMCHAN_ROOM. */
+ * Returns 0; TMCHAN_COLUMN, TMCHAN_ROOM. */
 int32_t tmchan_put_column(uint32_t depth, uint32_t index, uint8_t *block, size_t block_length, const uint8_t *word,
                           size_t word_length);
 
@@ -191,14 +192,14 @@ int32_t tmchan_put_column(uint32_t depth, uint32_t index, uint8_t *block, size_t
 /* How many octets the CADU of a frame has: four of the attached sync marker, the frame, and 2E check octets for each
  * column. frame_length is a multiple of the depth, 1 to 255 - 2E times it; with TMCHAN_NO_CODE it is 1 to 2,040.
  *
- * Answers that number, at most 2,044; TMCHAN_BAD_CODE, TMCHAN_BAD_DEPTH, TMCHAN_BAD_LENGTH. */
+ * Returns that number, at most 2,044; TMCHAN_BAD_CODE, TMCHAN_BAD_DEPTH, TMCHAN_BAD_LENGTH. */
 int32_t tmchan_cadu_length(uint32_t code, uint32_t depth, size_t frame_length);
 
 /* Writes the CADU of a frame: the attached sync marker 1A CF FC 1D and the codeblock, whose columns are the codewords
  * that begin with the frame's columns, randomized where randomize is 1, and not where it is 0. With TMCHAN_NO_CODE
- * the codeblock is the frame, and the basis has no effect. cadu_length is what tmchan_cadu_length answers.
+ * the codeblock is the frame, and the basis has no effect. cadu_length is what tmchan_cadu_length returns.
  *
- * Answers 0; TMCHAN_BAD_CODE, TMCHAN_BAD_DEPTH, TMCHAN_BAD_LENGTH (of the frame), TMCHAN_BAD_SWITCH,
+ * Returns 0; TMCHAN_BAD_CODE, TMCHAN_BAD_DEPTH, TMCHAN_BAD_LENGTH (of the frame), TMCHAN_BAD_SWITCH,
  * TMCHAN_BAD_BASIS, TMCHAN_ROOM (of the CADU). */
 int32_t tmchan_cadu(uint32_t code, uint32_t depth, uint32_t basis, uint32_t randomize, const uint8_t *frame,
                     size_t frame_length, uint8_t *cadu, size_t cadu_length);
@@ -208,9 +209,9 @@ int32_t tmchan_cadu(uint32_t code, uint32_t depth, uint32_t basis, uint32_t rand
 /* The value of an option that is left to the library: of length, invert and repair alone. */
 #define TMCHAN_UNSET UINT64_MAX
 
-/* The options of a link, as those of the command line: which numbers each takes, and what the defaults are. A number
- * outside is answered by the option's TMCHAN_BAD_.., the first in the order in which they stand here (but invert and
- * randomize are tested together). Later versions may add options at the end, of which 0 is the default. */
+/* The options of a link, as those of the command line: which numbers each takes, and what the defaults are. Where a
+ * number is outside, a call returns the option's TMCHAN_BAD_.., of the first in the order in which they stand here (but
+ * invert and randomize are tested together). Later versions may add options at the end, of which 0 is the default. */
 typedef struct {
     uint64_t code;      /* TMCHAN_RS16 (default), TMCHAN_RS8 or TMCHAN_NO_CODE */
     uint64_t depth;     /* interleaving depth: 1 (default), 2, 3, 4, 5 or 8; 1 alone where there is no code */
@@ -219,8 +220,8 @@ typedef struct {
     uint64_t inner;     /* the convolutional code's rate: TMCHAN_RATE_12 (default) and so on, or TMCHAN_NO_INNER */
     uint64_t invert;    /* TMCHAN_ON: each second symbol of the convolutional code is inverted, TMCHAN_OFF: not.
                            TMCHAN_UNSET (default): at rate 1/2 alone */
-    uint64_t randomize; /* codeblocks are randomized: TMCHAN_ON (default), or not: TMCHAN_OFF. TMCHAN_BAD_SWITCH is the
-                           answer of invert and of randomize */
+    uint64_t randomize; /* codeblocks are randomized: TMCHAN_ON (default), or not: TMCHAN_OFF. TMCHAN_BAD_SWITCH is of
+                           invert and of randomize */
     uint64_t basis;     /* TMCHAN_DUAL (default) or TMCHAN_POLYNOMIAL */
     uint64_t tolerance; /* sync threshold: how many of a marker's 32 bits may be wrong, 0 (default) to 8 */
     uint64_t repair;    /* how many symbols of a codeword are repaired at most, 0 to E. TMCHAN_UNSET (default): E */
@@ -266,7 +267,7 @@ void tmchan_config_defaults(tmchan_config *config, size_t config_length);
  * So inner is set before. It leaves the other options. */
 void tmchan_config_recording(tmchan_config *config, size_t config_length);
 
-/* Answers 0; TMCHAN_BAD_CONFIG, or the TMCHAN_BAD_.. of the first option whose value is outside. So do the calls below
+/* Returns 0; TMCHAN_BAD_CONFIG, or the TMCHAN_BAD_.. of the first option whose value is outside. So do the calls below
  * that list TMCHAN_BAD_... */
 int32_t tmchan_config_check(const tmchan_config *config, size_t config_length);
 
@@ -282,13 +283,13 @@ int32_t tmchan_frame_length(const tmchan_config *config, size_t config_length);
  *
  * A handle begins as {0}, which is closed, and only calls change it. A call that opens it takes all the memory of the
  * stream by malloc; no other call allocates. tmchan_close, and the finish of each kind of stream, close it and give
- * the memory back, so that a handle after either is answered TMCHAN_CLOSED, and may be opened again. Handles may be
- * moved in memory, and not copied.
+ * the memory back; then calls on the handle return TMCHAN_CLOSED, and it may be opened again. Handles may be moved in
+ * memory, and not copied.
  *
  * What a push writes stands at the start of its arrays; what follows it is left open, and may have changed. How large
- * the arrays have to be a call says before: tmchan_sender_room, tmchan_decoder_room and tmchan_receiver_room; none
- * says it for more than 2^40 elements, and a sender or a decoder takes no more at a time (TMCHAN_ROOM). The octets of
- * a decoder or a receiver in all are to be below 2^60. */
+ * the arrays have to be a call says before: tmchan_sender_room, tmchan_decoder_room, tmchan_receiver_room and
+ * tmchan_window_room; none says it for more than 2^40 elements, and a sender or a decoder takes no more at a time
+ * (TMCHAN_ROOM). The octets of a decoder or a receiver in all are to be below 2^60. */
 typedef struct {
     uint64_t is_open;
     void *at;
@@ -303,60 +304,96 @@ typedef struct {
 } tmchan_phase;
 
 /* How much a push or a finish has written to the start of its arrays: reports, octets (of frames, or symbols or bits),
- * and windows, of which it is 0 so far. After a negative answer all are 0, but at a receiver's TMCHAN_ROOM. */
+ * and windows (0 but in the calls whose name ends with _windows). Where a call returns a number below
+ * 0 all are 0, but at a receiver's TMCHAN_ROOM. */
 typedef struct {
     uint64_t reports, octets, windows;
 } tmchan_written;
 
-/* Closes a stream of any kind, and drops what was not written yet. Answers 0; TMCHAN_CLOSED. */
+/* Closes a stream of any kind, and drops what was not written yet. Returns 0; TMCHAN_CLOSED. */
 int32_t tmchan_close(tmchan_stream *stream);
 
 /* The sender: the octets of transfer frames in pieces of any length, and the symbols of the CADU of each frame once
  * it is whole: with an inner code an octet for each symbol, 00 and FF (or 80 and 7F in the signed form), and else the
  * octets of the CADU, or with pack = 0 such an octet for each of its bits. */
 
-/* For how many symbols a push of octets_length octets needs room: more than it writes. Answers TMCHAN_BAD_..,
+/* For how many symbols a push of octets_length octets needs room: more than it writes. Returns TMCHAN_BAD_..,
  * TMCHAN_ROOM. */
 int64_t tmchan_sender_room(const tmchan_config *config, size_t config_length, size_t octets_length);
 
-/* Opens a sender. Answers 0; TMCHAN_OPEN, TMCHAN_BAD_.., TMCHAN_MEMORY. */
+/* Opens a sender. Returns 0; TMCHAN_OPEN, TMCHAN_BAD_.., TMCHAN_MEMORY. */
 int32_t tmchan_sender_open(tmchan_stream *stream, const tmchan_config *config, size_t config_length);
 
-/* Takes the next octets of the frames. Answers how many symbols were written; TMCHAN_CLOSED, TMCHAN_ROOM: nothing was
+/* Takes the next octets of the frames. Returns how many symbols were written; TMCHAN_CLOSED, TMCHAN_ROOM: nothing was
  * taken then. */
 int64_t tmchan_sender_push(tmchan_stream *stream, const uint8_t *octets, size_t octets_length, uint8_t *symbols,
                            size_t symbols_length, tmchan_written *written);
 
-/* Closes a sender, and writes nothing but *written, all 0. Answers how many octets follow the last whole frame, which
+/* Closes a sender, and writes nothing but *written, all 0. Returns how many octets follow the last whole frame, which
  * were not sent; TMCHAN_CLOSED. */
 int64_t tmchan_sender_finish(tmchan_stream *stream, tmchan_written *written);
 
 #define tmchan_sender_room(config, octets_length) (tmchan_sender_room)(config, TMCHAN_CONFIG_LENGTH, octets_length)
 #define tmchan_sender_open(stream, config) (tmchan_sender_open)(stream, config, TMCHAN_CONFIG_LENGTH)
 
+/* Figures of a window of the soft decoder: how well received octets fit the symbols of the window's best path. A window
+ * keeps its first steps, of an information bit each; those after them only settle these. Counted are the octets of the
+ * kept steps, so that each octet counts once; none is equally near to both symbols. The rate of wrong symbols and
+ * Es/N0 follow from these counts (docs/GUIDE.md, "How good symbols are"). */
+typedef struct {
+    uint64_t symbol;   /* the number, from 0, of its first step's first symbol among all octets that were given; those
+                          that were skipped or dropped are counted */
+    uint64_t dropped;  /* how many octets were dropped before it */
+    uint64_t steps;    /* how many steps it has */
+    uint64_t kept;     /* how many of them it keeps: as many as the option keep says, in the last window all */
+    uint64_t metric;   /* what its best path costs, over all steps */
+    uint64_t octets;   /* how many octets the kept steps have */
+    uint64_t wrong;    /* how many of these are nearer to the other symbol than to the path's */
+    uint64_t distance; /* the sum of their distances from the path's symbols, 0 to 255 each */
+    uint64_t squares;  /* the sum of the squares of these distances */
+} tmchan_window;
+
+/* For how many windows a push of octets_length octets, or fewer, and the finish need room: enough for any decoder and
+ * any receiver of this configuration, whatever was pushed before, and so mostly more than are written; 0 where there is
+ * no inner code. Returns TMCHAN_BAD_.., TMCHAN_ROOM (of more than 2^40 octets). */
+int64_t tmchan_window_room(const tmchan_config *config, size_t config_length, size_t octets_length);
+
+#define tmchan_window_room(config, octets_length) (tmchan_window_room)(config, TMCHAN_CONFIG_LENGTH, octets_length)
+
 /* The soft decoder of the convolutional code: soft octets in pieces of any length, and the decoded bits, an octet for
  * each, 0 or 1. With inner = 0 no bit comes. Bits come a window at a time: keep bits once more than keep + ahead
  * steps are there. */
 
-/* For how many bits a push of octets_length octets needs room, or with 0 the finish. Answers TMCHAN_BAD_..,
+/* For how many bits a push of octets_length octets needs room, or with 0 the finish. Returns TMCHAN_BAD_..,
  * TMCHAN_ROOM. */
 int64_t tmchan_decoder_room(const tmchan_config *config, size_t config_length, size_t octets_length);
 
-/* Opens a decoder. Answers 0; TMCHAN_OPEN, TMCHAN_BAD_.., TMCHAN_MEMORY. */
+/* Opens a decoder. Returns 0; TMCHAN_OPEN, TMCHAN_BAD_.., TMCHAN_MEMORY. */
 int32_t tmchan_decoder_open(tmchan_stream *stream, const tmchan_config *config, size_t config_length);
 
-/* Takes the next soft octets. Answers how many bits were written; TMCHAN_CLOSED, TMCHAN_ROOM: nothing was taken then.
+/* Takes the next soft octets. Returns how many bits were written; TMCHAN_CLOSED, TMCHAN_ROOM: nothing was taken then.
  * */
 int64_t tmchan_decoder_push(tmchan_stream *stream, const uint8_t *octets, size_t octets_length, uint8_t *bits,
                             size_t bits_length, tmchan_written *written);
 
-/* Gives the phase so far. Answers 0; TMCHAN_CLOSED. */
+/* Does what tmchan_decoder_push does, and writes the figures of the windows that are decoded to windows, which has the
+ * room that tmchan_window_room says (TMCHAN_ROOM otherwise: nothing was taken then). A stream may be given to this push
+ * and to the one above by turns: the one that decodes a window writes its figures, or drops them. */
+int64_t tmchan_decoder_push_windows(tmchan_stream *stream, const uint8_t *octets, size_t octets_length, uint8_t *bits,
+                                    size_t bits_length, tmchan_window *windows, size_t windows_length,
+                                    tmchan_written *written);
+
+/* Gives the phase so far. Returns 0; TMCHAN_CLOSED. */
 int32_t tmchan_decoder_phase(tmchan_stream *stream, tmchan_phase *phase);
 
-/* Writes the bits that are left, gives the phase, and closes the decoder. Answers how many bits were written;
+/* Writes the bits that are left, gives the phase, and closes the decoder. Returns how many bits were written;
  * TMCHAN_CLOSED, TMCHAN_ROOM: the decoder is still open then. */
 int64_t tmchan_decoder_finish(tmchan_stream *stream, uint8_t *bits, size_t bits_length, tmchan_phase *phase,
                               tmchan_written *written);
+
+/* Does what tmchan_decoder_finish does, and writes the figures of the windows that are left. */
+int64_t tmchan_decoder_finish_windows(tmchan_stream *stream, uint8_t *bits, size_t bits_length, tmchan_window *windows,
+                                      size_t windows_length, tmchan_phase *phase, tmchan_written *written);
 
 #define tmchan_decoder_room(config, octets_length) (tmchan_decoder_room)(config, TMCHAN_CONFIG_LENGTH, octets_length)
 #define tmchan_decoder_open(stream, config) (tmchan_decoder_open)(stream, config, TMCHAN_CONFIG_LENGTH)
@@ -367,6 +404,11 @@ int64_t tmchan_decoder_finish(tmchan_stream *stream, uint8_t *bits, size_t bits_
 
 typedef struct {
     uint64_t place;        /* how many received bits stand before its marker */
+    uint64_t symbol;       /* the number, from 0, of its marker's first symbol among all octets that were given, with
+                              pack = 1 and no inner code among all bits; those that were skipped or dropped are
+                              counted. With an inner code it is the first symbol of the step of its first bit */
+    uint64_t frame;        /* where its frame begins in the array frames of this call; where it has none, where the
+                              next one begins */
     uint64_t frame_length; /* the octets of its frame; 0 where a column is uncorrectable and bad is TMCHAN_DROP: it has
                               none then */
     uint8_t distance;      /* how many of the marker's 32 bits are wrong, in the codeblock's polarity */
@@ -384,16 +426,16 @@ typedef struct {
  * as without, since codeblocks may lie inside others then. For how many octets of frames, as many frames, it writes to
  * *frames_length.
  *
- * Answers the number of reports; TMCHAN_BAD_.., TMCHAN_ROOM (of more than 2^40 octets): *frames_length is as it was
+ * Returns the number of reports; TMCHAN_BAD_.., TMCHAN_ROOM (of more than 2^40 octets): *frames_length is as it was
  * then. */
 int64_t tmchan_receiver_room(const tmchan_config *config, size_t config_length, size_t octets_length,
                              uint64_t *frames_length);
 
-/* Opens a receiver. Answers 0; TMCHAN_OPEN, TMCHAN_BAD_.., TMCHAN_MEMORY. */
+/* Opens a receiver. Returns 0; TMCHAN_OPEN, TMCHAN_BAD_.., TMCHAN_MEMORY. */
 int32_t tmchan_receiver_open(tmchan_stream *stream, const tmchan_config *config, size_t config_length);
 
 /* Takes the next octets, and writes the frames of the codeblocks that are handed over, one after the other, to
- * frames, and a report of each to reports; frames_length is in octets, reports_length in reports. Answers how many
+ * frames, and a report of each to reports; frames_length is in octets, reports_length in reports. Returns how many
  * codeblocks these are; TMCHAN_CLOSED: nothing was taken then; TMCHAN_ROOM: the octets were taken, those codeblocks
  * were written that *written says, and all from the first that had no room on are lost. That never comes with the room
  * that tmchan_receiver_room says. */
@@ -401,7 +443,15 @@ int64_t tmchan_receiver_push(tmchan_stream *stream, const uint8_t *octets, size_
                              size_t frames_length, tmchan_report *reports, size_t reports_length,
                              tmchan_written *written);
 
-/* Gives the phase so far. Answers 0; TMCHAN_CLOSED. */
+/* Does what tmchan_receiver_push does, and writes the figures of the windows of the inner code that are decoded to
+ * windows. TMCHAN_ROOM comes too where windows has no room for all: the octets were taken then, and the figures of the
+ * first windows written, as many as *written says. That never comes with the room that tmchan_window_room says. */
+int64_t tmchan_receiver_push_windows(tmchan_stream *stream, const uint8_t *octets, size_t octets_length,
+                                     uint8_t *frames, size_t frames_length, tmchan_report *reports,
+                                     size_t reports_length, tmchan_window *windows, size_t windows_length,
+                                     tmchan_written *written);
+
+/* Gives the phase so far. Returns 0; TMCHAN_CLOSED. */
 int32_t tmchan_receiver_phase(tmchan_stream *stream, tmchan_phase *phase);
 
 /* What all octets came to. */
@@ -412,15 +462,22 @@ typedef struct {
 } tmchan_totals;
 
 /* Writes to *slips before how many windows of the inner code octets were dropped so far, of those whose bits were
- * searched; 0 where the phase is not followed. Answers 0; TMCHAN_CLOSED. */
+ * searched; 0 where the phase is not followed. Returns 0; TMCHAN_CLOSED. */
 int32_t tmchan_receiver_slips(tmchan_stream *stream, uint64_t *slips);
 
 /* Writes the codeblocks that are left in the same way, gives what all octets came to and the phase, and closes the
- * receiver. Answers how many codeblocks these are; TMCHAN_CLOSED; TMCHAN_ROOM, as of a push: the totals and the phase
+ * receiver. Returns how many codeblocks these are; TMCHAN_CLOSED; TMCHAN_ROOM, as of a push: the totals and the phase
  * are given, and the receiver is closed, all the same. */
 int64_t tmchan_receiver_finish(tmchan_stream *stream, uint8_t *frames, size_t frames_length, tmchan_report *reports,
                                size_t reports_length, tmchan_totals *totals, tmchan_phase *phase,
                                tmchan_written *written);
+
+/* Does what tmchan_receiver_finish does, and writes the figures of the windows that are left, as
+ * tmchan_receiver_push_windows does. */
+int64_t tmchan_receiver_finish_windows(tmchan_stream *stream, uint8_t *frames, size_t frames_length,
+                                       tmchan_report *reports, size_t reports_length, tmchan_window *windows,
+                                       size_t windows_length, tmchan_totals *totals, tmchan_phase *phase,
+                                       tmchan_written *written);
 
 #define tmchan_receiver_room(config, octets_length, frames_length) \
     (tmchan_receiver_room)(config, TMCHAN_CONFIG_LENGTH, octets_length, frames_length)
@@ -447,7 +504,7 @@ typedef struct {
 /* Begins a search: of markers with at most `tolerance` wrong bits, 0 to 8; where at most `fly` in a row may be
  * missing, 0 to 15; inverted ones too where either is 1, and not where it is 0; with codeblocks of block_bits bits. A
  * marker that does not directly follow a codeblock is taken where `verify` further ones, 0 to 7, each right after the
- * codeblock of the one before, match in the same polarity. Answers 0; TMCHAN_BAD_TOLERANCE, TMCHAN_BAD_FLY,
+ * codeblock of the one before, match in the same polarity. Returns 0; TMCHAN_BAD_TOLERANCE, TMCHAN_BAD_FLY,
  * TMCHAN_BAD_POLARITY (of either), TMCHAN_BAD_VERIFY. */
 int32_t tmchan_search_open(tmchan_search *search, uint32_t tolerance, uint32_t fly, uint32_t either,
                            uint32_t block_bits, uint32_t verify);
@@ -455,7 +512,7 @@ int32_t tmchan_search_open(tmchan_search *search, uint32_t tolerance, uint32_t f
 /* Takes bits of an array, each 0, or any other number for 1, from number *at on, up to the one with which the next
  * place is found, or all; *at is how many of the array are taken then. A place is found with the last bit of its
  * codeblock, and where further markers verify it with the last bit of these: several places may be found with one
- * bit, and come one a call. Answers 1 where a place is found, and gives it; 0 where all are taken; TMCHAN_CLOSED,
+ * bit, and come one a call. Returns 1 where a place is found, and gives it; 0 where all are taken; TMCHAN_CLOSED,
  * TMCHAN_ROOM (the room has another length, *at is beyond the array, or that has more than 2^40 elements): nothing
  * was taken then. The bits given to a search in all, those of the array too, are to be at most 2^63. So this takes an
  * array:

@@ -66,17 +66,36 @@ CHOOSE(tmchan_decoder_push, int64_t,
        (tmchan_stream *stream, const uint8_t *octets, size_t octets_length, uint8_t *bits, size_t bits_length,
         tmchan_written *written),
        (stream, octets, octets_length, bits, bits_length, written))
+CHOOSE(tmchan_decoder_push_windows, int64_t,
+       (tmchan_stream *stream, const uint8_t *octets, size_t octets_length, uint8_t *bits, size_t bits_length,
+        tmchan_window *windows, size_t windows_length, tmchan_written *written),
+       (stream, octets, octets_length, bits, bits_length, windows, windows_length, written))
 CHOOSE(tmchan_decoder_phase, int32_t, (tmchan_stream *stream, tmchan_phase *phase), (stream, phase))
 CHOOSE(tmchan_decoder_finish, int64_t,
        (tmchan_stream *stream, uint8_t *bits, size_t bits_length, tmchan_phase *phase, tmchan_written *written),
        (stream, bits, bits_length, phase, written))
+CHOOSE(tmchan_decoder_finish_windows, int64_t,
+       (tmchan_stream *stream, uint8_t *bits, size_t bits_length, tmchan_window *windows, size_t windows_length,
+        tmchan_phase *phase, tmchan_written *written),
+       (stream, bits, bits_length, windows, windows_length, phase, written))
 CHOOSE(tmchan_receiver_push, int64_t,
        (tmchan_stream *stream, const uint8_t *octets, size_t octets_length, uint8_t *frames, size_t frames_length,
         tmchan_report *reports, size_t reports_length, tmchan_written *written),
        (stream, octets, octets_length, frames, frames_length, reports, reports_length, written))
+CHOOSE(tmchan_receiver_push_windows, int64_t,
+       (tmchan_stream *stream, const uint8_t *octets, size_t octets_length, uint8_t *frames, size_t frames_length,
+        tmchan_report *reports, size_t reports_length, tmchan_window *windows, size_t windows_length,
+        tmchan_written *written),
+       (stream, octets, octets_length, frames, frames_length, reports, reports_length, windows, windows_length,
+        written))
 CHOOSE(tmchan_receiver_phase, int32_t, (tmchan_stream *stream, tmchan_phase *phase), (stream, phase))
 CHOOSE(tmchan_receiver_slips, int32_t, (tmchan_stream *stream, uint64_t *slips), (stream, slips))
 CHOOSE(tmchan_receiver_finish, int64_t,
        (tmchan_stream *stream, uint8_t *frames, size_t frames_length, tmchan_report *reports, size_t reports_length,
         tmchan_totals *totals, tmchan_phase *phase, tmchan_written *written),
        (stream, frames, frames_length, reports, reports_length, totals, phase, written))
+CHOOSE(tmchan_receiver_finish_windows, int64_t,
+       (tmchan_stream *stream, uint8_t *frames, size_t frames_length, tmchan_report *reports, size_t reports_length,
+        tmchan_window *windows, size_t windows_length, tmchan_totals *totals, tmchan_phase *phase,
+        tmchan_written *written),
+       (stream, frames, frames_length, reports, reports_length, windows, windows_length, totals, phase, written))

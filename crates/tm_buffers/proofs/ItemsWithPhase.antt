@@ -27,7 +27,7 @@ pub record Wrote (a b : Collected) (items : List ItemValue) : Type 0 where
   pub written : ℕ
   pub within : written ≤ length items
   pub said : List Report
-  pub are : AreReports (take written items) said
+  pub are : AreReports (length a.frames) (take written items) said
   pub room : length said ≤ length a.reports_behind
   pub reports : b.reports ≡ a.reports ++ said
   pub reports_behind : b.reports_behind ≡ drop (length said) a.reports_behind
@@ -102,7 +102,11 @@ one-more a m b item items one going rest =
       written = suc rest.written;
       within = omega (arith, rest.within);
       said = report ∷ rest.said;
-      are = (k.1.1, rest.are);
+      are = (
+        k.1.1,
+        subst (λ (n : ℕ). AreReports n (take rest.written items) rest.said)
+            (ap length k.3 ∙ length-append a.frames item.frame) rest.are,
+      );
       room = omega (arith, rest.room, left, k.0.1);
       reports =
           rest.reports ∙ ap (λ l. l ++ rest.said) k.1.2 ∙ append_assoc a.reports (report ∷ []) rest.said;
@@ -148,12 +152,13 @@ all-more a m b item items one rest = by_short m.is_short refl
               (none-more a m item items one going (sym is));
         }
 
-same-length : (items : List ItemValue) (reports : List Report) → AreReports items reports
+same-length : (frame : ℕ) (items : List ItemValue) (reports : List Report) → AreReports frame items reports
     → length reports ≡ length items
-same-length [] [] are = refl
-same-length [] (report ∷ reports) are = absurd are
-same-length (item ∷ items) [] are = absurd are
-same-length (item ∷ items) (report ∷ reports) are = ap suc (same-length items reports are.1)
+same-length frame [] [] are = refl
+same-length frame [] (report ∷ reports) are = absurd are
+same-length frame (item ∷ items) [] are = absurd are
+same-length frame (item ∷ items) (report ∷ reports) are =
+    ap suc (same-length (frame + length item.frame) items reports are.1)
 
 -- what is known of a taker after all that was handed over, by its loans and what it has collected
 pub record Handled {T : Type 0} (frames reports : T → ℕ) (state : T → Collected) (a b : T)
@@ -223,7 +228,7 @@ pub has-written : (frames : List ℕ) (reports : List Report) (b : BufferItems) 
     b.reports.now (record { reports = b.count; octets = b.octets; windows = 0 })
 has-written frames reports b items all =
     let w = all.wrote refl in
-    let size = same-length (take w.written items) w.said w.are in
+    let size = same-length _ (take w.written items) w.said w.are in
     let most : w.written ≤ length reports = omega (arith, w.within, w.room, size, length-take w.written items) in
     let count : b.count ≡ w.written = omega (
       arith,

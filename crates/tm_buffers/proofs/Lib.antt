@@ -2,6 +2,10 @@ pub mod Needed
 pub mod SymbolRoom
 pub mod Sinks
 pub mod KeptBits
+pub mod DecodedCalls
+pub mod WholePieces
+pub mod FewWindows
+pub mod WrittenWindows
 pub mod Spans
 pub mod ItemsWithPhase
 pub mod Filled

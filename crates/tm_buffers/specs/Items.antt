@@ -43,7 +43,7 @@ Fits c item = (c.is_short ≡ false) × (0 < length c.reports_behind)
 pub record Collects (before : Collected) (item : ItemValue) (now : Collected) : Type 0 where
   pub fits : Fits before item → now.is_short ≡ false
   pub kept : now.is_short ≡ false → Fits before item
-      × ((report : Report) × IsReport item report
+      × ((report : Report) × IsReport (length before.frames) item report
       × (now.reports ≡ before.reports ++ report ∷ []))
       × (now.reports_behind ≡ drop 1 before.reports_behind)
       × (now.frames ≡ before.frames ++ item.frame)
@@ -60,7 +60,7 @@ pub record HasWritten (count : Option ℕ) (items : List ItemValue) (frames fram
   pub answer : count
       ≡ (if written.reports == length items then Some written.reports else None)
   pub said : List Report
-  pub are_reports : AreReports (take written.reports items) said
+  pub are_reports : AreReports 0 (take written.reports items) said
   pub reports_hold : reports_now ≡ over said reports
   pub frames_hold : frames_now ≡ over (frames_of (take written.reports items)) frames
   pub octets : written.octets ≡ length (frames_of (take written.reports items))

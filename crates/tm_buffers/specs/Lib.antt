@@ -1,5 +1,6 @@
 pub mod Buffer
 pub mod Sending
+pub mod Windows
 pub mod Decoding
 pub mod Searching
 pub mod Reports

@@ -1,5 +1,5 @@
 -- A receiver whose items go to buffers.
-use Rattle.std.specs.Prelude.{◌≡◌, ℕ, ◌*◌, ◌≤◌, nat_le, false, if◌then◌else◌, List, ◌++◌, length, Option, Some, None, IsSome}
+use Rattle.std.specs.Prelude.{◌≡◌, ℕ, ◌*◌, ◌≤◌, ◌==◌, nat_le, true, false, if◌then◌else◌, List, ◌++◌, length, Option, Some, None, IsSome}
 use Rattle.tm_base.specs.Handed.{Handed, items_of}
 use Rattle.tm_channel.specs.declared.totals.Totals.{Totals}
 use Rattle.tm_channel.specs.Handing.{AreReceived, AreReceivedDue}
@@ -9,7 +9,9 @@ use Rattle.tm_channel.specs.Most.{most_items}
 use Rattle.tm_channel.specs.OctetReceiving.{OctetReceiving, ReceiverStandsFor}
 use Rattle.tm_inner.specs.Phase.{IsChosen}
 use Rattle.tm_buffers.specs.Items.{HasWritten}
-use Rattle.tm_buffers.specs.Buffer.{most_taken}
+use Rattle.tm_buffers.specs.Buffer.{has_room, most_taken}
+use Rattle.tm_buffers.specs.Windows.{HasWrittenWindows, windows_room}
+use Rattle.tm_inner.specs.declared.window.Window.{Window}
 use Rattle.tm_buffers.specs.declared.items.Report.{Report}
 use Rattle.tm_buffers.specs.declared.items.Written.{Written}
 
@@ -56,3 +58,15 @@ pub record ReceivesLast (receiver now : OctetReceiving) (given : List ℕ)
   pub written : HasWritten count (items_of last) frames frames_now reports reports_now said
   pub enough : IsEnough receiver.config 0 count frames reports
   pub chosen : IsChosen receiver.config given now.stages.inner.chosen
+
+-- Of windows of which this is true the first were written to an array, as many as is said, and all
+-- where there is the room that is said for `octets` octets or for more. The answer is that of the
+-- items, or there is none where not all windows were written.
+pub record WritesWindows (Are : List Window → Type 0) (c : Configuration) (octets : ℕ)
+    (array array_now : List Window) (count result : Option ℕ) (said : Written) : Type 0 where
+  pub windows : List Window
+  pub are : Are windows
+  pub written : HasWrittenWindows windows array array_now said.windows
+  pub answer : result ≡ (if said.windows == length windows then count else None)
+  pub enough : (most : ℕ) → octets ≤ most
+      → has_room (windows_room c most) (length array) ≡ true → said.windows ≡ length windows

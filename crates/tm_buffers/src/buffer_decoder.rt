@@ -1,38 +1,50 @@
 // Soft octets in, bits out into a buffer.
-ghost use Rattle.std.specs.Prelude.{◌≡◌, ℕ, ◌+◌, ◌^◌, ◌<◌, ◌≤◌, List, [], length, None, Some, true, false, IfOk, IfSome};
+ghost use Rattle.std.specs.Prelude.{◌≡◌, ℕ, ◌+◌, ◌^◌, ◌<◌, ◌≤◌, ◌⊎◌, ◌++◌, List, [], length, take, None, true, false, IfOk, IfSome};
 ghost use Rattle.tm_base.specs.Handed.{Handed};
+ghost use Rattle.tm_base.specs.Takers.{HandedOver};
 ghost use Rattle.tm_config.specs.Accepted.{IsAccepted};
+ghost use Rattle.tm_inner.specs.Handing.{IsKept};
+ghost use Rattle.tm_inner.specs.InnerDecoding.{IsDrained, IsSameDecoder, held_in, ready_in, unread};
+ghost use Rattle.tm_inner.specs.InnerWindows.{AreTold, AreWindows};
 ghost use Rattle.tm_inner.specs.Phase.{IsChosenSoFar};
+ghost use Rattle.tm_inner.specs.Receiving.{Hands, HasHanded, HasRead};
+ghost use Rattle.tm_inner.specs.declared.window.Window.{Window};
 ghost use Rattle.tm_viterbi.specs.WindowBlock.{WindowBlock};
 ghost use Rattle.tm_viterbi.specs.WindowSizes.{stream_bound};
 ghost use Rattle.tm_buffers.specs.Buffer.{has_room};
-ghost use Rattle.tm_buffers.specs.Decoding.{IsDecoding, Decodes, DecodesLast, bits_room};
+ghost use Rattle.tm_buffers.specs.Decoding.{Decodes, DecodesLast, DecodesLastWindows, DecodesWindows, IsDecoding, WritesBits, WritesLastBits, bits_at, bits_room, bits_written, keeps_bits};
+ghost use Rattle.tm_buffers.specs.Windows.{windows_room};
 
-use crate::buffer_bits::BufferBits;
-use crate::room::{MOST, has_room};
+use crate::items::Written;
+use crate::room::{MOST, has_room, windows_room};
+use crate::windows::BufferWindows;
 use std::alloc::Global;
 use std::marker::Model;
 use tm_base::NoMemory;
 use tm_config::Config;
-use tm_inner::{InnerReceiver, held_bits};
-use tm_windows::Chosen;
+use tm_inner::{InnerDecoder, NoWatch, Window, WindowWatch, held_bits, watch_ready};
+use tm_windows::{Alone, Chosen};
 
 /// A decoder of the inner code whose bits go to a buffer.
 #[derive(Drop)]
 pub struct BufferDecoder {
     config: Config,
-    inner: InnerReceiver,
+    inner: InnerDecoder,
+    // `finish` was called.
+    has_stopped: bool,
 }
 
 impl Model for BufferDecoder {
-    ghost use Rattle.std.specs.Prelude.{◌≡◌};
-    ghost use Rattle.tm_inner.specs.Receiving.{InnerReceiving};
+    ghost use Rattle.std.specs.Prelude.{◌≡◌, false};
+    ghost use Rattle.tm_inner.specs.Handing.{IsKept};
+    ghost use Rattle.tm_inner.specs.InnerDecoding.{InnerDecoding, IsDrained};
 
-    ghost Value = { InnerReceiving };
+    ghost Value = { InnerDecoding };
 
     ghost view = { λ d. d.inner };
 
-    ghost invariant = { λ d. d.inner.config ≡ d.config };
+    ghost invariant = { λ d. (d.inner.config ≡ d.config) × (d.inner.has_ended ≡ d.has_stopped)
+        × (d.has_stopped ≡ false → IsDrained d.inner.queue) };
 }
 
 impl BufferDecoder {
@@ -43,12 +55,16 @@ impl BufferDecoder {
     {
         // So that the proof has the ranges of the configuration.
         let _keep = config.keep();
-        let inner = InnerReceiver::open(alloc, &config)?;
-        Ok(BufferDecoder { config, inner })
+        let inner = InnerDecoder::open(alloc, &config, 1, 0)?;
+        Ok(BufferDecoder {
+            config,
+            inner,
+            has_stopped: false,
+        })
     }
 
     /// Takes the next soft octets, and writes the bits that are due with them to the start of `bits`, an octet for
-    /// each, 0 or 1. Answers how many these are; or None where `bits` has not the room, and takes nothing then. What
+    /// each, 0 or 1. Returns how many these are; or None where `bits` has not the room, and takes nothing then. What
     /// follows the bits is left open.
     ///
     /// The octets given in all are to be below 2^60.
@@ -62,17 +78,47 @@ impl BufferDecoder {
             → has_room (bits_room self.old.config (length octets.now)) (length bits.old) ≡ true
             → Decodes self.new given octets.now done result bits.new }
     {
-        if !has_room(bits_room(&self.config, octets.len()), bits.len()) {
+        if self.has_stopped || !has_room(bits_room(&self.config, octets.len()), bits.len()) {
             return None;
         }
-        let most = bits.len();
-        let mut taker = BufferBits::over(bits);
-        let fed = self.inner.feed(octets, &mut taker);
-        let BufferBits { count, .. } = taker;
-        match fed {
-            Ok(()) => Some(count.min(most)),
-            Err(_) => None,
+        Some(take(&mut self.inner, octets, bits, &mut NoWatch))
+    }
+
+    /// Does what `feed` does, and writes what is said of the windows that are decoded to the start of `windows`.
+    /// `written` says how many bits and windows were written; None comes where either array has not the room too.
+    pub fn feed_windows(
+        &mut self,
+        octets: &[u8],
+        bits: &mut [u8],
+        windows: &mut [Window],
+        written: &mut Written,
+    ) -> Option<usize>
+        ensures config { self.new.config ≡ self.old.config }
+        ensures within { IfSome result (λ count. count ≤ length bits.old) }
+        ensures refused { has_room (bits_room self.old.config (length octets.now)) (length bits.old) ≡ false
+            ⊎ (has_room (windows_room self.old.config (length octets.now)) (length windows.old) ≡ false)
+            → (result ≡ None) × (self.new ≡ self.old) × (bits.new ≡ bits.old) × (windows.new ≡ windows.old)
+            × (written.new ≡ bits_written 0 0) }
+        ensures decoded { (given : List ℕ) (done : List (Handed WindowBlock))
+            → length given + length octets.now < stream_bound → IsDecoding self.old given done
+            → has_room (bits_room self.old.config (length octets.now)) (length bits.old) ≡ true
+            → has_room (windows_room self.old.config (length octets.now)) (length windows.old) ≡ true
+            → Decodes self.new given octets.now done result bits.new
+            × DecodesWindows self.old.config given octets.now windows.old windows.new result written.new }
+    {
+        *written = bits_written(0, 0);
+        let most = windows_room(&self.config, octets.len());
+        if self.has_stopped
+            || !has_room(bits_room(&self.config, octets.len()), bits.len())
+            || !has_room(most, windows.len())
+        {
+            return None;
         }
+        let mut watch = BufferWindows::over(windows);
+        let count = take(&mut self.inner, octets, bits, &mut watch);
+        let BufferWindows { count: told, .. } = watch;
+        *written = bits_written(count, told);
+        Some(count)
     }
 
     /// Writes the bits that are left, as `feed` does. It is called once, at the end of the octets.
@@ -85,17 +131,46 @@ impl BufferDecoder {
             → has_room (bits_room self.old.config 0) (length bits.old) ≡ true
             → DecodesLast self.old self.new given done result bits.new }
     {
-        if !has_room(bits_room(&self.config, 0), bits.len()) {
+        if self.has_stopped || !has_room(bits_room(&self.config, 0), bits.len()) {
             return None;
         }
-        let most = bits.len();
-        let mut taker = BufferBits::over(bits);
-        let ended = self.inner.finish(&mut taker);
-        let BufferBits { count, .. } = taker;
-        match ended {
-            Ok(_) => Some(count.min(most)),
-            Err(_) => None,
+        self.has_stopped = true;
+        Some(end(&mut self.inner, bits, &mut NoWatch))
+    }
+
+    /// Does what `finish` does, and writes what is said of the windows that are left, as `feed_windows` does.
+    pub fn finish_windows(
+        &mut self,
+        bits: &mut [u8],
+        windows: &mut [Window],
+        written: &mut Written,
+    ) -> Option<usize>
+        ensures config { self.new.config ≡ self.old.config }
+        ensures within { IfSome result (λ count. count ≤ length bits.old) }
+        ensures refused { has_room (bits_room self.old.config 0) (length bits.old) ≡ false
+            ⊎ (has_room (windows_room self.old.config 0) (length windows.old) ≡ false)
+            → (result ≡ None) × (self.new ≡ self.old) × (bits.new ≡ bits.old) × (windows.new ≡ windows.old)
+            × (written.new ≡ bits_written 0 0) }
+        ensures decoded { (given : List ℕ) (done : List (Handed WindowBlock)) → IsDecoding self.old given done
+            → has_room (bits_room self.old.config 0) (length bits.old) ≡ true
+            → has_room (windows_room self.old.config 0) (length windows.old) ≡ true
+            → DecodesLast self.old self.new given done result bits.new
+            × DecodesLastWindows self.old.config given windows.old windows.new result written.new }
+    {
+        *written = bits_written(0, 0);
+        let most = windows_room(&self.config, 0);
+        if self.has_stopped
+            || !has_room(bits_room(&self.config, 0), bits.len())
+            || !has_room(most, windows.len())
+        {
+            return None;
         }
+        let mut watch = BufferWindows::over(windows);
+        self.has_stopped = true;
+        let count = end(&mut self.inner, bits, &mut watch);
+        let BufferWindows { count: told, .. } = watch;
+        *written = bits_written(count, told);
+        Some(count)
     }
 
     /// The symbol phase that was chosen: None before the choice, and where the phase is given.
@@ -105,6 +180,140 @@ impl BufferDecoder {
             → IsChosenSoFar self.now.config given result }
     {
         self.inner.chosen()
+    }
+}
+
+// Puts octets in, those that are below 2^60 with those before, and writes the bits that are due with them, as far as
+// there is room. Returns how many were written.
+fn take<W: WindowWatch>(
+    inner: &mut InnerDecoder,
+    octets: &[u8],
+    bits: &mut [u8],
+    watch: &mut W,
+) -> usize
+    requires drained { IsDrained inner.old.queue }
+    requires going { inner.old.has_ended ≡ false }
+    ensures kept { (inner.new.config ≡ inner.old.config) × (inner.new.has_ended ≡ false) }
+    ensures drained { IsDrained inner.new.queue }
+    ensures within { (result ≤ length bits.old) × (length bits.new ≡ length bits.old) }
+    ensures writes { WritesBits HasHanded inner.old inner.new octets.now 0 bits.old result bits.new }
+    ensures watched { Hands W.took AreTold inner.old inner.new watch.old watch.new octets.now }
+{
+    let within = inner.within(octets.len());
+    let mut done = 0;
+    let mut count = 0;
+    while done < within {
+        done += inner.fill(&octets[done..within]);
+        count = decode_due(inner, bits, count, watch);
+    }
+    count
+}
+
+// Decodes all windows that are closed, and writes their bits, from number `count` on. Returns how many stand there
+// with those before.
+fn decode_due<W: WindowWatch>(
+    inner: &mut InnerDecoder,
+    bits: &mut [u8],
+    count: usize,
+    watch: &mut W,
+) -> usize
+    requires { count ≤ length bits.old }
+    ensures same { IsSameDecoder inner.old inner.new }
+    ensures drained { IsDrained inner.new.queue × (unread inner.new ≡ None) }
+    ensures within { (result ≤ length bits.old) × (length bits.new ≡ length bits.old) }
+    ensures writes { WritesBits HasRead inner.old inner.new [] count bits.old result bits.new }
+    ensures watched { Hands W.took AreTold inner.old inner.new watch.old watch.new [] }
+    ensures chosen { (given : List ℕ) (done : List (Handed WindowBlock)) → HasRead inner.old given done
+        → IsKept inner.new given }
+{
+    let mut end = count;
+    'runs: loop {
+        let run = decode_run(inner, bits, end, watch);
+        end = run.1;
+        if run.0 == 0 {
+            return end;
+        }
+    }
+}
+
+// Decodes the next run of windows, and writes their bits. Returns how many windows, and how many bits stand there.
+// The phase is taken as read where it is chosen: `chosen` tells it.
+fn decode_run<W: WindowWatch>(
+    inner: &mut InnerDecoder,
+    bits: &mut [u8],
+    count: usize,
+    watch: &mut W,
+) -> (usize, usize)
+    requires { count ≤ length bits.old }
+    ensures same { IsSameDecoder inner.old inner.new }
+    ensures drained { (result.0 ≡ 0 → IsDrained inner.new.queue) × (unread inner.new ≡ None) }
+    ensures shorter { 0 < result.0 → length (held_in inner.new.queue) < length (held_in inner.old.queue) }
+    ensures within { (result.1 ≤ length bits.old) × (length bits.new ≡ length bits.old) }
+    ensures writes { WritesBits HasRead inner.old inner.new [] count bits.old result.1 bits.new }
+    ensures watched { Hands W.took AreTold inner.old inner.new watch.old watch.new [] }
+    ensures chosen { (given : List ℕ) (done : List (Handed WindowBlock)) → HasRead inner.old given done
+        → IsKept inner.new given }
+{
+    let windows = inner.decode(&Alone);
+    let _phase = inner.new_phase();
+    watch_ready(inner, watch);
+    (windows, copy_ready(inner, bits, count))
+}
+
+// Writes the bits that the ready blocks keep, from number `count` on, as far as there is room. Returns how many
+// stand there with those before.
+fn copy_ready(inner: &InnerDecoder, bits: &mut [u8], count: usize) -> usize
+    requires { count ≤ length bits.old }
+    ensures within { (result ≤ length bits.old) × (length bits.new ≡ length bits.old) }
+    ensures copied { HandedOver keeps_bits (bits_at count bits.old) (ready_in inner.now.queue)
+        (bits_at result bits.new) }
+{
+    let mut end = count;
+    for index in 0..inner.ready() {
+        end = put_bits(inner.kept_bits(index), bits, end);
+    }
+    end
+}
+
+// Says that no octets come any more, and writes the bits that are left. Returns how many.
+fn end<W: WindowWatch>(inner: &mut InnerDecoder, bits: &mut [u8], watch: &mut W) -> usize
+    ensures kept { (inner.new.config ≡ inner.old.config) × (inner.new.has_ended ≡ true) }
+    ensures within { (result ≤ length bits.old) × (length bits.new ≡ length bits.old) }
+    ensures writes { WritesLastBits inner.old inner.new bits.old result bits.new }
+    ensures watched { (last : List Window) × HandedOver W.took watch.old last watch.new
+        × ((given : List ℕ) (done : List Window) → AreTold inner.old given done
+        → AreWindows inner.old.config given (done ++ last)) }
+{
+    inner.settle();
+    let count = decode_due(inner, bits, 0, watch);
+    inner.last();
+    watch_ready(inner, watch);
+    copy_ready(inner, bits, count)
+}
+
+// Writes bits after the first `count` ones of a buffer, where there is room for all. Returns how many stand there
+// then.
+fn put_bits(kept: &[u8], bits: &mut [u8], count: usize) -> usize
+    requires { count ≤ length bits.old }
+    ensures within { (result ≤ length bits.old) × (length bits.new ≡ length bits.old) }
+    ensures put { count + length kept.now ≤ length bits.old → take result bits.new ≡ take count bits.old ++ kept.now }
+{
+    if kept.len() > bits.len() - count {
+        return count;
+    }
+    let end = count + kept.len();
+    bits[count..end].copy_from_slice(kept);
+    end
+}
+
+// What is reported of this many bits and windows.
+fn bits_written(bits: usize, windows: usize) -> Written
+    ensures { result ≡ bits_written bits windows }
+{
+    Written {
+        reports: 0,
+        octets: bits as u64,
+        windows: windows as u64,
     }
 }
 

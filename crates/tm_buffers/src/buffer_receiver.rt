@@ -1,6 +1,7 @@
 // Received octets in, frames and reports out into buffers.
-ghost use Rattle.std.specs.Prelude.{◌≡◌, ℕ, ◌+◌, ◌^◌, ◌<◌, ◌≤◌, List, [], length, IfOk, IfSome, None, Some, if◌then◌else◌};
+ghost use Rattle.std.specs.Prelude.{◌≡◌, ℕ, ◌+◌, ◌^◌, ◌<◌, ◌≤◌, List, [], length, IfOk, IfSome, Option, None, if◌then◌else◌};
 ghost use Rattle.tm_base.specs.Handed.{Handed};
+ghost use Rattle.tm_base.specs.Takers.{HandedOver};
 ghost use Rattle.tm_viterbi.specs.WindowSizes.{stream_bound};
 ghost use Rattle.tm_config.specs.Accepted.{IsAccepted};
 ghost use Rattle.tm_channel.specs.Items.{ItemValue};
@@ -8,19 +9,22 @@ ghost use Rattle.tm_channel.specs.Most.{most_bits, most_found};
 ghost use Rattle.tm_channel.specs.OctetReceiving.{AreSlipsSoFar};
 ghost use Rattle.tm_channel.specs.Receiving.{waiting_bits};
 ghost use Rattle.tm_inner.specs.InnerDecoding.{HasWorkers};
+ghost use Rattle.tm_inner.specs.InnerWindows.{AreFurtherWindows, AreLastWindows};
 ghost use Rattle.tm_inner.specs.Phase.{IsChosenSoFar};
-ghost use Rattle.tm_buffers.specs.Receiving.{IsReceiving, Receives, ReceivesLast, items_room};
+ghost use Rattle.tm_inner.specs.declared.window.Window.{Window};
+ghost use Rattle.tm_buffers.specs.Receiving.{IsReceiving, Receives, ReceivesLast, WritesWindows, items_room};
 ghost use Rattle.tm_buffers.specs.Buffer.{most_taken};
 
 use crate::items::{BufferItems, Report, Written};
 use crate::room::MOST;
+use crate::windows::BufferWindows;
 use std::alloc::Global;
 use std::marker::Model;
 use tm_base::NoMemory;
 use tm_channel::{Receiver, Totals, waiting_bits};
 use tm_codeblock::{codeblock_size, columns_of};
 use tm_config::Config;
-use tm_inner::held_bits;
+use tm_inner::{NoWatch, Window, WindowWatch, held_bits};
 use tm_windows::{Alone, Chosen};
 
 /// A receiver whose items go to buffers. It starts no thread.
@@ -30,11 +34,16 @@ pub struct BufferReceiver {
 }
 
 impl Model for BufferReceiver {
+    ghost use Rattle.std.specs.Prelude.{◌≡◌, false};
     ghost use Rattle.tm_channel.specs.OctetReceiving.{OctetReceiving};
+    ghost use Rattle.tm_inner.specs.InnerWindows.{AreDecoded};
 
     ghost Value = { OctetReceiving };
 
     ghost view = { λ r. r.receiver };
+
+    // So that the windows that were told are all that are due.
+    ghost invariant = { λ r. r.receiver.has_stopped ≡ false → AreDecoded r.receiver.stages.inner };
 }
 
 impl BufferReceiver {
@@ -51,9 +60,9 @@ impl BufferReceiver {
     }
 
     /// Takes the next octets, and writes the frames of the items that are due with them to the start of `frames`, one
-    /// after the other, and what else is said of each to `reports`. Answers how many items these are; or None where
+    /// after the other, and what else is said of each to `reports`. Returns how many items these are; or None where
     /// there was no room for all: those before the first one that did not fit are written then, and it and all after it
-    /// are lost. With the room that `items_room` answers there is room for all. What follows is as it was. `written`
+    /// are lost. With the room that `items_room` returns there is room for all. What follows is as it was. `written`
     /// says how much was written, in either case.
     ///
     /// The octets given in all are to be below 2^60.
@@ -72,9 +81,67 @@ impl BufferReceiver {
             → Receives self.old self.new given octets.now done result frames.old frames.new reports.old reports.new
             written.new }
     {
+        self.take(octets, frames, reports, &mut NoWatch, written)
+    }
+
+    /// Does what `feed` does, and writes what is said of the windows of the inner code that are decoded to the start of
+    /// `windows`. None comes too where there is no room for all of these: the first ones are written then, as many as
+    /// there is room for. With the room that `windows_room` returns there is room for all.
+    pub fn feed_windows(
+        &mut self,
+        octets: &[u8],
+        frames: &mut [u8],
+        reports: &mut [Report],
+        windows: &mut [Window],
+        written: &mut Written,
+    ) -> Option<usize>
+        ensures config { self.new.config ≡ self.old.config }
+        ensures within { IfSome result (λ count. count ≤ length reports.old) }
+        ensures received { (given : List ℕ) (done : List (Handed ItemValue))
+            → length given + length octets.now < stream_bound
+            → IsReceiving self.old given done
+            → (count : Option ℕ) × Receives self.old self.new given octets.now done count frames.old frames.new
+            reports.old reports.new (record written.new { windows = 0 })
+            × WritesWindows (AreFurtherWindows self.old.config given octets.now) self.old.config (length octets.now)
+            windows.old windows.new count result written.new }
+    {
+        let mut watch = BufferWindows::over(windows);
+        let count = self.take(octets, frames, reports, &mut watch, written);
+        let BufferWindows {
+            count: told,
+            is_short,
+            ..
+        } = watch;
+        written.windows = told as u64;
+        counted(count, is_short)
+    }
+
+    // Takes the next octets, and writes the items that are due with them.
+    fn take<W: WindowWatch>(
+        &mut self,
+        octets: &[u8],
+        frames: &mut [u8],
+        reports: &mut [Report],
+        watch: &mut W,
+        written: &mut Written,
+    ) -> Option<usize>
+        ensures config { self.new.config ≡ self.old.config }
+        ensures within { IfSome result (λ count. count ≤ length reports.old) }
+        ensures received { (given : List ℕ) (done : List (Handed ItemValue))
+            → length given + length octets.now < stream_bound
+            → IsReceiving self.old given done
+            → Receives self.old self.new given octets.now done result frames.old frames.new reports.old reports.new
+            written.new }
+        ensures watched { (given : List ℕ) (done : List (Handed ItemValue))
+            → length given + length octets.now < stream_bound
+            → IsReceiving self.old given done
+            → (windows : List Window) × HandedOver W.took watch.old windows watch.new
+            × AreFurtherWindows self.old.config given octets.now windows }
+        ensures accepted { IsAccepted self.old.config }
+    {
         let most = reports.len();
         let mut taker = BufferItems::over(frames, reports);
-        let fed = self.receiver.receive(&Alone, octets, &mut taker);
+        let fed = self.receiver.receive(&Alone, octets, watch, &mut taker);
         let BufferItems {
             count,
             octets: size,
@@ -87,7 +154,7 @@ impl BufferReceiver {
             windows: 0,
         };
         match fed {
-            Ok(()) => counted(count.min(most), is_short),
+            Ok(()) => counted(Some(count.min(most)), is_short),
             Err(_) => None,
         }
     }
@@ -107,9 +174,59 @@ impl BufferReceiver {
             → ReceivesLast self.old self.new given done result totals.new frames.old frames.new reports.old reports.new
             written.new }
     {
+        self.take_last(frames, reports, &mut NoWatch, totals, written)
+    }
+
+    /// Does what `finish` does, and writes what is said of the windows that are left, as `feed_windows` does.
+    pub fn finish_windows(
+        &mut self,
+        frames: &mut [u8],
+        reports: &mut [Report],
+        windows: &mut [Window],
+        totals: &mut Totals,
+        written: &mut Written,
+    ) -> Option<usize>
+        ensures config { self.new.config ≡ self.old.config }
+        ensures within { IfSome result (λ count. count ≤ length reports.old) }
+        ensures received { (given : List ℕ) (done : List (Handed ItemValue)) → IsReceiving self.old given done
+            → (count : Option ℕ) × ReceivesLast self.old self.new given done count totals.new frames.old frames.new
+            reports.old reports.new (record written.new { windows = 0 })
+            × WritesWindows (AreLastWindows self.old.config given) self.old.config 0 windows.old windows.new count
+            result written.new }
+    {
+        let mut watch = BufferWindows::over(windows);
+        let count = self.take_last(frames, reports, &mut watch, totals, written);
+        let BufferWindows {
+            count: told,
+            is_short,
+            ..
+        } = watch;
+        written.windows = told as u64;
+        counted(count, is_short)
+    }
+
+    // Writes the items that are left, and reports what all octets came to.
+    fn take_last<W: WindowWatch>(
+        &mut self,
+        frames: &mut [u8],
+        reports: &mut [Report],
+        watch: &mut W,
+        totals: &mut Totals,
+        written: &mut Written,
+    ) -> Option<usize>
+        ensures config { self.new.config ≡ self.old.config }
+        ensures within { IfSome result (λ count. count ≤ length reports.old) }
+        ensures received { (given : List ℕ) (done : List (Handed ItemValue)) → IsReceiving self.old given done
+            → ReceivesLast self.old self.new given done result totals.new frames.old frames.new reports.old reports.new
+            written.new }
+        ensures watched { (given : List ℕ) (done : List (Handed ItemValue)) → IsReceiving self.old given done
+            → (windows : List Window) × HandedOver W.took watch.old windows watch.new
+            × AreLastWindows self.old.config given windows }
+        ensures accepted { IsAccepted self.old.config }
+    {
         let most = reports.len();
         let mut taker = BufferItems::over(frames, reports);
-        let ended = self.receiver.end(&Alone, &mut taker);
+        let ended = self.receiver.end(&Alone, watch, &mut taker);
         let BufferItems {
             count,
             octets: size,
@@ -124,7 +241,7 @@ impl BufferReceiver {
         match ended {
             Ok(received) => {
                 *totals = received;
-                counted(count.min(most), is_short)
+                counted(Some(count.min(most)), is_short)
             }
             Err(_) => None,
         }
@@ -149,11 +266,11 @@ impl BufferReceiver {
     }
 }
 
-// How many items were written, where all were.
-fn counted(count: usize, is_short: bool) -> Option<usize>
-    ensures { result ≡ (if is_short then None else Some count) }
+// How many items were written, where nothing was dropped.
+fn counted(count: Option<usize>, is_short: bool) -> Option<usize>
+    ensures { result ≡ (if is_short then None else count) }
 {
-    if is_short { None } else { Some(count) }
+    if is_short { None } else { count }
 }
 
 /// For how many items buffers have to have room where at most `count` more octets are given, and at the end, whatever

@@ -12,6 +12,11 @@ use tm_channel::{Answer, Item, ItemTaker, are_fixed};
 pub struct Report {
     /// How many received bits stand before its marker.
     pub place: u64,
+    /// The number, from 0, of the first symbol of its marker among all octets that were given, or with no inner code and
+    /// packed bits among all bits, those counted that were skipped or dropped.
+    pub symbol: u64,
+    /// Where its frame begins among the frames that the call writes; where it has none, where the next begins.
+    pub frame: u64,
     /// The octets of its frame; 0 where it has none.
     pub frame_length: u64,
     /// How many of the marker's 32 bits are wrong, in the codeblock's polarity.
@@ -102,8 +107,8 @@ impl<'a, 'b> ItemTaker for BufferItems<'a, 'b> {
         }
         let end = self.octets + size;
         self.frames[self.octets..end].copy_from_slice(item.frame);
+        self.reports[self.count] = report_of(item, self.octets);
         self.octets = end;
-        self.reports[self.count] = report_of(item);
         self.count += 1;
         Ok(())
     }
@@ -113,12 +118,14 @@ impl<'a, 'b> ItemTaker for BufferItems<'a, 'b> {
     }
 }
 
-// What is said of an item.
-fn report_of(item: &Item<'_>) -> Report
-    ensures { IsReport item.now result }
+// What is said of an item, whose frame begins there.
+fn report_of(item: &Item<'_>, frame: usize) -> Report
+    ensures { IsReport frame item.now result }
 {
     Report {
         place: item.place,
+        symbol: item.symbol,
+        frame: frame as u64,
         frame_length: item.frame.len() as u64,
         distance: item.distance,
         bridged: u8::from(item.bridged),

@@ -3,7 +3,6 @@
 //! what takes memory is opened.
 #![tactic(auto)]
 
-mod buffer_bits;
 mod buffer_decoder;
 mod buffer_receiver;
 mod buffer_sender;
@@ -11,9 +10,12 @@ mod items;
 mod room;
 mod searching;
 mod sink;
+mod windows;
 
 pub use buffer_decoder::{BufferDecoder, bits_room};
 pub use buffer_receiver::{BufferReceiver, items_room};
 pub use buffer_sender::{BufferSender, symbols_room};
 pub use items::{Report, Written};
+pub use room::windows_room;
 pub use searching::{find_in_bits, find_in_octets};
+pub use tm_inner::Window;

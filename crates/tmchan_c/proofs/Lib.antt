@@ -4,3 +4,5 @@ pub mod AsBox
 pub mod BoxWalks
 pub mod Streams
 pub mod Searches
+pub mod Receivers
+pub mod Decoders

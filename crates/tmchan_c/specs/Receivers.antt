@@ -6,9 +6,11 @@ use Rattle.tm_channel.specs.declared.totals.Totals.{Totals}
 use Rattle.tm_channel.specs.Handing.{AreReceived, AreReceivedDue}
 use Rattle.tm_channel.specs.Items.{ItemValue}
 use Rattle.tm_channel.specs.OctetReceiving.{OctetReceiving}
+use Rattle.tm_inner.specs.InnerWindows.{AreFurtherWindows, AreLastWindows}
 use Rattle.tm_inner.specs.Phase.{IsChosen}
+use Rattle.tm_inner.specs.declared.window.Window.{Window}
 use Rattle.tm_buffers.specs.Items.{HasWritten}
-use Rattle.tm_buffers.specs.Receiving.{IsEnough, IsReceiving}
+use Rattle.tm_buffers.specs.Receiving.{IsEnough, IsReceiving, WritesWindows}
 use Rattle.tm_buffers.specs.declared.items.Report.{Report}
 use Rattle.tm_buffers.specs.declared.items.Written.{Written}
 use Rattle.tmchan_c.specs.Phases.{chosen_of}
@@ -66,3 +68,29 @@ pub record ReceivesLastInto (c : Configuration) (given : List ℕ)
   pub wrote : WroteItems answer (items_of last) frames frames_now reports reports_now said
   pub enough : IsEnough c 0 wrote.count frames reports
   pub chosen : IsChosen c given (chosen_of phase)
+
+-- that was done, and of the windows that are due with the octets those were written for which there
+-- is room: where these are not all the answer is that there was not the room
+pub record ReceivesWindowsInto (c : Configuration) (given octets : List ℕ)
+    (done : List (Handed ItemValue)) (now : Option Stream) (answer : ℤ)
+    (frames frames_now : List ℕ) (reports reports_now : List Report)
+    (windows windows_now : List Window) (said : Written) : Type 0 where
+  pub count : Option ℕ
+  pub items : ReceivesInto c given octets done now (number_answer None count) frames frames_now
+      reports reports_now (record said { windows = 0 })
+  pub result : Option ℕ
+  pub answers : answer ≡ number_answer None result
+  pub wrote : WritesWindows (AreFurtherWindows c given octets) c (length octets) windows windows_now
+      count result said
+
+-- and at the end of its octets, of the windows that are left
+pub record ReceivesLastWindowsInto (c : Configuration) (given : List ℕ)
+    (done : List (Handed ItemValue)) (answer : ℤ) (frames frames_now : List ℕ)
+    (reports reports_now : List Report) (windows windows_now : List Window) (said : Written)
+    (sums : TotalsState) (phase : PhaseState) : Type 0 where
+  pub count : Option ℕ
+  pub items : ReceivesLastInto c given done (number_answer None count) frames frames_now reports
+      reports_now (record said { windows = 0 }) sums phase
+  pub result : Option ℕ
+  pub answers : answer ≡ number_answer None result
+  pub wrote : WritesWindows (AreLastWindows c given) c 0 windows windows_now count result said

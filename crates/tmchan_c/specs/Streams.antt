@@ -1,5 +1,6 @@
 -- What a call does with the stream behind a handle.
 use Rattle.std.specs.Prelude.{◌≡◌, ℕ, ℤ, Bool, if◌then◌else◌, pos, negsuc, List, ◌++◌, length, take, Option, Some, None, IsSomeAnd}
+use Rattle.std.specs.Option.{is_some}
 use Rattle.tm_base.specs.Handed.{Handed, items_of}
 use Rattle.tm_base.specs.Pieces.{further}
 use Rattle.tm_config.specs.Configuration.{Configuration}
@@ -7,12 +8,13 @@ use Rattle.tm_channel.specs.Sending.{Sending}
 use Rattle.tm_channel.specs.Sent.{sent}
 use Rattle.tm_inner.specs.Handing.{AreHanded}
 use Rattle.tm_inner.specs.Phase.{IsChosen}
-use Rattle.tm_inner.specs.Receiving.{InnerReceiving}
+use Rattle.tm_inner.specs.InnerDecoding.{InnerDecoding}
 use Rattle.tm_viterbi.specs.Clean.{kept_bits}
 use Rattle.tm_viterbi.specs.WindowBlock.{WindowBlock}
 use Rattle.tm_buffers.specs.Buffer.{has_room}
 use Rattle.tm_buffers.specs.Decoding.{IsDecoding, bits_room}
 use Rattle.tm_buffers.specs.Sending.{IsSending, symbols_room}
+use Rattle.tm_buffers.specs.Windows.{windows_room}
 use Rattle.tm_buffers.specs.declared.items.Written.{Written}
 use Rattle.tmchan_c.specs.Refusal.{config_refusal, refused}
 use Rattle.tmchan_c.specs.declared.refusal.Refusal.{Refusal}
@@ -83,7 +85,7 @@ pub record Sends (c : Configuration) (given octets : List ℕ) (now : Option Str
 -- ---- decoders
 
 -- the decoder that a handle holds
-abbrev pub decoder_in : Option Stream → Option InnerReceiving
+abbrev pub decoder_in : Option Stream → Option InnerDecoding
 decoder_in (Some (Decoder decoder)) = Some decoder
 decoder_in (Some (Sender sender)) = None
 decoder_in (Some (Receiver receiver)) = None
@@ -98,6 +100,12 @@ IsDecoder held c given done =
 abbrev pub decoder_refusal : Option Stream → ℕ → ℕ → Option Refusal
 decoder_refusal held octets room =
     room_refusal (decoder_in held) (λ decoder. bits_room decoder.config octets) room
+
+-- and with room for this many windows
+abbrev pub windows_refusal : Option Stream → ℕ → (bits windows : ℕ) → Option Refusal
+windows_refusal held octets bits windows = if is_some (decoder_refusal held octets bits)
+    then decoder_refusal held octets bits
+    else room_refusal (decoder_in held) (λ decoder. windows_room decoder.config octets) windows
 
 -- a decoder that was given octets goes on to further ones, and the bits that are due with them were
 -- written

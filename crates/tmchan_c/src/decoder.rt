@@ -1,5 +1,5 @@
 // The soft decoder: soft octets in, bits out.
-ghost use Rattle.std.specs.Prelude.{◌≡◌, ◌+◌, ◌<◌, ℕ, List, [], None, length, pos, true};
+ghost use Rattle.std.specs.Prelude.{◌≡◌, ◌+◌, ◌<◌, ℕ, List, [], None, Some, length, pos, true};
 ghost use Rattle.std.specs.Option.{is_some};
 ghost use Rattle.tm_base.specs.Handed.{Handed};
 ghost use Rattle.tm_config.specs.Configuration.{Configuration};
@@ -7,11 +7,12 @@ ghost use Rattle.tm_inner.specs.Phase.{IsChosenSoFar};
 ghost use Rattle.tm_viterbi.specs.WindowBlock.{WindowBlock};
 ghost use Rattle.tm_viterbi.specs.WindowSizes.{stream_bound};
 ghost use Rattle.tm_buffers.specs.Buffer.{has_room};
-ghost use Rattle.tm_buffers.specs.Decoding.{bits_room};
+ghost use Rattle.tm_buffers.specs.Decoding.{DecodesLastWindows, DecodesWindows, bits_room};
+ghost use Rattle.tm_buffers.specs.Windows.{windows_room};
 ghost use Rattle.tmchan_c.specs.Options.{configuration};
 ghost use Rattle.tmchan_c.specs.Phases.{chosen_of};
 ghost use Rattle.tmchan_c.specs.Refusal.{Refuses, config_refusal, number_answer};
-ghost use Rattle.tmchan_c.specs.Streams.{DecodesInto, DecodesLastInto, IsDecoder, Opens, closed_refusal, decoder_in, decoder_refusal, open_refusal, written_by};
+ghost use Rattle.tmchan_c.specs.Streams.{DecodesInto, DecodesLastInto, IsDecoder, Opens, closed_refusal, decoder_in, decoder_refusal, none_written, open_refusal, windows_refusal, written_by};
 
 use crate::config::config_of;
 use crate::handle::{Handle, open, put, take, to_open};
@@ -20,7 +21,7 @@ use crate::refusal::{Refusal, number_answer};
 use crate::stream::Stream;
 use crate::written::{NOTHING, written_by};
 use std::alloc::Global;
-use tm_buffers::{BufferDecoder, Written, bits_room};
+use tm_buffers::{BufferDecoder, Window, Written, bits_room, windows_room};
 
 /// Returns for how many bits a push of `octets_length` soft octets needs room, and, where that is 0, the finish; or the
 /// reason of the refusal.
@@ -32,6 +33,19 @@ pub extern "C" fn tmchan_decoder_room(options: &[u64], octets_length: usize) -> 
     match config_of(options) {
         Err(refusal) => refusal.long_answer(),
         Ok(config) => number_answer(bits_room(&config, octets_length)),
+    }
+}
+
+/// Returns for how many windows a push of at most `octets_length` octets and the finish need room, of a decoder or a
+/// receiver, whatever was pushed before: none without an inner code; or the reason of the refusal.
+#[unsafe(no_mangle)]
+pub extern "C" fn tmchan_window_room(options: &[u64], octets_length: usize) -> i64
+    ensures { result ≡ number_answer (config_refusal options.now)
+        (windows_room (configuration options.now) octets_length) }
+{
+    match config_of(options) {
+        Err(refusal) => refusal.long_answer(),
+        Ok(config) => number_answer(windows_room(&config, octets_length)),
     }
 }
 
@@ -74,12 +88,51 @@ pub extern "C" fn tmchan_decoder_push(
     let Some(mut stream) = take(alloc, handle) else {
         return Refusal::Closed.long_answer();
     };
-    let answer = match &mut *stream {
-        Stream::Decoder(decoder) => number_answer(decoder.feed(octets, bits)),
-        _ => Refusal::Closed.long_answer(),
+    match &mut *stream {
+        Stream::Decoder(decoder) => {
+            let count = decoder.feed(octets, bits);
+            let answer = number_answer(count);
+            *written = written_by(answer);
+            put(handle, stream, answer)
+        }
+        _ => put(handle, stream, Refusal::Closed.long_answer()),
+    }
+}
+
+/// Does what `tmchan_decoder_push` does, and writes the figures of the windows that are decoded to the start of
+/// `windows`, which is refused where it has less room than `tmchan_window_room` says. `written` says how many windows
+/// these are.
+#[unsafe(no_mangle)]
+pub extern "C" fn tmchan_decoder_push_windows(
+    alloc: Global,
+    handle: &mut Handle,
+    octets: &[u8],
+    bits: &mut [u8],
+    windows: &mut [Window],
+    written: &mut Written,
+) -> i64
+    ensures refused { Refuses (windows_refusal handle.old.kept.value (length octets.now) (length bits.old)
+        (length windows.old)) result ((handle.new.kept.value ≡ handle.old.kept.value) × (bits.new ≡ bits.old)
+        × (windows.new ≡ windows.old) × (written.new ≡ none_written)) }
+    ensures pushed { (c : Configuration) (given : List ℕ) (done : List (Handed WindowBlock))
+        → IsDecoder handle.old.kept.value c given done → length given + length octets.now < stream_bound
+        → has_room (bits_room c (length octets.now)) (length bits.old) ≡ true
+        → has_room (windows_room c (length octets.now)) (length windows.old) ≡ true
+        → DecodesInto c given octets.now done handle.new.kept.value result bits.new
+        × ((count : ℕ) × (result ≡ pos count)
+        × DecodesWindows c given octets.now windows.old windows.new (Some count) written.new) }
+{
+    *written = NOTHING;
+    let Some(mut stream) = take(alloc, handle) else {
+        return Refusal::Closed.long_answer();
     };
-    *written = written_by(answer);
-    put(handle, stream, answer)
+    match &mut *stream {
+        Stream::Decoder(decoder) => {
+            let count = decoder.feed_windows(octets, bits, windows, written);
+            put(handle, stream, number_answer(count))
+        }
+        _ => put(handle, stream, Refusal::Closed.long_answer()),
+    }
 }
 
 /// Writes the bits that are left to the start of `bits`, gives the symbol phase, and closes the decoder. Returns how
@@ -109,6 +162,45 @@ pub extern "C" fn tmchan_decoder_finish(
             Some(count) => {
                 *phase = phase_state(decoder.chosen());
                 *written = written_by(count as i64);
+                drop(stream);
+                count as i64
+            }
+            None => put(handle, stream, Refusal::Room.long_answer()),
+        },
+        _ => put(handle, stream, Refusal::Closed.long_answer()),
+    }
+}
+
+/// Does what `tmchan_decoder_finish` does, and writes the figures of the windows that are left, as
+/// `tmchan_decoder_push_windows` does.
+#[unsafe(no_mangle)]
+pub extern "C" fn tmchan_decoder_finish_windows(
+    alloc: Global,
+    handle: &mut Handle,
+    bits: &mut [u8],
+    windows: &mut [Window],
+    phase: &mut PhaseState,
+    written: &mut Written,
+) -> i64
+    ensures refused { Refuses (windows_refusal handle.old.kept.value 0 (length bits.old) (length windows.old)) result
+        ((handle.new.kept.value ≡ handle.old.kept.value) × (bits.new ≡ bits.old) × (windows.new ≡ windows.old)
+        × (phase.new ≡ phase.old) × (written.new ≡ none_written)) }
+    ensures finished { (c : Configuration) (given : List ℕ) (done : List (Handed WindowBlock))
+        → IsDecoder handle.old.kept.value c given done
+        → has_room (bits_room c 0) (length bits.old) ≡ true
+        → has_room (windows_room c 0) (length windows.old) ≡ true
+        → DecodesLastInto c given done result bits.new phase.new × (handle.new.kept.value ≡ None)
+        × ((count : ℕ) × (result ≡ pos count)
+        × DecodesLastWindows c given windows.old windows.new (Some count) written.new) }
+{
+    *written = NOTHING;
+    let Some(mut stream) = take(alloc, handle) else {
+        return Refusal::Closed.long_answer();
+    };
+    match &mut *stream {
+        Stream::Decoder(decoder) => match decoder.finish_windows(bits, windows, written) {
+            Some(count) => {
+                *phase = phase_state(decoder.chosen());
                 drop(stream);
                 count as i64
             }

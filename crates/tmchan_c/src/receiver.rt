@@ -10,7 +10,7 @@ ghost use Rattle.tm_inner.specs.Phase.{IsChosenSoFar};
 ghost use Rattle.tm_buffers.specs.Receiving.{items_room};
 ghost use Rattle.tmchan_c.specs.Options.{configuration};
 ghost use Rattle.tmchan_c.specs.Phases.{chosen_of};
-ghost use Rattle.tmchan_c.specs.Receivers.{IsReceiver, ReceivesInto, ReceivesLastInto, receiver_in};
+ghost use Rattle.tmchan_c.specs.Receivers.{IsReceiver, ReceivesInto, ReceivesLastInto, ReceivesLastWindowsInto, ReceivesWindowsInto, receiver_in};
 ghost use Rattle.tmchan_c.specs.Refusal.{Refuses, config_refusal, number_answer};
 ghost use Rattle.tmchan_c.specs.Streams.{Opens, closed_refusal, none_written, open_refusal};
 
@@ -22,7 +22,7 @@ use crate::stream::Stream;
 use crate::totals::{TotalsState, totals_state};
 use crate::written::NOTHING;
 use std::alloc::Global;
-use tm_buffers::{BufferReceiver, Report, Written, items_room};
+use tm_buffers::{BufferReceiver, Report, Window, Written, items_room};
 use tm_channel::Totals;
 
 /// Returns for how many reports a push of at most `octets_length` octets and the finish need room, whatever was pushed
@@ -93,13 +93,47 @@ pub extern "C" fn tmchan_receiver_push(
     let Some(mut stream) = take(alloc, handle) else {
         return Refusal::Closed.long_answer();
     };
-    let answer = match &mut *stream {
-        Stream::Receiver(receiver) => number_answer(receiver.feed(
-            octets, frames, reports, written,
-        )),
-        _ => Refusal::Closed.long_answer(),
+    match &mut *stream {
+        Stream::Receiver(receiver) => {
+            let count = receiver.feed(octets, frames, reports, written);
+            put(handle, stream, number_answer(count))
+        }
+        _ => put(handle, stream, Refusal::Closed.long_answer()),
+    }
+}
+
+/// Does what `tmchan_receiver_push` does, and writes the figures of the windows of the inner code that are decoded to
+/// the start of `windows`. Where there is no room for all of them it returns that too, and those of the first ones are
+/// written, as many as `written` says.
+#[unsafe(no_mangle)]
+pub extern "C" fn tmchan_receiver_push_windows(
+    alloc: Global,
+    handle: &mut Handle,
+    octets: &[u8],
+    frames: &mut [u8],
+    reports: &mut [Report],
+    windows: &mut [Window],
+    written: &mut Written,
+) -> i64
+    ensures refused { Refuses (closed_refusal (receiver_in handle.old.kept.value)) result
+        ((handle.new.kept.value ≡ handle.old.kept.value) × (frames.new ≡ frames.old) × (reports.new ≡ reports.old)
+        × (windows.new ≡ windows.old) × (written.new ≡ none_written)) }
+    ensures pushed { (c : Configuration) (given : List ℕ) (done : List (Handed ItemValue))
+        → IsReceiver handle.old.kept.value c given done → length given + length octets.now < stream_bound
+        → ReceivesWindowsInto c given octets.now done handle.new.kept.value result frames.old frames.new reports.old
+        reports.new windows.old windows.new written.new }
+{
+    *written = NOTHING;
+    let Some(mut stream) = take(alloc, handle) else {
+        return Refusal::Closed.long_answer();
     };
-    put(handle, stream, answer)
+    match &mut *stream {
+        Stream::Receiver(receiver) => {
+            let count = receiver.feed_windows(octets, frames, reports, windows, written);
+            put(handle, stream, number_answer(count))
+        }
+        _ => put(handle, stream, Refusal::Closed.long_answer()),
+    }
 }
 
 /// Writes what is left, gives what all octets came to and the symbol phase, and closes the receiver. Returns what
@@ -133,6 +167,48 @@ pub extern "C" fn tmchan_receiver_finish(
                 slips: None,
             };
             let count = receiver.finish(frames, reports, &mut all, written);
+            *totals = totals_state(&all);
+            *phase = phase_state(receiver.chosen());
+            drop(stream);
+            number_answer(count)
+        }
+        _ => put(handle, stream, Refusal::Closed.long_answer()),
+    }
+}
+
+/// Does what `tmchan_receiver_finish` does, and writes the figures of the windows that are left, as
+/// `tmchan_receiver_push_windows` does.
+#[unsafe(no_mangle)]
+pub extern "C" fn tmchan_receiver_finish_windows(
+    alloc: Global,
+    handle: &mut Handle,
+    frames: &mut [u8],
+    reports: &mut [Report],
+    windows: &mut [Window],
+    totals: &mut TotalsState,
+    phase: &mut PhaseState,
+    written: &mut Written,
+) -> i64
+    ensures refused { Refuses (closed_refusal (receiver_in handle.old.kept.value)) result
+        ((handle.new.kept.value ≡ handle.old.kept.value) × (frames.new ≡ frames.old) × (reports.new ≡ reports.old)
+        × (windows.new ≡ windows.old) × (totals.new ≡ totals.old) × (phase.new ≡ phase.old)
+        × (written.new ≡ none_written)) }
+    ensures finished { (c : Configuration) (given : List ℕ) (done : List (Handed ItemValue))
+        → IsReceiver handle.old.kept.value c given done
+        → ReceivesLastWindowsInto c given done result frames.old frames.new reports.old reports.new windows.old
+        windows.new written.new totals.new phase.new × (handle.new.kept.value ≡ None) }
+{
+    *written = NOTHING;
+    let Some(mut stream) = take(alloc, handle) else {
+        return Refusal::Closed.long_answer();
+    };
+    match &mut *stream {
+        Stream::Receiver(receiver) => {
+            let mut all = Totals {
+                bits: 0,
+                slips: None,
+            };
+            let count = receiver.finish_windows(frames, reports, windows, &mut all, written);
             *totals = totals_state(&all);
             *phase = phase_state(receiver.chosen());
             drop(stream);

@@ -2,11 +2,16 @@
 // begins with 1, and the first octets of the pseudo-random sequence.
 use crate::codeblock::{tmchan_put_column, tmchan_randomize, tmchan_take_column};
 use crate::config::{tmchan_config_check, tmchan_config_defaults, tmchan_config_recording};
+use crate::decoder::{
+    tmchan_decoder_finish_windows, tmchan_decoder_open, tmchan_decoder_push_windows,
+    tmchan_window_room,
+};
 use crate::handle::{Handle, tmchan_close};
 use crate::kept::Kept;
 use crate::phase::PhaseState;
 use crate::receiver::{
-    tmchan_receiver_finish, tmchan_receiver_open, tmchan_receiver_push, tmchan_receiver_room,
+    tmchan_receiver_finish, tmchan_receiver_finish_windows, tmchan_receiver_open,
+    tmchan_receiver_push, tmchan_receiver_push_windows, tmchan_receiver_room,
     tmchan_receiver_slips,
 };
 use crate::reed_solomon::{tmchan_rs_decode, tmchan_rs_decode_erased, tmchan_rs_encode};
@@ -20,7 +25,7 @@ use crate::version::tmchan_version;
 use crate::written::NOTHING;
 use std::alloc::Global;
 use std::process::Abort;
-use tm_buffers::{Report, Written};
+use tm_buffers::{Report, Window, Written};
 
 static WORD: [u8; 33] = [
     0x01, 0x5B, 0x7F, 0x56, 0x10, 0x1E, 0x0D, 0xEB, 0x61, 0xA5, 0x08, 0x2A, 0x36, 0x56, 0xAB, 0x20,
@@ -99,9 +104,13 @@ const LENGTH: usize = 2;
 
 const INNER: usize = 3;
 
+const INVERT: usize = 4;
+
 const RANDOMIZE: usize = 5;
 
 const KEEP: usize = 15;
+
+const AHEAD: usize = 16;
 
 const BAD: usize = 23;
 
@@ -158,6 +167,135 @@ fn frames_are_sent_and_received_after_handles(rt: HostRuntime) {
     check_receiving(&rt, alloc, &mut handle, &options, &symbols[..7]);
     check_the_end(&rt, alloc, &mut handle);
 }
+
+// A symbol 0 was received as a surest 1, before zeros: of two windows that are closed the first has it.
+#[test]
+fn windows_are_counted(rt: HostRuntime) {
+    let alloc = rt.alloc();
+    let mut options = [0; 24];
+    fill_in(&rt, &mut options);
+    options[INNER] = 12;
+    options[INVERT] = 0;
+    options[KEEP] = 64;
+    options[AHEAD] = 0;
+    let mut octets = [0; 300];
+    octets[0] = 255;
+    assert!(rt; tmchan_window_room(&options, 300) == 8);
+    let mut handle = Handle {
+        is_open: 0,
+        kept: Kept::none(alloc),
+    };
+    assert!(rt; tmchan_decoder_open(alloc, &mut handle, &options) == 0);
+    check_decoder(&rt, alloc, &mut handle, &octets);
+    assert!(rt; tmchan_receiver_open(alloc, &mut handle, &options) == 0);
+    check_receiver(&rt, alloc, &mut handle, &octets);
+}
+
+fn check_decoder(rt: &impl Abort, alloc: Global, handle: &mut Handle, octets: &[u8]) {
+    let mut bits = [0; 499];
+    let mut windows = [NO_WINDOW; 8];
+    let mut written = NOTHING;
+    let answer = tmchan_decoder_push_windows(
+        alloc,
+        handle,
+        octets,
+        &mut bits,
+        &mut windows[1..],
+        &mut written,
+    );
+    assert!(rt; answer == -2 && written == NOTHING);
+    let answer = tmchan_decoder_push_windows(
+        alloc,
+        handle,
+        octets,
+        &mut bits,
+        &mut windows,
+        &mut written,
+    );
+    assert!(rt; answer == 128 && written.octets == 128 && written.windows == 2);
+    check_first(rt, &windows);
+    let mut phase = PhaseState {
+        is_chosen: 1,
+        skip: 1,
+        cost: 1,
+    };
+    let answer = tmchan_decoder_finish_windows(
+        alloc,
+        handle,
+        &mut bits,
+        &mut windows,
+        &mut phase,
+        &mut written,
+    );
+    assert!(rt; answer == 22 && written.octets == 22 && written.windows == 1);
+    assert!(rt; windows[0].symbol == 256 && windows[0].kept == 22 && windows[0].octets == 44);
+    assert!(rt; phase.is_chosen == 0);
+}
+
+fn check_first(rt: &impl Abort, windows: &[Window; 8]) {
+    let first = Window {
+        symbol: 0,
+        dropped: 0,
+        steps: 64,
+        kept: 64,
+        metric: 255,
+        octets: 128,
+        wrong: 1,
+        distance: 255,
+        squares: 65025,
+    };
+    assert!(rt; windows[0] == first);
+    assert!(rt; windows[1].symbol == 128 && windows[1].octets == 128 && windows[1].squares == 0);
+}
+
+// With room for one window the second is lost.
+fn check_receiver(rt: &impl Abort, alloc: Global, handle: &mut Handle, octets: &[u8]) {
+    let mut frames = [0; 6];
+    let mut reports = [NONE; 2];
+    let mut windows = [NO_WINDOW; 6];
+    let mut written = NOTHING;
+    let answer = tmchan_receiver_push_windows(
+        alloc,
+        handle,
+        octets,
+        &mut frames,
+        &mut reports,
+        &mut windows[..1],
+        &mut written,
+    );
+    assert!(rt; answer == -2 && written.reports == 0 && written.windows == 1);
+    let mut totals = TotalsState { bits: 1, slips: 1 };
+    let mut phase = PhaseState {
+        is_chosen: 1,
+        skip: 1,
+        cost: 1,
+    };
+    let answer = tmchan_receiver_finish_windows(
+        alloc,
+        handle,
+        &mut frames,
+        &mut reports,
+        &mut windows[1..],
+        &mut totals,
+        &mut phase,
+        &mut written,
+    );
+    assert!(rt; answer == 0 && written.windows == 1 && totals.bits == 150);
+    assert!(rt; windows[0].wrong == 1 && windows[1].symbol == 256 && windows[1].wrong == 0);
+}
+
+// No window.
+const NO_WINDOW: Window = Window {
+    symbol: 0,
+    dropped: 0,
+    steps: 0,
+    kept: 0,
+    metric: 0,
+    octets: 0,
+    wrong: 0,
+    distance: 0,
+    squares: 0,
+};
 
 // Frames of three octets, as they are.
 fn fill_in(rt: &impl Abort, options: &mut [u64; 24]) {
@@ -239,6 +377,8 @@ fn octets(count: u64) -> Written {
 // No report.
 const NONE: Report = Report {
     place: 0,
+    symbol: 0,
+    frame: 0,
     frame_length: 0,
     distance: 0,
     bridged: 0,

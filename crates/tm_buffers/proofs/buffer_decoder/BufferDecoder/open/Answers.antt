@@ -1,5 +1,4 @@
-use Rattle.std.proofs.Common.{arith, []}
-use Rattle.std.proofs.Common.{subst, sym}
+use Rattle.std.proofs.Common.{arith, [], subst, sym}
 use Rattle.tm_config.specs.Configuration.{Configuration}
 use Rattle.tm_inner.specs.Handing.{AreHandedDue}
 use Rattle.tm_inner.proofs.HandedBits.{handed-due-none}
@@ -10,7 +9,7 @@ returns-clause-fresh c =
     let opened = c.in_ok-inner.ensures in
     let accepted = c.keep-keep.ensures.accepted in
     record {
-      going = opened.fresh;
+      going = opened.going;
       stands = opened.stands;
       due =
           subst (λ (k : Configuration). AreHandedDue k [] []) (sym opened.config)

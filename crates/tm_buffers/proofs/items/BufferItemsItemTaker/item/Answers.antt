@@ -1,6 +1,7 @@
-use Rattle.std.proofs.Common.{rules, arith, ◌≡◌, ◌∙◌, ◌++◌, ◌+◌, ◌<◌, ◌≤◌, length, take, drop, refl, ap, length-drop}
-use Rattle.std.proofs.lemmas.List.{take_more_set}
+use Rattle.std.proofs.Common.{rules, arith, ◌≡◌, ◌∙◌, ◌++◌, ◌+◌, ◌<◌, ◌≤◌, ℕ, sym, subst, length, take, drop, refl, ap, length-drop}
+use Rattle.std.proofs.lemmas.List.{length-take-le, take_more_set}
 use Rattle.tm_channel.specs.Items.{ItemValue}
+use Rattle.tm_buffers.specs.Reports.{IsReport}
 use Rattle.tm_buffers.proofs.Behind.{behind-set, behind-written, start-written}
 use Rattle.tm_buffers.proofs.items.BufferItemsItemTaker.item.Goals as goal
 
@@ -25,7 +26,12 @@ returns-clause-ok c =
             omega (arith, some, length-drop b.count b.reports.now),
             omega (arith, room, length-drop b.octets b.frames.now, ap length same),
           ),
-          (report, search rules, take_more_set b.reports.now b.count report some),
+          (
+            report,
+            subst (λ (n : ℕ). IsReport n c.args.item.now report)
+                (sym (length-take-le b.octets b.frames.now (omega (arith, b.octets_within)))) c.report_of.ensures,
+            take_more_set b.reports.now b.count report some,
+          ),
           behind-set b.count b.reports.now report,
           start-written b.octets b.frames.now frame new is room ∙ ap (λ l. take b.octets b.frames.now ++ l) same,
           behind-written b.octets b.frames.now frame new is room

@@ -1,16 +1,19 @@
-use Rattle.std.proofs.Common.{rules, ◌≡◌, ◌++◌, length, false, sym, subst}
+use Rattle.std.proofs.Common.{rules, ◌≡◌, ◌∙◌, ◌++◌, length, false, sym, subst, arith}
 use Rattle.tm_base.specs.Handed.{items_of}
 use Rattle.tm_channel.specs.OctetReceiving.{OctetReceiving, ReceiverStandsFor}
 use Rattle.tm_channel.specs.Handing.{AreReceivedDue}
 use Rattle.tm_channel.specs.Most.{AreFew}
+use Rattle.tm_config.specs.Configuration.{Configuration}
+use Rattle.tm_inner.specs.InnerWindows.{AreFurtherWindows}
 use Rattle.tm_buffers.specs.Items.{Collected, collected}
 use Rattle.tm_buffers.specs.declared.items.BufferItems.{BufferItems}
+use Rattle.tm_inner.proofs.DecodedWindows.{told-further}
 use Rattle.tm_buffers.proofs.ItemsWithPhase.{All, enough, handled, has-written}
-use Rattle.tm_buffers.proofs.buffer_receiver.BufferReceiver.feed.Goals as goal
-use Rattle.tm_buffers.proofs.buffer_receiver.BufferReceiver.feed.Goals.{in-Ok, in-Err}
+use Rattle.tm_buffers.proofs.buffer_receiver.BufferReceiver.take.Goals as goal
+use Rattle.tm_buffers.proofs.buffer_receiver.BufferReceiver.take.Goals.{in-Ok, in-Err}
 
 pub returns-clause-received : goal.returns-clause-received
-returns-clause-received c = λ given done few is.
+returns-clause-received g c = λ given done few is.
     let was = c.self.inside.receiver in
     let stood = subst (λ (r : OctetReceiving). ReceiverStandsFor r given done) (sym c.self.view_is) is.stands in
     let going : was.has_stopped ≡ false = subst (λ (r : OctetReceiving). r.has_stopped ≡ false)
@@ -43,5 +46,33 @@ returns-clause-received c = λ given done few is.
                 taker.reports.now
                 (record { reports = taker.count; octets = taker.octets; windows = 0 }) few_items (search rules);
           }
+      | in-Err w ↦ absurd (search rules)
+    ]
+
+pub returns-clause-watched : goal.returns-clause-watched
+returns-clause-watched g c = λ given done few is.
+    let was = c.self.inside.receiver in
+    let r = c.receive-fed in
+    let now = r.new.self in
+    let octets = c.args.octets.now in
+    let took = g.W.WindowWatch.took in
+    let stood = subst (λ (r : OctetReceiving). ReceiverStandsFor r given done) (sym c.self.view_is) is.stands in
+    let going : was.has_stopped ≡ false = subst (λ (r : OctetReceiving). r.has_stopped ≡ false)
+    (sym c.self.view_is) is.going in
+    let d = was.stages.inner in
+    elim c.match-fed.branch [
+      | in-Ok w ↦
+          let h = w.in-Ok.ensures.watched stood.going in
+          let there = (w.in-Ok.ensures.feeds.handed.2 given done few stood).0 in
+          let config = subst (λ (r : OctetReceiving). d.config ≡ r.config) c.self.view_is r.ensures.of.0 in (
+            h.more,
+            h.handed,
+            subst (λ (k : Configuration). AreFurtherWindows k given octets h.more) config
+                (told-further took d now.stages.inner c.args.watch.now r.new.watch given octets stood.inner.blocks h
+                (r.ensures.of.1 ∙ sym r.ensures.of.0) few stood.inner.stands
+                (λ blocks is. c.self.invariant going stood.going given blocks is stood.so_far)
+                (λ blocks is. w.in-Ok.ensures.all (omega arith) there.going (given ++ octets) blocks is
+                there.so_far)),
+          )
       | in-Err w ↦ absurd (search rules)
     ]

@@ -5,14 +5,17 @@ use Rattle.tm_channel.specs.declared.totals.Totals.{Totals}
 use Rattle.tm_channel.specs.Handing.{AreReceived}
 use Rattle.tm_inner.specs.Phase.{IsChosen}
 use Rattle.tm_channel.specs.Most.{AreFew}
+use Rattle.tm_config.specs.Configuration.{Configuration}
+use Rattle.tm_inner.specs.InnerWindows.{AreLastWindows, AreWindows}
 use Rattle.tm_buffers.specs.Items.{Collected, collected}
 use Rattle.tm_buffers.specs.declared.items.BufferItems.{BufferItems}
+use Rattle.tm_inner.proofs.DecodedWindows.{told-rest}
 use Rattle.tm_buffers.proofs.ItemsWithPhase.{All, enough, handled, has-written}
-use Rattle.tm_buffers.proofs.buffer_receiver.BufferReceiver.finish.Goals as goal
-use Rattle.tm_buffers.proofs.buffer_receiver.BufferReceiver.finish.Goals.{in-Ok, in-Err}
+use Rattle.tm_buffers.proofs.buffer_receiver.BufferReceiver.take_last.Goals as goal
+use Rattle.tm_buffers.proofs.buffer_receiver.BufferReceiver.take_last.Goals.{in-Ok, in-Err}
 
 pub returns-clause-received : goal.returns-clause-received
-returns-clause-received c = λ given done is.
+returns-clause-received g c = λ given done is.
     let was = c.self.inside.receiver in
     let stood = subst (λ (r : OctetReceiving). ReceiverStandsFor r given done) (sym c.self.view_is) is.stands in
     let going : was.has_stopped ≡ false = subst (λ (r : OctetReceiving). r.has_stopped ≡ false)
@@ -47,5 +50,28 @@ returns-clause-received c = λ given done is.
                 (search rules);
             chosen = chosen;
           }
+      | in-Err w ↦ absurd (search rules)
+    ]
+
+pub returns-clause-watched : goal.returns-clause-watched
+returns-clause-watched g c = λ given done is.
+    let was = c.self.inside.receiver in
+    let r = c.end-ended in
+    let stood = subst (λ (r : OctetReceiving). ReceiverStandsFor r given done) (sym c.self.view_is) is.stands in
+    let going : was.has_stopped ≡ false = subst (λ (r : OctetReceiving). r.has_stopped ≡ false)
+    (sym c.self.view_is) is.going in
+    let d = was.stages.inner in
+    elim c.match-ended.branch [
+      | in-Ok w ↦
+          let h = w.in-Ok.ensures.watched in
+          let config = subst (λ (r : OctetReceiving). d.config ≡ r.config) c.self.view_is r.ensures.of.0 in (
+            h.0,
+            h.1,
+            subst (λ (k : Configuration). AreLastWindows k given h.0) config
+                (told-rest d given stood.inner.blocks h.0 stood.inner.stands
+                (λ blocks is. c.self.invariant going stood.going given blocks is stood.so_far)
+                (λ before told. subst (λ (k : Configuration). AreWindows k given (before ++ h.0)) (sym r.ensures.of.0)
+                (h.2 given before told))),
+          )
       | in-Err w ↦ absurd (search rules)
     ]

@@ -1,0 +1,50 @@
+// Windows of the soft decoder, in an array.
+ghost use Rattle.std.specs.Prelude.{◌≤◌, length};
+
+use tm_inner::{InnerDecoder, Window, WindowWatch};
+
+/// Writes windows to an array, from its start on. It never fails: from the first window on for which there is no room,
+/// all are dropped.
+#[derive(Drop)]
+pub struct BufferWindows<'a> {
+    pub windows: &'a mut [Window],
+    /// How many were written.
+    pub count: usize,
+    /// A window was dropped.
+    pub is_short: bool,
+    ghost within: { count ≤ length windows.now },
+}
+
+impl<'a> BufferWindows<'a> {
+    ghost use Rattle.std.specs.Prelude.{◌≡◌};
+    ghost use Rattle.tm_buffers.specs.Windows.{gathered, nothing_gathered};
+
+    /// No windows yet.
+    pub fn over(windows: &'a mut [Window]) -> BufferWindows<'a>
+        ensures loan { result.windows.ghost_name ≡ windows.entry.ghost_name }
+        ensures none { gathered result ≡ nothing_gathered windows.old }
+    {
+        BufferWindows {
+            windows,
+            count: 0,
+            is_short: false,
+        }
+    }
+}
+
+impl<'a> WindowWatch for BufferWindows<'a> {
+    ghost use Rattle.std.specs.Prelude.{◌≡◌};
+    ghost use Rattle.tm_buffers.specs.Windows.{Gathers, gathered};
+
+    ghost took = { λ a window b. (b.windows.ghost_name ≡ a.windows.ghost_name)
+        × Gathers (gathered a) window (gathered b) };
+
+    fn window(&mut self, inner: &InnerDecoder, index: usize) {
+        if self.count == self.windows.len() {
+            self.is_short = true;
+            return;
+        }
+        self.windows[self.count] = inner.window(index);
+        self.count += 1;
+    }
+}
