@@ -11,7 +11,10 @@ A row is a word, the numbers of a configuration in the order of tmchan_config, a
     bits NUMBERS OCTETS BITS NOTES         the decoder's bits, eight to an octet, or "*"; the line of the phase, and one of their number
     check NUMBERS ANSWER                   a configuration that is refused
     recording NUMBERS NUMBERS              a configuration, and what tmchan_config_recording makes of it: README's line for its rate
+    windows NUMBERS OCTETS LINES PLACES    of each window of the soft decoder the numbers of tmchan_window, and of each
+                                           codeblock its place and the number of its marker's first symbol, a line each
 """
+import random
 import re
 import runpy
 import sys
@@ -33,6 +36,10 @@ values = {}
 
 sys.path.insert(0, str(TOP / "docs/reference"))
 reference = runpy.run_path(str(TOP / "docs/reference/__main__.py"))
+import inner  # noqa: E402  (of docs/reference, as the three below)
+from options import read_words  # noqa: E402
+from outer import bits_of, cadu  # noqa: E402
+from receiver import places  # noqa: E402
 
 
 def symbols(digits, high, low):
@@ -143,11 +150,60 @@ def recordings():
         yield "recording", *(str(numbers[name]) for numbers in (given, wanted) for name in NAMES)
 
 
+def windows_row(words, given):
+    """The windows of soft octets, and the symbols of the codeblocks in their bits, by docs/reference."""
+    _, made = read_words(["decode", *words])
+    received = inner.received(given, True, made)
+    windows = [" ".join(map(str, inner.window_record(window, received.phase[0], made))) + "\n" for window in received.windows]
+    found = [f"{place} {inner.symbol_at(place, received, made)}\n" for place, *_ in places(received.bits, made)]
+    yield "windows", " ".join(str(config(words)[name]) for name in NAMES), hexadecimal(given), *(hexadecimal("".join(it).encode()) for it in (windows, found))
+
+
+def drawn(words, rng, frames, noise=0, tail=12):
+    """The symbols of drawn frames and of some bits after them, with noise."""
+    _, made = read_words(["encode", *words])
+    sent = bits_of(b"".join(cadu(rng.randbytes(4), made) for _ in range(frames))) + [rng.randrange(2) for _ in range(tail)]
+    return bytearray(min(255, max(0, round(octet + rng.gauss(0, noise)))) for octet in inner.symbols(sent, made))
+
+
+def counted():
+    """Windows at each rate, after skipped octets, of a phase that is found, or followed with an octet lost or doubled before a window in the
+    middle or the last one, of signed octets, of a stream that ends with a window, of no step, of windows of 65,536 steps, and none where there is no inner code."""
+    rng = random.Random(41)
+    small = "--code none --length 4 --keep 64 --ahead 8".split()
+    followed = [*small, "--phase", "follow", "--start", "any"]
+    yield from windows_row(small, b"")
+    yield from windows_row(small, drawn(small, rng, 3, tail=32))
+    for skip in ("1", "15"):
+        yield from windows_row([*small, "--skip", skip], rng.randbytes(int(skip)) + drawn(small, rng, 3))
+    for rate in ("1/2", "2/3", "3/4", "5/6", "7/8"):
+        words = [*small, "--inner", rate]
+        yield from windows_row(words, drawn(words, rng, 3, 70))
+        yield from windows_row([*words, "--phase", "find", "--start", "any"], rng.randbytes(3) + drawn(words, rng, 6, 15))
+    for at in (1, 150, 400):
+        for times in (0, 2):
+            given = drawn(followed, rng, 6, 30)
+            given[at:at + 1] = times * given[at:at + 1]
+            yield from windows_row([*followed, "--skip", "5"], bytes(5) + given)
+    given = drawn(followed, rng, 6, 30)
+    del given[-130]
+    yield from windows_row([*followed, "--soft", "i8"], bytes(octet ^ 128 for octet in given))
+    given = drawn(followed, rng, 6, 30, tail=6)
+    del given[641]                                   # so that octets are dropped before the last window, which is not closed
+    yield from windows_row(followed, given)
+    plain = "--code none --length 4 --inner none".split()
+    unit = b"\x1a\xcf\xfc\x1d" + rng.randbytes(4)
+    yield from windows_row([*plain, "--skip", "5"], b"\xa8" + 2 * unit)
+    yield from windows_row([*plain, "--pack", "off", "--skip", "3"], bytes([9, 200, 30]) + bytes(255 * bit for bit in bits_of(unit)))
+    long = "--code none --length 4 --keep 65536 --ahead 8".split()
+    yield from windows_row(long, drawn(long, rng, 1, 60, tail=65653))
+
+
 def hexadecimal(octets):
     return "*" if octets is None else octets.hex() or "-"
 
 
-found = [row for fields in rows() for row in rows_of(fields)] + [*inside(), *recordings()]
+found = [row for fields in rows() for row in rows_of(fields)] + [*inside(), *recordings(), *counted()]
 for row in found:
     print(*row)
-sys.exit({row[0] for row in found} != {"send", "receive", "bits", "check", "recording"})
+sys.exit({row[0] for row in found} != {"send", "receive", "bits", "check", "recording", "windows"})

@@ -107,13 +107,14 @@ def dropped_octets(octets, first, c):
 def windows(octets, ended, c):
     """The windows, without the last one where the octets go on; and how many are left over."""
     found, first, starts, whole = [], 0, range(64) if c.start_any else (0,), c.keep + c.ahead
+    size = len(octets)
     while True:
         k = dropped_octets(octets, first, c) if c.follow and found else 0
         octets, starts = octets[k:], range(64) if k else starts
         steps, leftover = cut_steps(octets, c, first, whole + 1)
         if len(steps) <= (0 if ended else whole):
             return found, leftover
-        w = SimpleNamespace(soft=steps[:whole], dropped=k)
+        w = SimpleNamespace(soft=steps[:whole], dropped=k, at=size - len(octets), first=first)
         w.kept = c.keep if len(steps) > whole else len(w.soft)
         w.columns = path_metrics(w.soft, first, starts, c)
         w.passed = traceback(w.columns, w.soft, first, c)
@@ -121,6 +122,26 @@ def windows(octets, ended, c):
         first, starts = first + w.kept, (w.passed[w.kept],)
         octets = octets[sum(map(len, w.soft[:w.kept])):]
         found.append(w)
+
+def window_record(w, phase, c):
+    """What libtmchan tells of a window: where its first step's symbol stands among all octets, the
+    octets dropped before it, its steps, those kept, the metric; and of the kept steps' octets how
+    many, how many are nearer to the symbol that the path does not have, the sum of their distances
+    from the path's symbols, and that of the squares."""
+    distances = []
+    for t, soft in enumerate(w.soft[:w.kept]):
+        (first, second), both = sent(w.first + t, c), sums(w.passed[t], w.bits[t]) ^ c.invert
+        path = [both >> 1] * first + [both & 1] * second
+        distances += [255 - octet if symbol else octet for symbol, octet in zip(path, soft)]
+    return (c.skip + phase + w.at, w.dropped, len(w.soft), w.kept, w.metric, len(distances),
+            sum(d > 127 for d in distances), sum(distances), sum(d * d for d in distances))
+
+def symbol_at(n, r, c):
+    """Where the symbol of received bit n stands: the first of its step, those skipped counted."""
+    if c.inner == "none":
+        return c.skip + n
+    w = [w for w in r.windows if w.first <= n][-1]
+    return c.skip + r.phase[0] + w.at + sum(map(len, w.soft[:n - w.first]))
 
 def received(data, ended, c):
     """The windows, bits and lines of an input, or where it goes on those that are due."""

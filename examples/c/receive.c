@@ -1,6 +1,7 @@
 /* Reads received soft octets from standard input, and writes the frames of the codeblocks that are found in them to standard output, and a line
  * for each codeblock to standard error. Its arguments are options as NAME=VALUE, with the names and words of the command line, in any order, and
- * `recording`, which sets those for a recording; what follows it comes on top:
+ * `recording`, which sets those for a recording; what follows it comes on top. With -v there is a line for each window of the soft decoder too, of
+ * how many of its symbols were received nearer to the other one:
  *
  *     cc -o receive examples/c/receive.c $(pkg-config --cflags --libs tmchan)
  *     ./receive inner=1/2 recording depth=5 <symbols >frames
@@ -83,8 +84,14 @@ static int fail(int64_t answer, int status) {
 }
 
 /* Writes the frames and the lines; what fails is seen at the end. Answers how many codeblocks are bad. */
-static int show(const tmchan_written *written, const uint8_t *frames, const tmchan_report *reports) {
+static int show(const tmchan_written *written, const uint8_t *frames, const tmchan_report *reports, const tmchan_window *windows) {
     int bad = 0;
+    for (uint64_t i = 0; i < written->windows; i++) {
+        fprintf(stderr, "symbol %" PRIu64 " wrong %" PRIu64 " of %" PRIu64 " (%.4f)", windows[i].symbol, windows[i].wrong, windows[i].octets,
+                (double)windows[i].wrong / (double)windows[i].octets);
+        if (windows[i].dropped) fprintf(stderr, " dropped %" PRIu64, windows[i].dropped);
+        fputc('\n', stderr);
+    }
     for (uint64_t i = 0; i < written->reports; bad += reports[i++].bad) {
         fprintf(stderr, "place %" PRIu64 " distance %u%s%s", reports[i].place, reports[i].distance, reports[i].bridged ? " bridged" : "",
                 reports[i].inverted ? " inverted" : "");
@@ -98,30 +105,34 @@ static int show(const tmchan_written *written, const uint8_t *frames, const tmch
 /* Status 0: all codeblocks are good; 1: one is bad; 2: an option is refused; 3: reading failed; 4: writing failed; 5: not enough memory. */
 int main(int argc, char **argv) {
     tmchan_config config;
+    int says_windows = argc > 1 && !strcmp(argv[1], "-v");
     tmchan_config_defaults(&config);
-    for (int i = 1; i < argc; i++)
+    for (int i = 1 + says_windows; i < argc; i++)
         if (!set_option(&config, argv[i])) return fprintf(stderr, "no such option, or no such value: %s\n", argv[i]), REFUSED;
     tmchan_stream receiver = {0};
     int32_t opened = tmchan_receiver_open(&receiver, &config);
     if (opened) return fail(opened, opened == TMCHAN_MEMORY ? NO_MEMORY : REFUSED);
     uint64_t octets; /* of frames */
-    int64_t room = tmchan_receiver_room(&config, PIECE, &octets);
+    int64_t room = tmchan_receiver_room(&config, PIECE, &octets), most = tmchan_window_room(&config, PIECE);
     tmchan_report *reports = calloc(room, sizeof *reports);
+    tmchan_window *windows = calloc(most + 1, sizeof *windows);
     uint8_t *frames = malloc(octets), *piece = malloc(PIECE);
-    if (!reports || !frames || !piece) return fail(TMCHAN_MEMORY, NO_MEMORY);
+    if (!reports || !windows || !frames || !piece) return fail(TMCHAN_MEMORY, NO_MEMORY);
     tmchan_written written;
     int bad = 0;
     for (size_t count; !ferror(stdout) && (count = fread(piece, 1, PIECE, stdin)) > 0;) {
-        tmchan_receiver_push(&receiver, piece, count, frames, octets, reports, room, &written);
-        bad += show(&written, frames, reports);
+        if (says_windows) tmchan_receiver_push_windows(&receiver, piece, count, frames, octets, reports, room, windows, most, &written);
+        else tmchan_receiver_push(&receiver, piece, count, frames, octets, reports, room, &written);
+        bad += show(&written, frames, reports, windows);
     }
     tmchan_totals totals;
     tmchan_phase phase;
-    tmchan_receiver_finish(&receiver, frames, octets, reports, room, &totals, &phase, &written);
-    bad += show(&written, frames, reports);
+    if (says_windows) tmchan_receiver_finish_windows(&receiver, frames, octets, reports, room, windows, most, &totals, &phase, &written);
+    else tmchan_receiver_finish(&receiver, frames, octets, reports, room, &totals, &phase, &written);
+    bad += show(&written, frames, reports, windows);
     fprintf(stderr, "bits %" PRIu64 "\n", totals.bits);
     if (config.phase == TMCHAN_FOLLOW) fprintf(stderr, "slips %" PRIu64 "\n", totals.slips);
-    free(reports), free(frames), free(piece);
+    free(reports), free(windows), free(frames), free(piece);
     if (ferror(stdin)) return fprintf(stderr, "reading failed\n"), NOT_READ;
     if (fflush(stdout) || ferror(stdout) || ferror(stderr)) return fprintf(stderr, "writing failed\n"), NOT_WRITTEN;
     return bad ? BAD : DONE;

@@ -9,7 +9,7 @@ import sys
 from ctypes import c_int32, c_int64, c_size_t, c_uint64
 
 LIBRARY, DEPTH = ctypes.CDLL(sys.argv[1]), int(sys.argv[2])
-PIECE, TEXT, REPORT, OPTION_DEPTH = 65536, 96, 32, 1  # TMCHAN_TEXT_LENGTH, the octets of a tmchan_report, and where depth stands
+PIECE, TEXT, REPORT, OPTION_DEPTH = 65536, 96, 48, 1  # TMCHAN_TEXT_LENGTH, the octets of a tmchan_report, and where depth stands
 
 
 def call(name, *arguments):

@@ -1,5 +1,5 @@
-/* Runs into TMCHAN_ROOM at each length of an array from 0 on: a sender's push, a decoder's push and finish, a receiver's push and finish, and a
- * search. The answer is TMCHAN_ROOM below the length that is needed, and not from there on; no octet beyond the length that was passed is written,
+/* Runs into TMCHAN_ROOM at each length of an array from 0 on: a sender's push, a decoder's push and finish, a receiver's push and finish, the
+ * windows of both, and a search. The answer is TMCHAN_ROOM below the length that is needed, and not from there on; no octet beyond the length that was passed is written,
  * and where nothing is taken the array is as it was, and the same call with room goes on as if there had been none. Status 0: all was so. */
 #include <stdio.h>
 #include <stdlib.h>
@@ -92,6 +92,52 @@ static void finish_each(const tmchan_config *config, const uint8_t *given, size_
     free(bits), free(wanted);
 }
 
+/* Windows at each length of their array, of which a push makes several and the finish one: a decoder refuses less room than is said, and takes
+ * nothing then; a receiver writes the first ones, and takes all. */
+static void windows_each(const tmchan_config *config, const uint8_t *given, size_t given_length) {
+    const size_t most = tmchan_window_room(config, given_length), bits_length = tmchan_decoder_room(config, given_length);
+    uint64_t frames_length, count = 0;
+    const size_t reports_length = tmchan_receiver_room(config, given_length, &frames_length);
+    uint8_t *bits = guarded(bits_length), *frames = guarded(frames_length);
+    tmchan_report *reports = guarded(reports_length * sizeof *reports);
+    tmchan_window *wanted = guarded(most * sizeof *wanted), last[2];
+    for (size_t length = most + 2; length-- > 0;) {
+        tmchan_stream decoder = {0}, receiver = {0};
+        tmchan_totals totals;
+        tmchan_phase phase;
+        tmchan_written said;
+        tmchan_window *windows = guarded(length * sizeof *windows);
+        expect(tmchan_decoder_open(&decoder, config) == 0 && tmchan_receiver_open(&receiver, config) == 0, "a stream does not open", length);
+        int64_t answer = tmchan_decoder_push_windows(&decoder, given, given_length, bits, bits_length, windows, length, &said);
+        if (length > most) count = said.windows, memcpy(wanted, windows, most * sizeof *windows);
+        if (length < most) {
+            expect(answer == TMCHAN_ROOM && is_written(&said, 0, 0) && is_kept(windows, 0, length * sizeof *windows), "windows with less room", length);
+            answer = tmchan_decoder_push(&decoder, given, given_length, bits, bits_length, &said);
+            expect(answer > 0 && is_written(&said, 0, answer), "a push after one with less room", length);
+        } else {
+            expect(answer > 0 && said.octets == (uint64_t)answer && said.windows == count, "windows with their room", length);
+            expect(!memcmp(windows, wanted, count * sizeof *windows) && is_kept(windows, count * sizeof *windows, length * sizeof *windows),
+                   "the windows of a decoder", length);
+        }
+        answer = tmchan_decoder_finish_windows(&decoder, bits, bits_length, last, 1, &phase, &said);
+        expect(answer == TMCHAN_ROOM && is_written(&said, 0, 0), "the last window with less room", length);
+        answer = tmchan_decoder_finish_windows(&decoder, bits, bits_length, last, 2, &phase, &said);
+        expect(answer > 0 && said.windows == 1 && last[0].kept == (uint64_t)answer, "the last window", length);
+        memset(windows, KEPT, length * sizeof *windows + GUARD);
+        answer = tmchan_receiver_push_windows(&receiver, given, given_length, frames, frames_length, reports, reports_length, windows, length, &said);
+        uint64_t fitting = length < count ? length : count;
+        expect((answer == TMCHAN_ROOM) == (fitting < count) && said.windows == fitting, "a receiver's windows", length);
+        expect(!memcmp(windows, wanted, fitting * sizeof *windows) && is_kept(windows, fitting * sizeof *windows, length * sizeof *windows),
+               "the windows of a receiver", length);
+        answer = tmchan_receiver_finish_windows(&receiver, frames, frames_length, reports, reports_length, last, 1, &totals, &phase, &said);
+        expect(answer >= 0 && said.windows == 1 && last[0].steps == last[0].kept, "a receiver's last window", length);
+        expect(tmchan_close(&decoder) == TMCHAN_CLOSED && tmchan_close(&receiver) == TMCHAN_CLOSED, "streams are closed", length);
+        free(windows);
+    }
+    expect(count > 1, "several windows", 0);
+    free(bits), free(frames), free(reports), free(wanted);
+}
+
 /* A receiver, of whose codeblocks the second is uncorrectable: all are due at its finish, or with the octets where a batch is of one. At
  * TMCHAN_ROOM what fitted stands, as much as the call says, and nothing else is written. */
 static void receive_each(const tmchan_config *config, const uint8_t *given, size_t given_length, const uint8_t *sent, int ends) {
@@ -173,6 +219,7 @@ static void make_streams(tmchan_config config) {
         expect(bits_count > 0 && tmchan_close(&decoder) == 0, "bits are decoded", 0);
         push_each(tmchan_decoder_open, tmchan_decoder_push, &config, symbols, count, bits_needed, bits, bits_count);
         finish_each(&config, symbols, count, bits_needed);
+        windows_each(&config, symbols, count);
         free(bits);
     } else {
         uint8_t *damaged = symbols + count / FRAMES;

@@ -190,6 +190,74 @@ static void decode(const tmchan_config *config, const struct octets *fields, siz
     free(decoded), free(lines_at);
 }
 
+/* The lines of windows. */
+static void say_windows(FILE *lines, const tmchan_window *windows, uint64_t count) {
+    for (uint64_t i = 0; i < count; i++)
+        for (int k = 0; k < 9; k++) fprintf(lines, "%" PRIu64 "%c", ((const uint64_t *)&windows[i])[k], k < 8 ? ' ' : '\n');
+}
+
+/* What a decoder and a receiver count of windows, and where the receiver's codeblocks stand; their answers are those of the calls without. */
+static void count_windows(const tmchan_config *config, const struct octets *fields, size_t piece) {
+    const struct octets *given = &fields[0], *wanted = &fields[1], *places = &fields[2];
+    for (int receives = 0; receives < 2; receives++) {
+        tmchan_stream counting = {0}, plain = {0};
+        tmchan_totals totals;
+        tmchan_phase phase;
+        size_t lines_length, found_length;
+        char *lines_at, *found_at;
+        FILE *lines = open_memstream(&lines_at, &lines_length), *found = open_memstream(&found_at, &found_length);
+        for (int is_plain = 0; is_plain < 2; is_plain++) {
+            tmchan_stream *stream = is_plain ? &plain : &counting;
+            expect((receives ? tmchan_receiver_open(stream, config) : tmchan_decoder_open(stream, config)) == 0, "a stream of windows does not open");
+        }
+        for (size_t at = 0; at <= given->length; at += piece) {
+            size_t length = given->length - at < piece ? given->length - at : piece;
+            for (int ending = 0; ending <= (at + piece > given->length); ending++) {
+                size_t size = ending ? 0 : length;
+                uint64_t most = 0;
+                int64_t count = receives ? tmchan_receiver_room(config, size, &most) : 0, room_for = tmchan_window_room(config, size);
+                int64_t answers[2];
+                tmchan_written said[2];
+                if (!receives) most = tmchan_decoder_room(config, size);
+                expect(room_for >= 0, "no room for windows is answered");
+                for (int is_plain = 0; is_plain < 2; is_plain++) {
+                    tmchan_stream *s = is_plain ? &plain : &counting;
+                    tmchan_written *w = &said[is_plain];
+                    uint8_t *octets = room(size), *out = room(most);
+                    tmchan_report *reports = room(count * sizeof *reports);
+                    tmchan_window *windows = room(room_for * sizeof *windows);
+                    memcpy(octets, given->at + at, size);
+                    answers[is_plain] =
+                        receives && ending && is_plain ? tmchan_receiver_finish(s, out, most, reports, count, &totals, &phase, w)
+                        : receives && ending ? tmchan_receiver_finish_windows(s, out, most, reports, count, windows, room_for, &totals, &phase, w)
+                        : receives && is_plain ? tmchan_receiver_push(s, octets, size, out, most, reports, count, w)
+                        : receives ? tmchan_receiver_push_windows(s, octets, size, out, most, reports, count, windows, room_for, w)
+                        : ending && is_plain ? tmchan_decoder_finish(s, out, most, &phase, w)
+                        : ending ? tmchan_decoder_finish_windows(s, out, most, windows, room_for, &phase, w)
+                        : is_plain ? tmchan_decoder_push(s, octets, size, out, most, w)
+                                   : tmchan_decoder_push_windows(s, octets, size, out, most, windows, room_for, w);
+                    if (!is_plain) {
+                        expect(w->windows <= (uint64_t)room_for, "more windows than there is room");
+                        say_windows(lines, windows, w->windows);
+                        for (uint64_t i = 0, frame = 0; i < w->reports; frame += reports[i++].frame_length) {
+                            expect(reports[i].frame == frame, "a frame begins elsewhere");
+                            fprintf(found, "%" PRIu64 " %" PRIu64 "\n", reports[i].place, reports[i].symbol);
+                        }
+                    }
+                    free(octets), free(out), free(reports), free(windows);
+                }
+                expect(answers[0] >= 0 && answers[0] == answers[1], "a call with windows answers otherwise");
+                expect(said[0].reports == said[1].reports && said[0].octets == said[1].octets && said[1].windows == 0, "another number is written");
+            }
+        }
+        fclose(lines), fclose(found);
+        expect(lines_length == wanted->length && !memcmp(lines_at, wanted->at, lines_length), "other windows");
+        expect(found_length == (receives ? places->length : 0) && !memcmp(found_at, places->at, found_length), "other places, or their symbols");
+        expect(tmchan_close(&counting) == TMCHAN_CLOSED && tmchan_close(&plain) == TMCHAN_CLOSED, "a stream of windows is open after its finish");
+        free(lines_at), free(found_at);
+    }
+}
+
 static void read_numbers(tmchan_config *config) {
     for (int k = 0; k < OPTIONS; k++) ((uint64_t *)config)[k] = strtoull(strtok(NULL, " \n"), NULL, 10);
 }
@@ -214,6 +282,7 @@ static void make_row(char *line) {
         uint64_t frames_length = 7;
         expect(tmchan_sender_room(&config, 1) == wanted && tmchan_decoder_room(&config, 1) == wanted, "a room has a wrong answer");
         expect(tmchan_receiver_room(&config, 1, &frames_length) == wanted && frames_length == 7, "a receiver's room has a wrong answer");
+        expect(tmchan_window_room(&config, 1) == wanted, "the room of windows has a wrong answer");
         return;
     }
     expect(tmchan_config_check(&config) == 0, "the check refuses");
@@ -222,7 +291,7 @@ static void make_row(char *line) {
     for (const char *word; count < 3 && (word = strtok(NULL, " \n")); count++) fields[count] = octets(word);
     expect(count == (*call == 's' ? 2 : 3), "no such row");
     const size_t pieces[] = {1, 17, 4096, 1 << 20};
-    for (int k = fields[0].length > 20000; k < 4; k++) (*call == 's' ? send : *call == 'b' ? decode : receive)(&config, fields, pieces[k]);
+    for (int k = fields[0].length > 20000; k < 4; k++) (*call == 's' ? send : *call == 'b' ? decode : *call == 'w' ? count_windows : receive)(&config, fields, pieces[k]);
     for (size_t k = 0; k < 3; k++) free(fields[k].at);
 }
 
@@ -270,6 +339,7 @@ static void make_refusals(void) {
     uint64_t bits, at = 0;
     uint8_t some[64] = {0}, out[64];
     tmchan_report reports[1];
+    tmchan_window windows[1];
     tmchan_config_defaults(&config);
     line_number = 0;
     expect(tmchan_config_check(&config) == 0 && tmchan_frame_length(&config) == 223, "the defaults");
@@ -280,7 +350,11 @@ static void make_refusals(void) {
     config.verify = 0, config.workers = 4;
     expect(tmchan_receiver_room(&config, 1000, &bits) == 76 && tmchan_receiver_room(&config, 0, &bits) == 76 && bits == 76 * 223, "with workers");
     expect(tmchan_receiver_room(&config, ((size_t)1 << 40) + 1, &bits) == TMCHAN_ROOM && bits == 76 * 223, "too many octets");
+    /* Of 3 * 8448 + 7 + 1000 bits each window but the last keeps 8192. */
+    expect(tmchan_window_room(&config, 1000) == 4 && tmchan_window_room(&config, 8185) == 5 && tmchan_window_room(&config, 0) == 4, "the room of windows");
+    expect(tmchan_window_room(&config, ((size_t)1 << 40) + 1) == TMCHAN_ROOM, "too many octets for windows");
     config.workers = 1, config.inner = 0;
+    expect(tmchan_window_room(&config, 1000) == 0, "windows with no inner code");
     expect(tmchan_receiver_room(&config, 1000, &bits) == 35 && tmchan_receiver_room(&config, 0, &bits) == 32 && bits == 32 * 223, "with no inner code");
     config.inner = 12;
     config.inner = 0, config.rescan = TMCHAN_ON; /* codeblocks may lie inside others then */
@@ -296,6 +370,16 @@ static void make_refusals(void) {
         expect(tmchan_decoder_push(&s, some, 1, out, 64, &w) == TMCHAN_CLOSED && is_written(&w, 0, 0), "a closed decoder");
         w.octets = 9;
         expect(tmchan_decoder_finish(&s, out, 64, &phase, &w) == TMCHAN_CLOSED && is_written(&w, 0, 0), "a closed decoder's finish");
+        w.octets = 9;
+        expect(tmchan_decoder_push_windows(&s, some, 1, out, 64, windows, 1, &w) == TMCHAN_CLOSED && is_written(&w, 0, 0), "a closed decoder's windows");
+        w.octets = 9;
+        expect(tmchan_decoder_finish_windows(&s, out, 64, windows, 1, &phase, &w) == TMCHAN_CLOSED && is_written(&w, 0, 0), "a closed decoder's last windows");
+        w.octets = 9;
+        expect(tmchan_receiver_push_windows(&s, some, 1, out, 64, reports, 1, windows, 1, &w) == TMCHAN_CLOSED && is_written(&w, 0, 0),
+               "a closed receiver's windows");
+        w.octets = 9;
+        expect(tmchan_receiver_finish_windows(&s, out, 64, reports, 1, windows, 1, &totals, &phase, &w) == TMCHAN_CLOSED && is_written(&w, 0, 0),
+               "a closed receiver's last windows");
         expect(tmchan_decoder_phase(&s, &phase) == TMCHAN_CLOSED && tmchan_receiver_phase(&s, &phase) == TMCHAN_CLOSED, "a closed phase");
         expect(tmchan_receiver_slips(&s, &bits) == TMCHAN_CLOSED, "closed slips");
         w.octets = 9;

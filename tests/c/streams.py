@@ -14,7 +14,8 @@ SIZE, NUMBERS, COUNT = ctypes.c_size_t, ctypes.c_uint64 * OPTIONS, ctypes.c_uint
 PIECE, CLOSED = 3000, -5
 CODE, DEPTH, INNER, TOLERANCE, SOFT, SKIP, FLY, PHASE, POLARITY, PACK, VERIFY, RESCAN, BAD = 0, 1, 3, 7, 9, 11, 14, 17, 18, 20, 21, 22, 23
 for name in ("sender_room", "sender_push", "sender_finish", "decoder_room", "decoder_push", "decoder_finish", "receiver_room",
-             "receiver_push", "receiver_finish"):
+             "receiver_push", "receiver_finish", "window_room", "decoder_push_windows", "decoder_finish_windows", "receiver_push_windows",
+             "receiver_finish_windows"):
     getattr(LIBRARY, "tmchan_" + name).restype = ctypes.c_int64
 
 
@@ -28,7 +29,8 @@ def of(config):
 
 
 class Report(ctypes.Structure):
-    _fields_ = ([("place", COUNT), ("frame_length", COUNT)] + [(name, ctypes.c_uint8) for name in ("distance", "bridged", "inverted", "columns", "bad")]
+    _fields_ = ([(name, COUNT) for name in ("place", "symbol", "frame", "frame_length")]
+                + [(name, ctypes.c_uint8) for name in ("distance", "bridged", "inverted", "columns", "bad")]
                 + [("repaired", ctypes.c_uint8 * 8)])
 
     def counts(self):
@@ -102,6 +104,27 @@ def decode(config, given):
     return bits, phase.lines()
 
 
+def windows(config, given, receives):
+    """The lines of the windows that a decoder or a receiver counts, and of the places that the receiver finds."""
+    stream, octets, phase, written, lines, places = NUMBERS(), COUNT(), Phase(), (COUNT * 3)(), "", ""
+    kind = "receiver" if receives else "decoder"
+    assert call(kind + "_open", stream, *of(config)) == 0
+    for piece in pieces(given) + [None]:
+        size = SIZE(len(piece or b""))
+        count = call("receiver_room", *of(config), size, ctypes.byref(octets)) if receives else 0
+        room = octets.value if receives else call("decoder_room", *of(config), size)
+        made, reports, found = ctypes.create_string_buffer(room), (Report * count)(), call("window_room", *of(config), size)
+        array = (COUNT * (9 * found))()
+        arrays = made, SIZE(room), *([reports, SIZE(count)] if receives else []), array, SIZE(found)
+        answer = (call(kind + "_push_windows", stream, piece, size, *arrays, written) if piece is not None
+                  else call(kind + "_finish_windows", stream, *arrays, *([(COUNT * 2)()] if receives else []), ctypes.byref(phase), written))
+        assert answer == written[0 if receives else 1] and written[2] <= found
+        lines += "".join(" ".join(map(str, array[9 * k:9 * k + 9])) + "\n" for k in range(written[2]))
+        places += "".join(f"{report.place} {report.symbol}\n" for report in reports[:written[0]])
+        assert [report.frame for report in reports[:written[0]]] == [sum(it.frame_length for it in reports[:k]) for k in range(written[0])]
+    return lines, places
+
+
 def plain_bits(config, given):
     """The bits where there is no inner code."""
     bits = [octet >> k & 1 for octet in given for k in range(7, -1, -1)] if config[PACK] else [octet >> 7 ^ config[SOFT] for octet in given]
@@ -160,6 +183,10 @@ for number, (kind, *words) in enumerate(rows, 1):
     elif kind == "recording":
         call("config_recording", *of(config))
         right = list(config) == list(map(int, words))
+    elif kind == "windows":
+        given, *wanted = (octets(word) for word in words)
+        wanted = [it.decode() for it in wanted]
+        right = windows(config, given, False) == (wanted[0], "") and windows(config, given, True) == (*wanted,)
     elif kind == "send":
         right = send(config, octets(words[0])) == octets(words[1])
     else:

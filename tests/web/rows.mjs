@@ -155,6 +155,20 @@ function decode(link, given) {
     return { bits: joined(bits), phase: decoder.phase };
 }
 
+const WINDOW = ["symbol", "dropped", "steps", "kept", "metric", "octets", "wrong", "distance", "squares"];
+
+/** The lines of the windows that a decoder or a receiver counts, and of the places and symbols that it finds. */
+function windows(stream, given) {
+    const counted = [], items = [];
+    const take = (made) => {
+        counted.push(...stream.windows.map((it) => `${WINDOW.map((name) => it[name]).join(" ")}\n`));
+        if (!(made instanceof Uint8Array)) items.push(...[...made].map(({ place, symbol }) => `${place} ${symbol}\n`));
+    };
+    for (const piece of pieces(given)) take(stream.push(piece));
+    take(stream.finish());
+    return [counted.join(""), items.join("")];
+}
+
 function plainBits({ soft, skip, pack }, given) {
     const eight = (it) => [7, 6, 5, 4, 3, 2, 1, 0].map((k) => (it >> k) & 1), one = (it) => (it >> 7) ^ (soft === "i8" ? 1 : 0);
     return Uint8Array.from((pack === "on" ? [...given].flatMap(eight) : [...given].map(one)).slice(skip));
@@ -206,6 +220,10 @@ export function streams({ Refused, STRUCTS, line, DEFAULTS, recordingSettings },
                 if (kind === "send") {
                     const sender = link.sender(), frames = octets(given[0]), sent = joined(pieces(frames).map((it) => sender.push(it)));
                     right = same(sent, octets(given[1])) && sender.finish() === frames.length % link.frameLength;
+                } else if (kind === "windows") {
+                    const symbols = octets(given[0]), [counted, places] = given.slice(1).map((it) => text(octets(it)));
+                    const decoded = windows(link.decoder({ windows: true }), symbols), found = windows(link.receiver({ windows: true }), symbols);
+                    right = decoded[0] === counted && found[0] === counted && found[1] === places;
                 } else {
                     const wanted = given[1] === "*" ? null : octets(given[1]), notes = text(octets(given[2])).trimEnd();
                     if (kind === "receive") right = receives(library, link, octets(given[0]), wanted, notes, line);
