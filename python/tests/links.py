@@ -67,6 +67,17 @@ def received(link, chunks, **words):
     return items, lines_of(items, link, receiver.totals, receiver.phase)
 
 
+def windows_of(opened, chunks):
+    """All windows that a decoder or a receiver of a link counts."""
+    found = []
+    with opened(windows=True) as stream:
+        for chunk in chunks:
+            stream.push(chunk)
+            found += stream.windows
+        stream.finish()
+    return found + stream.windows
+
+
 def frames(count, size, seed=1):
     """Frames whose octets are not equally often."""
     draw = random.Random(seed)
@@ -130,4 +141,5 @@ __all__ = [
     "run_program",
     "soft",
     "tmchan",
+    "windows_of",
 ]

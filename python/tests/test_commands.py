@@ -68,7 +68,7 @@ def fields_of(kind):
     return dict(re.findall(r"^\| `(\w+)` \| (\w+)", text, re.M))
 
 
-TYPES = {"number": (int,), "text": (str,), "truth": (bool,), "list": (list,), "object": (dict,)}
+TYPES = {"number": (int,), "real": (float,), "text": (str,), "truth": (bool,), "list": (list,), "object": (dict,)}
 
 
 def test_json_lines(recording, tmp_path):
@@ -86,18 +86,31 @@ def test_json_lines(recording, tmp_path):
         str(tmp_path / "frames"),
         str(tmp_path / "broken"),
     )
-    lines = [json.loads(line) for line in written.decode().splitlines()]
-    assert status == 1 and [it["kind"] for it in lines] == ["codeblock"] * (len(lines) - 1) + ["end"]
-    for line in lines:
-        fields, optional = fields_of(line["kind"]), fields_of(line["kind"] + ", where asked")
+    every = [json.loads(line) for line in written.decode().splitlines()]
+    lines = [it for it in every if it["kind"] != "window"]
+    windows = [it for it in every if it["kind"] == "window"]
+    assert status == 1 and every[-1] is lines[-1]
+    assert [it["kind"] for it in lines] == ["codeblock"] * (len(lines) - 1) + ["end"]
+    for line in every:
+        fields = fields_of(line["kind"])
+        optional = {} if line["kind"] == "window" else fields_of(line["kind"] + ", where asked")
         assert list(line)[:2] == ["version", "kind"] and line["version"] == 1
         assert [it for it in fields if it not in line] == [] and [
             it for it in line if it not in {**fields, **optional}
         ] == []
         for name, value in line.items():
             assert type(value) in TYPES[{**fields, **optional}[name]] or (
-                value is None and name in ("channel", "missing")
+                value is None and name in ("channel", "missing", "es_n0")
             )
+    # All that are decoded, in order, and those of a codeblock's bits before it.
+    assert sum(it["kept"] for it in windows) == lines[-1]["bits"]
+    assert [it["symbol"] for it in windows] == [256 * number for number in range(len(windows))]
+    last = -1
+    for it in every[:-1]:
+        assert it["kind"] == "window" or it["symbol"] <= last
+        last = it["symbol"] if it["kind"] == "window" else last
+    assert [it["symbol"] for it in lines[:-1]] == [2 * it["place"] for it in lines[:-1]]
+    assert sum(it["wrong"] for it in windows) > 100 and any(it["es_n0"] is None or it["at_least"] for it in windows)
     good = [it for it in lines[:-1] if it["good"]]
     assert len(good) == lines[-1]["good"] and lines[-1]["bad"] == len(lines) - 1 - len(good) > 0
     assert [it["length"] for it in good] == [100] * len(good) and (tmp_path / "frames").stat().st_size == 100 * len(

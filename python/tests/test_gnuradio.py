@@ -46,7 +46,8 @@ def test_receiver(kind):
     octets = [bytes(pmt.u8vector_elements(pmt.cdr(it))) for it in came]
     assert octets + [it.frame for it in block.rest] == SENT[1:] and 0 < len(block.rest) < 5
     fields = [pmt.to_python(pmt.car(it)) for it in came]
-    assert all(set(it) == {"place", "fixed", "distance", "bridged", "inverted"} for it in fields)
+    assert all(set(it) == {"place", "symbol", "fixed", "distance", "bridged", "inverted"} for it in fields)
+    assert [b["symbol"] - a["symbol"] for a, b in zip(fields, fields[1:])] == [16 * 136] * (len(fields) - 1)
     assert [b["place"] - a["place"] for a, b in zip(fields, fields[1:])] == [8 * 136] * (len(fields) - 1)
     assert not any(it["inverted"] or it["bridged"] for it in fields) and sum(it["fixed"] for it in fields) >= 0
 

@@ -6,7 +6,7 @@ import random
 import threading
 
 import pytest
-from links import NAMES, frames, levels, pieces, received, right, run_program, soft, tmchan
+from links import NAMES, frames, levels, pieces, received, right, run_program, soft, tmchan, windows_of
 
 from tmchan import library
 from tmchan.samples import Octets
@@ -65,7 +65,7 @@ def test_the_first_reason_comes_first():
 
 def test_the_struct_is_the_header():
     assert list(library.OPTIONS) == NAMES
-    assert ctypes.sizeof(library.Config) == 8 * 24 and library.REPORT.size == 32
+    assert ctypes.sizeof(library.Config) == 8 * 24 and library.REPORT.size == 48 and library.WINDOW.size == 72
 
 
 def test_words_and_repr():
@@ -211,8 +211,30 @@ def test_what_a_receiver_says():
     numpy = pytest.importorskip("numpy")
     table = found.table
     assert [it.place for it in found] == table["place"].tolist()
+    # (the phase is 1, and nothing was dropped)
+    assert [it.symbol for it in found] == table["symbol"].tolist() == (2 * table["place"] + 1).tolist()
     assert [it.good for it in found] == (table["frame_length"] > 0).tolist() == (table["bad"] == 0).tolist()
     assert table["repaired"].shape == (len(found), 8) and table["distance"].dtype == numpy.uint8
+
+
+@pytest.mark.parametrize("decibels", [1, 4, 8])
+def test_windows_tell_how_good_symbols_are(decibels):
+    link = tmchan.Link(keep=256, ahead=64)
+    symbols = link.send(frames(40, link.frame_length))
+    noisy = soft(levels(symbols, decibels)).tobytes()
+    for opened in (link.decoder, link.receiver):
+        with opened() as plain:
+            plain.push(noisy)
+            assert plain.windows == []
+    windows = windows_of(link.decoder, pieces(noisy, random.Random(5), 5000))
+    assert windows == windows_of(link.receiver, [noisy]) and sum(it.kept for it in windows) == len(symbols) // 2
+    assert [it.symbol for it in windows] == list(range(0, len(symbols), 512))
+    # (the path is the sent one, but where noise is so great that some bits are wrong)
+    wrong = sum((sent ^ came) >> 7 for sent, came in zip(symbols, noisy))
+    assert abs(sum(it.wrong for it in windows) - wrong) <= wrong // 50
+    assert abs(tmchan.quality(windows).es_n0 - decibels) < 0.2
+    first = windows[0].quality
+    assert first.symbol_error_rate == windows[0].wrong / 512 and abs(first.es_n0 - decibels) < 2 and not first.at_least
 
 
 def test_long_pieces_are_the_same():

@@ -2,7 +2,7 @@
 import random
 
 import pytest
-from links import NAMES, UNSET, octets, pieces, received, rows, tmchan
+from links import NAMES, UNSET, octets, pieces, received, rows, tmchan, windows_of
 
 from tmchan import library
 
@@ -87,6 +87,12 @@ def test_streams(most):
                 next(word for word, it in library.OPTIONS["inner"].items() if it == int(numbers[3]))
             )
             assert set(made.items()) <= set(link_of(fields).options.items())
+        elif kind == "windows":
+            wanted = [tuple(map(int, line.split())) for line in octets(fields[1]).decode().splitlines()]
+            for opened in (link_of(numbers).decoder, link_of(numbers).receiver):
+                assert windows_of(opened, pieces(octets(fields[0]), draw, most)) == wanted
+            items, _ = received(link_of(numbers), pieces(octets(fields[0]), draw, most))
+            assert "".join(f"{it.place} {it.symbol}\n" for it in items) == octets(fields[2]).decode()
         else:
             with link_of(numbers).decoder() as decoder:
                 bits = b"".join([*map(decoder.push, pieces(octets(fields[0]), draw, most)), decoder.finish()])

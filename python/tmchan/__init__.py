@@ -10,7 +10,8 @@ What the library says is said here, and nothing more: a frame is good where the 
 whole package.
 """
 from .library import Closed, Refused, Uncorrectable, version as _version
-from .link import Decoder, Item, Link, Phase, Received, Receiver, Sender, Totals
+from .link import Decoder, Item, Link, Phase, Received, Receiver, Sender, Totals, Window
+from .quality import Quality, quality
 from .reed_solomon import Decoded, randomize, rs_decode, rs_encode
 from .search import Found, find
 
@@ -29,13 +30,16 @@ __all__ = [
     "Item",
     "Link",
     "Phase",
+    "Quality",
     "Received",
     "Receiver",
     "Refused",
     "Sender",
     "Totals",
     "Uncorrectable",
+    "Window",
     "find",
+    "quality",
     "randomize",
     "rs_decode",
     "rs_encode",

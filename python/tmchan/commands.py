@@ -3,7 +3,9 @@ from __future__ import annotations
 
 import argparse
 import contextlib
+import importlib.util
 import json
+import math
 import mmap
 import os
 import shlex
@@ -11,8 +13,9 @@ import sys
 from typing import Any, BinaryIO, Iterator, Optional
 
 from . import library
-from .link import DEFAULTS, PIECE, Link, Received, recording
+from .link import DEFAULTS, PIECE, Link, Received, Window, recording
 from .outside import COUNTERS, Counters, frame_check, kiss
+from .page import Pass, empty_page, page
 from .reception import Reception
 from .recordings import FORMS, wave_header
 from .search import LINK, Found, find
@@ -253,7 +256,10 @@ def receive_arguments() -> argparse.ArgumentParser:
     parser.add_argument(
         "--json",
         action="store_true",
-        help="write a line of JSON for each codeblock, and a last one, to standard output",
+        help="write a line of JSON for each codeblock and window, and a last one, to standard output",
+    )
+    parser.add_argument(
+        "--page", metavar="FILE", help="draw what came of one recording, as an HTML file; matplotlib is needed"
     )
     parser.add_argument("-q", "--quiet", action="store_true", help="no summary and no progress")
     group = parser.add_argument_group("the recording")
@@ -393,23 +399,51 @@ def json_line(**fields: Any) -> bytes:
     return (json.dumps({"version": JSON, **fields}, separators=(",", ":")) + "\n").encode()
 
 
-def receive_file(arguments: argparse.Namespace, name: str, output: Output, lines: Output) -> bool:
+def window_line(name: str, window: Window) -> bytes:
+    rate, es_n0, at_least = window.quality
+    return json_line(
+        kind="window",
+        file=name,
+        **window._asdict(),
+        symbol_error_rate=rate if math.isfinite(rate) else None,
+        es_n0=es_n0 if math.isfinite(es_n0) else None,
+        at_least=at_least,
+    )
+
+
+def page_of(given: Pass, name: str, found: Found, totals: Any, tally: Tally) -> bytes:
+    more = [("frame checks that fail (outside of what is proved)", f"{tally.failed:,} of {tally.checked:,}")]
+    more = more if tally.checked else []
+    for channel, (came, missing) in sorted(tally.counters.channels.items() if tally.counters else []):
+        counted = f"{came:,} frames, {missing:,} missing by the counter"
+        more.append((f"virtual channel {channel} (outside of what is proved)", counted))
+    return page(given, name, totals, shlex.join(found.words()), more).encode()
+
+
+def receive_file(arguments: argparse.Namespace, name: str, output: Output, lines: Output, pages: Output) -> bool:
     """Receives a recording. Returns whether frames came, and no codeblock was bad."""
     source = Source(name, arguments.begin)
     try:
         found = chosen(arguments, source)
         if found.link is None:
             lines.write(json_line(kind="end", file=name, good=0, bad=0, fixed=0, bits=0, slips=0, reason=found.reason))
+            pages.write(empty_page(source.name, found.reason).encode())
             say(f"{source.name}: no options were found: {found.reason}.")
             return False
         link, tally = found.link, Tally(arguments.counters)
         if not arguments.quiet:
             say(f"{source.name}: {shlex.join(found.words()) }")
         progress = Progress(None if arguments.quiet else source.size, name)
-        receiver = found.receiver("mean" if arguments.scale is None else arguments.scale)
+        counts = arguments.json or pages.name is not None
+        receiver = found.receiver("mean" if arguments.scale is None else arguments.scale, windows=counts)
+        given = Pass(link, receiver.has_symbols)
         try:
             for batch in batches_of(source, receiver, progress):
                 shown = b""
+                if pages.name is not None:
+                    given.push(batch, receiver.windows)
+                if arguments.json:
+                    shown = b"".join(window_line(name, window) for window in receiver.windows)
                 for item in batch:
                     said = tally.push(item, arguments.check)
                     if arguments.json:
@@ -418,6 +452,7 @@ def receive_file(arguments: argparse.Namespace, name: str, output: Output, lines
                             file=name,
                             number=tally.good + tally.bad - 1,
                             place=item.place,
+                            symbol=item.symbol if receiver.has_symbols else None,
                             good=item.good,
                             length=len(item.frame or b""),
                             fixed=item.fixed,
@@ -452,6 +487,8 @@ def receive_file(arguments: argparse.Namespace, name: str, output: Output, lines
                     **more,
                 )
             )
+        if pages.name is not None:
+            pages.write(page_of(given, source.name, found, totals, tally))
         if not arguments.quiet:
             say(*summary(tally, totals, link))
             if output.name is None and not arguments.json:
@@ -469,11 +506,18 @@ def receive(words: list[str]) -> int:
         raise Usage("--from: the number is below 0")
     if arguments.output is None and not arguments.json and not sys.stdout.isatty():
         arguments.output = "-"
+    if arguments.page is not None:
+        if len(arguments.files) > 1 or arguments.page == "-":
+            raise Usage("--page takes one recording, and the name of a file")
+        if importlib.util.find_spec("matplotlib") is None:
+            raise Usage("--page: matplotlib is needed")
     output, lines = Output(arguments.output), Output("-" if arguments.json else None)
+    pages = Output(arguments.page)
     try:
-        return 0 if all([receive_file(arguments, name, output, lines) for name in arguments.files]) else 1
+        return 0 if all([receive_file(arguments, name, output, lines, pages) for name in arguments.files]) else 1
     finally:
         output.close()
+        pages.close()
 
 
 # send

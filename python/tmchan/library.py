@@ -115,10 +115,13 @@ class Written(ctypes.Structure):
     _fields_ = [("reports", c_uint64), ("octets", c_uint64), ("windows", c_uint64)]
 
 
-# tmchan_report: place, frame_length, distance, bridged, inverted, columns, bad, repaired; and the same for numpy.
-REPORT = struct.Struct("=QQBBBBB8s3x")
+# tmchan_report: place, symbol, frame, frame_length, distance, bridged, inverted, columns, bad, repaired; and the same
+# for numpy.
+REPORT = struct.Struct("=QQQQBBBBB8s3x")
 REPORT_FIELDS = [
     ("place", "u8"),
+    ("symbol", "u8"),
+    ("frame", "u8"),
     ("frame_length", "u8"),
     ("distance", "u1"),
     ("bridged", "u1"),
@@ -127,6 +130,10 @@ REPORT_FIELDS = [
     ("bad", "u1"),
     ("repaired", "u1", 8),
 ]
+
+# tmchan_window: numbers of 64 bits, and their names.
+WINDOW = struct.Struct("=9Q")
+WINDOW_FIELDS = ("symbol", "dropped", "steps", "kept", "metric", "octets", "wrong", "distance", "squares")
 
 # Of each call what it answers, and what it is passed. An array is passed as its address and length.
 _ARRAY, _CONFIG, _HANDLE = (c_void_p, c_size_t), (POINTER(Config), c_size_t), (POINTER(Handle),)
@@ -154,17 +161,22 @@ _CALLS = {
     "sender_open": (c_int32, *_HANDLE, *_CONFIG),
     "sender_push": (c_int64, *_HANDLE, *_ARRAY, *_ARRAY, *_WRITTEN),
     "sender_finish": (c_int64, *_HANDLE, *_WRITTEN),
+    "window_room": (c_int64, *_CONFIG, c_size_t),
     "decoder_room": (c_int64, *_CONFIG, c_size_t),
     "decoder_open": (c_int32, *_HANDLE, *_CONFIG),
     "decoder_push": (c_int64, *_HANDLE, *_ARRAY, *_ARRAY, *_WRITTEN),
+    "decoder_push_windows": (c_int64, *_HANDLE, *_ARRAY, *_ARRAY, *_ARRAY, *_WRITTEN),
     "decoder_phase": (c_int32, *_HANDLE, *_PHASE),
     "decoder_finish": (c_int64, *_HANDLE, *_ARRAY, *_PHASE, *_WRITTEN),
+    "decoder_finish_windows": (c_int64, *_HANDLE, *_ARRAY, *_ARRAY, *_PHASE, *_WRITTEN),
     "receiver_room": (c_int64, *_CONFIG, c_size_t, *_COUNT),
     "receiver_open": (c_int32, *_HANDLE, *_CONFIG),
     "receiver_push": (c_int64, *_HANDLE, *_ARRAY, *_ARRAY, *_ARRAY, *_WRITTEN),
+    "receiver_push_windows": (c_int64, *_HANDLE, *_ARRAY, *_ARRAY, *_ARRAY, *_ARRAY, *_WRITTEN),
     "receiver_phase": (c_int32, *_HANDLE, *_PHASE),
     "receiver_slips": (c_int32, *_HANDLE, *_COUNT),
     "receiver_finish": (c_int64, *_HANDLE, *_ARRAY, *_ARRAY, *_TOTALS, *_PHASE, *_WRITTEN),
+    "receiver_finish_windows": (c_int64, *_HANDLE, *_ARRAY, *_ARRAY, *_ARRAY, *_TOTALS, *_PHASE, *_WRITTEN),
 }
 
 
@@ -337,7 +349,30 @@ class SenderStream(Stream):
             return self._call("finish", byref(self._wrote))
 
 
-class DecoderStream(Stream):
+class CountingStream(Stream):
+    """A stream with windows of the soft decoder. `windows` has the octets of those that the last push or the finish
+    wrote: none unless they are counted."""
+
+    def __init__(self, config, counts):
+        super().__init__(config)
+        self._of, self._array, self.windows = "_windows" if counts else "", bytearray(), b""
+
+    def _windows(self, length):
+        """What a call of `length` octets is passed for its windows."""
+        if not self._of:
+            return ()
+        room = call("window_room", *numbers(self._config), length)
+        if len(self._array) < WINDOW.size * room:
+            self._array = bytearray(WINDOW.size * room)
+        return address(self._array), room
+
+    def _counting(self, name, length, arrays, further):
+        count = self._call(name + self._of, *arrays, *self._windows(length), *further, byref(self._wrote))
+        self.windows = bytes(memoryview(self._array)[: WINDOW.size * self._wrote.windows])
+        return count
+
+
+class DecoderStream(CountingStream):
     KIND = "decoder"
 
     def _room(self, length):
@@ -346,14 +381,15 @@ class DecoderStream(Stream):
     def push(self, octets):
         with self._alone():
             bits = self._room(len(octets))
-            count = self._call("push", octets, len(octets), address(bits), len(bits), byref(self._wrote))
+            arrays = octets, len(octets), address(bits), len(bits)
+            count = self._counting("push", len(octets), arrays, ())
             return bytes(memoryview(bits)[:count])
 
     def finish(self):
         """The bits that are left, and the phase."""
         with self._alone():
             bits, phase = self._room(0), PhaseFields()
-            count = self._call("finish", address(bits), len(bits), byref(phase), byref(self._wrote))
+            count = self._counting("finish", 0, (address(bits), len(bits)), (byref(phase),))
             return bytes(memoryview(bits)[:count]), phase
 
     def phase(self):
@@ -363,14 +399,14 @@ class DecoderStream(Stream):
         return phase
 
 
-class ReceiverStream(Stream):
+class ReceiverStream(CountingStream):
     """Takes at most `most` octets at a push. That and the finish give the octets of the frames, one after the other,
     and those of the reports."""
 
     KIND = "receiver"
 
-    def __init__(self, config, most):
-        super().__init__(config)
+    def __init__(self, config, most, counts):
+        super().__init__(config, counts)
         frames = c_uint64()
         reports = call("receiver_room", *numbers(config), most, byref(frames))
         self._frames, self._reports = bytearray(frames.value), bytearray(REPORT.size * reports)
@@ -383,14 +419,14 @@ class ReceiverStream(Stream):
 
     def push(self, octets):
         with self._alone():
-            self._call("push", octets, len(octets), *self._arrays, byref(self._wrote))
+            self._counting("push", len(octets), (octets, len(octets), *self._arrays), ())
             return self._written()
 
     def finish(self):
         """What is left, the totals and the phase."""
         with self._alone():
             totals, phase = TotalsFields(), PhaseFields()
-            self._call("finish", *self._arrays, byref(totals), byref(phase), byref(self._wrote))
+            self._counting("finish", 0, self._arrays, (byref(totals), byref(phase)))
             return (*self._written(), totals, phase)
 
     def phase(self):

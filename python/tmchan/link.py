@@ -4,6 +4,7 @@ from __future__ import annotations
 from typing import Any, Iterable, Iterator, NamedTuple, Optional, Sequence, Union, overload
 
 from . import library
+from .quality import Quality, quality
 from .samples import Octets
 
 Switch = Union[bool, str]
@@ -24,6 +25,7 @@ class Item(NamedTuple):
     bridged: bool  #: no marker stands there: its place was taken since it directly follows a codeblock
     inverted: bool  #: it was received inverted
     repaired: tuple[Optional[int], ...]  #: for each column how many symbols were wrong, None where it is uncorrectable
+    symbol: int  #: the number of its marker's first symbol among all octets given, those skipped or dropped counted
 
     @property
     def good(self) -> bool:
@@ -50,6 +52,30 @@ class Totals(NamedTuple):
     slips: int  #: before how many windows octets were dropped; 0 where the phase is not followed
 
 
+class Window(NamedTuple):
+    """What is counted of a window of the soft decoder: of the octets of the steps that it keeps, beside the symbols of
+    its best path."""
+
+    symbol: int  #: the number of its first step's first symbol among all octets that were given
+    dropped: int  #: how many octets were dropped before it
+    steps: int  #: how many steps it has
+    kept: int  #: how many of them it keeps, an information bit each
+    metric: int  #: what its best path costs, over all steps
+    octets: int  #: how many octets the kept steps have
+    wrong: int  #: how many of them are nearer to the other symbol
+    distance: int  #: the sum of their distances from the symbols, 0 to 255 each
+    squares: int  #: the sum of the squares of these
+
+    @property
+    def quality(self) -> Quality:
+        """How good its symbols were. Of several windows together tmchan.quality says it."""
+        return quality([self])
+
+
+def _counted(stream: Any) -> list[Window]:
+    return [tuple.__new__(Window, it) for it in library.WINDOW.iter_unpack(stream.windows)]
+
+
 class Received(Sequence):
     """What came out of a piece: a sequence of Item, each made when it is asked for.
 
@@ -67,13 +93,13 @@ class Received(Sequence):
         # (what NamedTuple's own call does besides takes as long as all the rest)
         at, frames, make = 0, self.frames, tuple.__new__
         reports = library.REPORT.iter_unpack(self._reports)
-        for place, length, distance, bridged, inverted, columns, bad, repaired in reports:
+        for place, symbol, _frame, length, distance, bridged, inverted, columns, bad, repaired in reports:
             counts = tuple(repaired[:columns])
             frame: Optional[bytes] = frames[at : at + length] if length else None
             at += length
             if bad:
                 counts = tuple(None if count == 255 else count for count in counts)
-            yield make(Item, (place, frame, distance, bridged == 1, inverted == 1, counts))
+            yield make(Item, (place, frame, distance, bridged == 1, inverted == 1, counts, symbol))
 
     def __add__(self, other: "Received") -> "Received":
         return Received(self.frames + other.frames, self._reports + other._reports)
@@ -91,9 +117,9 @@ class Received(Sequence):
 
     @property
     def table(self):
-        """The reports as a structured array of numpy, with the fields of the header's tmchan_report: place,
-        frame_length (0: it has no frame), distance, bridged, inverted, columns, bad (1: a column is uncorrectable),
-        repaired (255: uncorrectable)."""
+        """The reports as a structured array of numpy, with the fields of the header's tmchan_report: place, symbol,
+        frame (where it begins among the frames of its push), frame_length (0: it has no frame), distance, bridged,
+        inverted, columns, bad (1: a column is uncorrectable), repaired (255: uncorrectable)."""
         import numpy
 
         return numpy.frombuffer(self._reports, numpy.dtype(library.REPORT_FIELDS, align=True))
@@ -161,24 +187,30 @@ class Decoder(_Stream):
     bits, an octet of 0 or 1 for each. They come a window at a time. Without an inner code there are none.
     CCSDS 131.0-B, "Convolutional coding".
 
-    `phase` is None until it is chosen, or where it is given. Raises Closed after finish() or close()."""
+    `phase` is None until it is chosen, or where it is given. `windows` are those that the last push, or the finish,
+    has decoded: none unless windows=True was asked for. Raises Closed after finish() or close()."""
 
     def __init__(self, stream: Any, octets: Octets) -> None:
         super().__init__(stream)
-        self._octets, self._phase = octets, None
+        self._octets, self._phase, self.windows = octets, None, []  # type: ignore[var-annotated]
 
     def push(self, samples: Buffer) -> bytes:
         """The bits that are decided with these samples (docs/PYTHON.md, "Samples")."""
-        return self._bits(self._octets.push(samples))
+        return b"".join(self._bits(self._octets.push(samples)))
 
-    def _bits(self, octets: bytes) -> bytes:
-        return b"".join(map(self._stream.push, pieces(octets)))
+    def _bits(self, octets: bytes) -> list[bytes]:
+        self.windows, found = [], []
+        for piece in pieces(octets):
+            found.append(self._stream.push(piece))
+            self.windows += _counted(self._stream)
+        return found
 
     def finish(self) -> bytes:
         """Closes the decoder. Returns the bits that are left."""
         bits = self._bits(self._octets.finish())
         last, self._phase = self._stream.finish()
-        return bits + last
+        self.windows += _counted(self._stream)
+        return b"".join([*bits, last])
 
     @property
     def phase(self) -> Optional[Phase]:
@@ -193,24 +225,31 @@ class Receiver(_Stream):
     """Takes samples in pieces of any length, and gives the codeblocks that are found: whole batches, of as many as
     `batch` says, and what is left at the finish. CCSDS 131.0-B, "Frame synchronization", "Reed-Solomon coding".
 
-    `totals` is None until the finish, `phase` until it is chosen. Raises Closed after finish() or close()."""
+    `totals` is None until the finish, `phase` until it is chosen. `windows` are those of the soft decoder that the last
+    push, or the finish, has decoded: none unless windows=True was asked for. Raises Closed after finish() or
+    close()."""
 
     def __init__(self, stream: Any, octets: Octets) -> None:
         super().__init__(stream)
         self._octets, self._phase, self.totals = octets, None, None  # type: ignore[var-annotated]
+        self.windows: list[Window] = []
 
     def push(self, samples: Buffer) -> Received:
         """The codeblocks that are handed over with these samples (docs/PYTHON.md, "Samples")."""
         return self._received(self._octets.push(samples))
 
     def _received(self, octets: bytes) -> Received:
-        found = list(map(self._stream.push, pieces(octets)))
+        self.windows, found = [], []
+        for piece in pieces(octets):
+            found.append(self._stream.push(piece))
+            self.windows += _counted(self._stream)
         return Received(*found[0]) if len(found) == 1 else Received(*(b"".join(it) for it in zip(*found)))
 
     def finish(self) -> Received:
         """Closes the receiver. Returns the codeblocks that are left."""
         found = self._received(self._octets.finish())
         frames, reports, totals, self._phase = self._stream.finish()
+        self.windows += _counted(self._stream)
         self.totals = Totals(totals.bits, totals.slips)
         return found + Received(frames, reports)
 
@@ -321,13 +360,15 @@ class Link:
         """Opens a sender. Raises MemoryError."""
         return Sender(library.SenderStream(self._config))
 
-    def decoder(self, scale: Union[None, float, str] = None) -> Decoder:
-        """Opens a soft decoder. `scale` is what signed samples are multiplied by, or "mean". Raises MemoryError."""
-        return Decoder(library.DecoderStream(self._config), self._octets(scale))
+    def decoder(self, scale: Union[None, float, str] = None, windows: bool = False) -> Decoder:
+        """Opens a soft decoder. `scale` is what signed samples are multiplied by, or "mean"; with `windows` its windows
+        are counted, which takes time. Raises MemoryError."""
+        return Decoder(library.DecoderStream(self._config, windows), self._octets(scale))
 
-    def receiver(self, scale: Union[None, float, str] = None) -> Receiver:
-        """Opens a receiver. `scale` is what signed samples are multiplied by, or "mean". Raises MemoryError."""
-        return Receiver(library.ReceiverStream(self._config, PIECE), self._octets(scale))
+    def receiver(self, scale: Union[None, float, str] = None, windows: bool = False) -> Receiver:
+        """Opens a receiver. `scale` is what signed samples are multiplied by, or "mean"; with `windows` those of its
+        soft decoder are counted, which takes time. Raises MemoryError."""
+        return Receiver(library.ReceiverStream(self._config, PIECE, windows), self._octets(scale))
 
     def receive(self, chunks: Union[Buffer, Iterable[Buffer]], scale: Union[None, float, str] = None) -> Iterator[Item]:
         """The codeblocks that are found in the samples of a buffer, or of one buffer after another, in constant

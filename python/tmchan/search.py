@@ -63,11 +63,13 @@ class Found(NamedTuple):
         """Whether there is an outer code."""
         return self.link is not None and self.link.options["code"] != "none"
 
-    def receiver(self, scale: Union[None, float, str] = "mean") -> Reception:
-        """A receiver of the recording: octets as they stand in its file, or arrays, go in, and codeblocks come out."""
+    def receiver(self, scale: Union[None, float, str] = "mean", windows: bool = False) -> Reception:
+        """A receiver of the recording: octets as they stand in its file, or arrays, go in, and codeblocks come out.
+        With `windows` those of its soft decoder are counted."""
         if self.link is None:
             raise ValueError(self.reason)
-        return Reception(self.link, self.form, self.swap, self.nrz_m, scale if FORMS[self.form].size > 1 else None)
+        scale = scale if FORMS[self.form].size > 1 else None
+        return Reception(self.link, self.form, self.swap, self.nrz_m, scale, windows)
 
     def receive(self, chunks: Any, scale: Union[None, float, str] = "mean") -> Iterator[Item]:
         """The codeblocks of the recording, in a buffer, or in one after another."""

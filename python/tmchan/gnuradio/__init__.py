@@ -53,8 +53,9 @@ def _next(link):
 
 class receiver(gr.basic_block):
     """Symbols in; the frames of good codeblocks go out as PDUs at the message port `frames`, each with the metadata
-    place (received bits before its marker), fixed (symbols that were repaired), distance (wrong bits of the marker),
-    bridged and inverted.
+    place (received bits before its marker), symbol (the number of its marker's first symbol among all input; not with
+    nrz_m and an inner code), fixed (symbols that were repaired), distance (wrong bits of the marker), bridged and
+    inverted.
 
     With `every` above 0 it has two outputs besides, of one float for each `every` input items: `rate`, the share of
     wrong symbols in the codewords of the last codeblock, where an uncorrectable one counts with one more than is
@@ -121,6 +122,8 @@ class receiver(gr.basic_block):
                 "bridged": pmt.from_bool(it.bridged),
                 "inverted": pmt.from_bool(it.inverted),
             }
+            if self._receiver.has_symbols:
+                fields["symbol"] = pmt.from_uint64(it.symbol)
             metadata = pmt.make_dict()
             for name, value in fields.items():
                 metadata = pmt.dict_add(metadata, pmt.intern(name), value)
