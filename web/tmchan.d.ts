@@ -46,6 +46,8 @@ export interface Options {
 export interface Item {
     /** How many received bits stand before its marker. */
     place: number;
+    /** The number of its marker's first symbol among all that were given, those skipped or dropped counted. */
+    symbol: number;
     /** Whether each column was repaired. Without an outer code that says nothing of the frame. */
     good: boolean;
     /** How many symbols were repaired. */
@@ -66,6 +68,30 @@ export interface Phase {
     skip: number;
     cost: number;
 }
+
+/** What is counted of a window of the soft decoder; the sums are of the octets of the steps that it keeps. */
+export interface Window {
+    /** The number of its first symbol among all that were given. */
+    readonly symbol: number;
+    /** How many symbols were dropped before it. */
+    readonly dropped: number;
+    readonly steps: number;
+    readonly kept: number;
+    /** What its best path costs, over all steps. */
+    readonly metric: number;
+    readonly octets: number;
+    /** How many of these are nearer to the other symbol than to the path's. */
+    readonly wrong: number;
+    /** The sum of their distances from the path's symbols, and of the squares of these. */
+    readonly distance: number;
+    readonly squares: number;
+    readonly symbolErrorRate: number;
+    /** Es/N0 in dB, in white noise. */
+    readonly esN0: number;
+}
+
+/** Es/N0 in dB of all symbols of several windows. */
+export function esN0(windows: Window[]): number;
 
 /** What all symbols came to. */
 export interface Totals {
@@ -157,8 +183,9 @@ export class Link {
     /** The words of the command line that say the same. */
     readonly words: string[];
     sender(): Sender;
-    decoder(): Decoder;
-    receiver(): Receiver;
+    /** With `windows` it counts the windows of its soft decoder. */
+    decoder(how?: { windows?: boolean }): Decoder;
+    receiver(how?: { windows?: boolean }): Receiver;
     /** The symbols of whole frames, one after the other. */
     send(frames: Uint8Array): Uint8Array;
     /** The decoded bits of all symbols, an octet of 0 or 1 for each. */
@@ -195,6 +222,8 @@ export class Decoder implements Stream {
     close(): void;
     push(symbols: Uint8Array): Uint8Array;
     finish(): Uint8Array;
+    /** Those of the last push, or of the finish; none where they are not counted. */
+    readonly windows: Window[];
     readonly phase: Phase | null;
 }
 
@@ -204,6 +233,8 @@ export class Receiver implements Stream {
     close(): void;
     push(symbols: Uint8Array): Received;
     finish(): Received;
+    /** Those of the last push, or of the finish; none where they are not counted. */
+    readonly windows: Window[];
     readonly phase: Phase | null;
     /** Before how many windows symbols were dropped so far. */
     readonly slips: number;

@@ -365,12 +365,13 @@ export class Link {
         return new Sender(this.#library, this.#config);
     }
 
-    decoder() {
-        return new Decoder(this.#library, this.#config);
+    /** With `windows` it says of each window of the soft decoder how good its symbols are. */
+    decoder({ windows = false } = {}) {
+        return new Decoder(this.#library, this.#config, windows);
     }
 
-    receiver() {
-        return new Receiver(this.#library, this.#config, this.frameLength);
+    receiver({ windows = false } = {}) {
+        return new Receiver(this.#library, this.#config, this.frameLength, windows);
     }
 
     /** The symbols of whole frames, one after the other. */
@@ -525,6 +526,72 @@ class Stream {
     }
 }
 
+/** A stream with a soft decoder, whose windows are counted where that is asked for: `windows` has those of the last push, or of the finish. */
+class Decoding extends Stream {
+    #at = null;
+    #count = 0n;
+    #made = [];
+
+    constructor(kind, library, config, counts) {
+        super(kind, library, config);
+        this.windows = [];
+        if (!counts) return;
+        this.#count = library.ask("window_room", this.config, OPTION_COUNT, BigInt(PIECE));
+        this.#at = this.rooms(STRUCTS.window.size * Number(this.#count));
+    }
+
+    /** Pushes octets, piece by piece. */
+    pieces(octets, take) {
+        this.#made = [];
+        const made = super.pieces(octets, take);
+        this.windows = this.#made;
+        return made;
+    }
+
+    /** Makes a push or a finish with the arrays that it writes, and with that of windows behind them. */
+    fill(name, given, arrays, rest = []) {
+        if (this.#at === null) return this.ask(name, ...given, ...arrays, ...rest, this.written);
+        const answer = this.ask(`${name}_windows`, ...given, ...arrays, this.#at, this.#count, ...rest, this.written);
+        const { size } = STRUCTS.window, { windows } = this.library.fields("written", this.written);
+        for (let k = 0; k < windows; k++) this.#made.push(new Window(this.library.fields("window", this.#at + BigInt(k * size))));
+        return answer;
+    }
+
+    /** Makes the finish. */
+    end(arrays, rest) {
+        this.#made = [];
+        const answer = this.fill("finish", [], arrays, rest);
+        this.windows = this.#made;
+        return answer;
+    }
+}
+
+/** What is counted of a window of the soft decoder: the fields of tmchan_window. */
+export class Window {
+    constructor(fields) {
+        Object.assign(this, fields);
+    }
+
+    /** The rate of symbols that were received nearer to the other one. */
+    get symbolErrorRate() {
+        return this.wrong / this.octets;
+    }
+
+    /** Es/N0 in dB in white noise; docs/GUIDE.md says where it holds. */
+    get esN0() {
+        return esN0([this]);
+    }
+}
+
+/** Es/N0 in dB of all symbols of several windows. */
+export function esN0(windows) {
+    const sum = (name) => windows.reduce((all, it) => all + it[name], 0), octets = sum("octets");
+    if (!octets) return NaN;
+    const mean = sum("distance") / octets, variance = sum("squares") / octets - mean * mean, signal = 127.5 - mean;
+    if (signal <= 0) return -Infinity;
+    return variance > 0 ? 10 * Math.log10((signal * signal) / (2 * variance)) : Infinity;
+}
+
 /** Takes the octets of transfer frames, and gives the symbols of each frame's CADU once it is whole. */
 export class Sender extends Stream {
     constructor(library, config) {
@@ -549,9 +616,9 @@ export class Sender extends Stream {
 }
 
 /** The soft decoder of the convolutional code alone: symbols in, bits out, an octet of 0 or 1 for each. */
-export class Decoder extends Stream {
-    constructor(library, config) {
-        super("decoder", library, config);
+export class Decoder extends Decoding {
+    constructor(library, config, counts) {
+        super("decoder", library, config, counts);
         this.length = library.ask("decoder_room", this.config, OPTION_COUNT, BigInt(PIECE));
         this.bits = this.rooms(Number(this.length));
         this.small = this.rooms(STRUCTS.phase.size);
@@ -559,7 +626,7 @@ export class Decoder extends Stream {
     }
 
     push(symbols) {
-        const push = (size) => this.#written(this.ask("push", this.given, size, this.bits, this.length, this.written));
+        const push = (size) => this.#written(this.fill("push", [this.given, size], [this.bits, this.length]));
         return joined(this.pieces(symbols, push));
     }
 
@@ -569,7 +636,7 @@ export class Decoder extends Stream {
 
     /** Closes it. Returns the bits that are left. */
     finish() {
-        const bits = this.#written(this.ask("finish", this.bits, this.length, this.small, this.written));
+        const bits = this.#written(this.end([this.bits, this.length], [this.small]));
         this.last = phaseOf(this.library, this.small);
         this.release();
         return bits;
@@ -588,9 +655,9 @@ function phaseOf(library, at) {
 }
 
 /** Takes symbols, and gives the codeblocks that are found: whole batches, and what is left at the finish. */
-export class Receiver extends Stream {
-    constructor(library, config, frameLength) {
-        super("receiver", library, config);
+export class Receiver extends Decoding {
+    constructor(library, config, frameLength, counts) {
+        super("receiver", library, config, counts);
         this.frameLength = frameLength;
         this.small = this.rooms(STRUCTS.totals.size + STRUCTS.phase.size);
         this.items = library.ask("receiver_room", this.config, OPTION_COUNT, BigInt(PIECE), this.small);
@@ -604,7 +671,7 @@ export class Receiver extends Stream {
 
     push(symbols) {
         const made = this.pieces(symbols, (size) => {
-            this.ask("push", this.given, size, ...this.#arrays(), this.written);
+            this.fill("push", [this.given, size], this.#arrays());
             return this.#made();
         });
         return received(made, this.frameLength);
@@ -626,7 +693,7 @@ export class Receiver extends Stream {
     /** Closes it. Returns the codeblocks that are left. */
     finish() {
         const phase = this.small + BigInt(STRUCTS.totals.size);
-        this.ask("finish", ...this.#arrays(), this.small, phase, this.written);
+        this.end(this.#arrays(), [this.small, phase]);
         const made = this.#made();
         this.totals = this.library.fields("totals", this.small);
         this.last = phaseOf(this.library, phase);
@@ -672,6 +739,7 @@ export class Received {
             const repaired = get(fields.repaired).slice(0, columns).map((it) => (it === 255 ? null : it));
             yield {
                 place: get(fields.place),
+                symbol: get(fields.symbol),
                 good: !get(fields.bad),
                 fixed: repaired.reduce((sum, it) => sum + (it ?? 0), 0),
                 frame: length ? this.frames.slice(frame, frame + length) : null,
