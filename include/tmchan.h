@@ -4,7 +4,7 @@
  * receiver.
  *
  * The library is proved in Rattle: what each call writes and returns is a clause of it, for every value that can be
- * passed (docs/PROMISES.md, "The C library").
+ * passed (docs/PROMISES.md, "The C library"); but no clause says when TMCHAN_MEMORY comes.
  *
  * What holds of every call
  *
@@ -98,7 +98,7 @@ extern "C" {
  * of them all arrays are as they were, but for those of a receiver's push or finish: after TMCHAN_ROOM the
  * tmchan_written says what stands in them. tmchan_text has what each means. */
 #define TMCHAN_BEYOND (-1)      /* uncorrectable: no codeword is within the repair bound. No mistake of the caller */
-#define TMCHAN_ROOM (-2)        /* the length of an array does not fit those of the others, or the code */
+#define TMCHAN_ROOM (-2)        /* an array is too short, or its length does not fit those of the others, or the code */
 #define TMCHAN_FLAGS (-3)       /* there are not as many flags as symbols */
 #define TMCHAN_COLUMN (-4)      /* the index of the column is not below the depth */
 #define TMCHAN_BAD_CODE (-16)   /* no such code */
@@ -111,7 +111,7 @@ extern "C" {
 #define TMCHAN_CLOSED (-5)      /* the handle is closed, or a stream of another kind is open */
 #define TMCHAN_OPEN (-6)        /* the handle is open already */
 #define TMCHAN_MEMORY (-7)      /* malloc gave no memory */
-#define TMCHAN_BAD_CONFIG (-8)  /* a number behind the options that this library has is not 0 */
+#define TMCHAN_BAD_CONFIG (-8)  /* a number after the options that this library has is not 0 */
 #define TMCHAN_BAD_INNER (-19)
 #define TMCHAN_BAD_TOLERANCE (-22)
 #define TMCHAN_BAD_SOFT (-24)
@@ -130,7 +130,7 @@ extern "C" {
 #define TMCHAN_BAD_RESCAN (-37)
 #define TMCHAN_BAD_BAD (-38)
 
-/* The version of the library that is linked. */
+/* Returns the version of the library that is linked, a number as TMCHAN_VERSION is. */
 uint32_t tmchan_version(void);
 
 /* The octets in which each text has room, with the 0 after it. */
@@ -258,20 +258,20 @@ typedef struct {
  * tmchan_config_check(&config). A program that calls by a pointer, or from another language, passes it itself. */
 #define TMCHAN_CONFIG_LENGTH (sizeof(tmchan_config) / sizeof(uint64_t))
 
-/* Fills in the defaults; of numbers behind the options 0. */
+/* Fills in the defaults, and 0 for numbers after the options that this library has. */
 void tmchan_config_defaults(tmchan_config *config, size_t config_length);
 
-/* Sets the options for a recording from outside, which begins anywhere, has noise before it, loses symbols and turns
- * over, as README's lines have them: start TMCHAN_ANY, phase TMCHAN_FOLLOW, polarity TMCHAN_FIND, tolerance 3, fly 1,
- * verify 0, rescan TMCHAN_ON; and where inner is TMCHAN_RATE_12 keep 128 and ahead 64, else the defaults of these two.
- * So inner is set before. It leaves the other options. */
+/* Sets the options for a real recording, which begins anywhere, has noise before its frames, loses symbols and changes
+ * polarity, as README's lines have them: start TMCHAN_ANY, phase TMCHAN_FOLLOW, polarity TMCHAN_FIND, tolerance 3,
+ * fly 1, verify 0, rescan TMCHAN_ON; and where inner is TMCHAN_RATE_12 keep 128 and ahead 64, else the defaults of
+ * these two. So inner is set before. It leaves the other options. */
 void tmchan_config_recording(tmchan_config *config, size_t config_length);
 
 /* Returns 0; TMCHAN_BAD_CONFIG, or the TMCHAN_BAD_.. of the first option whose value is outside. So do the calls below
  * that list TMCHAN_BAD_... */
 int32_t tmchan_config_check(const tmchan_config *config, size_t config_length);
 
-/* The octets of a transfer frame, 1 to 2,040; TMCHAN_BAD_... */
+/* Returns the octets of a transfer frame, 1 to 2,040; TMCHAN_BAD_... */
 int32_t tmchan_frame_length(const tmchan_config *config, size_t config_length);
 
 #define tmchan_config_defaults(config) (tmchan_config_defaults)(config, TMCHAN_CONFIG_LENGTH)
@@ -304,8 +304,8 @@ typedef struct {
 } tmchan_phase;
 
 /* How much a push or a finish has written to the start of its arrays: reports, octets (of frames, or symbols or bits),
- * and windows (0 but in the calls whose name ends with _windows). Where a call returns a number below
- * 0 all are 0, but at a receiver's TMCHAN_ROOM. */
+ * and windows (0 but in the calls whose name ends with _windows). Where a call returns a number below 0 all are 0, but
+ * at a receiver's TMCHAN_ROOM. */
 typedef struct {
     uint64_t reports, octets, windows;
 } tmchan_written;
@@ -317,8 +317,8 @@ int32_t tmchan_close(tmchan_stream *stream);
  * it is whole: with an inner code an octet for each symbol, 00 and FF (or 80 and 7F in the signed form), and else the
  * octets of the CADU, or with pack = 0 such an octet for each of its bits. */
 
-/* For how many symbols a push of octets_length octets needs room: more than it writes. Returns TMCHAN_BAD_..,
- * TMCHAN_ROOM. */
+/* Returns for how many symbols a push of octets_length octets needs room, which may be more than it writes;
+ * TMCHAN_BAD_.., TMCHAN_ROOM. */
 int64_t tmchan_sender_room(const tmchan_config *config, size_t config_length, size_t octets_length);
 
 /* Opens a sender. Returns 0; TMCHAN_OPEN, TMCHAN_BAD_.., TMCHAN_MEMORY. */
@@ -338,8 +338,8 @@ int64_t tmchan_sender_finish(tmchan_stream *stream, tmchan_written *written);
 
 /* Figures of a window of the soft decoder: how well received octets fit the symbols of the window's best path. A window
  * keeps its first steps, of an information bit each; those after them only settle these. Counted are the octets of the
- * kept steps, so that each octet counts once; none is equally near to both symbols. The rate of wrong symbols and
- * Es/N0 follow from these counts (docs/GUIDE.md, "How good symbols are"). */
+ * kept steps, so that each octet counts once; none is equally near to both symbols. The symbol error rate and Es/N0 are
+ * estimated by these counts (docs/GUIDE.md, "How good symbols are"). */
 typedef struct {
     uint64_t symbol;   /* the number, from 0, of its first step's first symbol among all octets that were given; those
                           that were skipped or dropped are counted */
@@ -353,9 +353,9 @@ typedef struct {
     uint64_t squares;  /* the sum of the squares of these distances */
 } tmchan_window;
 
-/* For how many windows a push of octets_length octets, or fewer, and the finish need room: enough for any decoder and
- * any receiver of this configuration, whatever was pushed before, and so mostly more than are written; 0 where there is
- * no inner code. Returns TMCHAN_BAD_.., TMCHAN_ROOM (of more than 2^40 octets). */
+/* Returns for how many windows a push of octets_length octets, or fewer, and the finish need room: enough for any
+ * decoder and any receiver of this configuration, whatever was pushed before, and so mostly more than are written; 0
+ * where there is no inner code; TMCHAN_BAD_.., TMCHAN_ROOM (of more than 2^40 octets). */
 int64_t tmchan_window_room(const tmchan_config *config, size_t config_length, size_t octets_length);
 
 #define tmchan_window_room(config, octets_length) (tmchan_window_room)(config, TMCHAN_CONFIG_LENGTH, octets_length)
@@ -364,15 +364,15 @@ int64_t tmchan_window_room(const tmchan_config *config, size_t config_length, si
  * each, 0 or 1. With inner = 0 no bit comes. Bits come a window at a time: keep bits once more than keep + ahead
  * steps are there. */
 
-/* For how many bits a push of octets_length octets needs room, or with 0 the finish. Returns TMCHAN_BAD_..,
+/* Returns for how many bits a push of octets_length octets needs room, or with 0 the finish; TMCHAN_BAD_..,
  * TMCHAN_ROOM. */
 int64_t tmchan_decoder_room(const tmchan_config *config, size_t config_length, size_t octets_length);
 
 /* Opens a decoder. Returns 0; TMCHAN_OPEN, TMCHAN_BAD_.., TMCHAN_MEMORY. */
 int32_t tmchan_decoder_open(tmchan_stream *stream, const tmchan_config *config, size_t config_length);
 
-/* Takes the next soft octets. Returns how many bits were written; TMCHAN_CLOSED, TMCHAN_ROOM: nothing was taken then.
- * */
+/* Takes the next soft octets. Returns how many bits were written; TMCHAN_CLOSED, TMCHAN_ROOM: nothing was taken
+ * then. */
 int64_t tmchan_decoder_push(tmchan_stream *stream, const uint8_t *octets, size_t octets_length, uint8_t *bits,
                             size_t bits_length, tmchan_written *written);
 
@@ -412,8 +412,7 @@ typedef struct {
     uint64_t frame_length; /* the octets of its frame; 0 where a column is uncorrectable and bad is TMCHAN_DROP: it has
                               none then */
     uint8_t distance;      /* how many of the marker's 32 bits are wrong, in the codeblock's polarity */
-    uint8_t bridged;       /* 1: no marker stands there, and its place was taken since it directly follows a codeblock
-                              */
+    uint8_t bridged;       /* 1: no marker stands there; its place was taken since it directly follows a codeblock */
     uint8_t inverted;      /* 1: the codeblock was received inverted */
     uint8_t columns;       /* how many columns it has: the depth, or 0 with no code */
     uint8_t bad;           /* 1: a column is uncorrectable */
@@ -421,10 +420,10 @@ typedef struct {
                               nothing is said */
 } tmchan_report;
 
-/* For how many reports a push of octets_length octets, or fewer, and the finish need room: enough for any receiver of
- * this configuration, whatever was pushed before, and so mostly more than are written; with rescan nearly twice as many
- * as without, since codeblocks may lie inside others then. For how many octets of frames, as many frames, it writes to
- * *frames_length.
+/* Says for how many reports a push of octets_length octets, or fewer, and the finish need room: enough for any receiver
+ * of this configuration, whatever was pushed before, and so mostly more than are written; with rescan nearly twice as
+ * many as without, since codeblocks may lie inside others then. To *frames_length it writes the octets of as many
+ * frames.
  *
  * Returns the number of reports; TMCHAN_BAD_.., TMCHAN_ROOM (of more than 2^40 octets): *frames_length is as it was
  * then. */
@@ -465,7 +464,7 @@ typedef struct {
  * searched; 0 where the phase is not followed. Returns 0; TMCHAN_CLOSED. */
 int32_t tmchan_receiver_slips(tmchan_stream *stream, uint64_t *slips);
 
-/* Writes the codeblocks that are left in the same way, gives what all octets came to and the phase, and closes the
+/* Writes the codeblocks that are left as a push does, gives what all octets came to and the phase, and closes the
  * receiver. Returns how many codeblocks these are; TMCHAN_CLOSED; TMCHAN_ROOM, as of a push: the totals and the phase
  * are given, and the receiver is closed, all the same. */
 int64_t tmchan_receiver_finish(tmchan_stream *stream, uint8_t *frames, size_t frames_length, tmchan_report *reports,
