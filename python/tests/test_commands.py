@@ -68,7 +68,14 @@ def fields_of(kind):
     return dict(re.findall(r"^\| `(\w+)` \| (\w+)", text, re.M))
 
 
-TYPES = {"number": (int,), "real": (float,), "text": (str,), "truth": (bool,), "list": (list,), "object": (dict,)}
+TYPES = {
+    "integer": (int,),
+    "number": (float,),
+    "string": (str,),
+    "boolean": (bool,),
+    "array": (list,),
+    "object": (dict,),
+}
 
 
 def test_json_lines(recording, tmp_path):
