@@ -37,7 +37,7 @@ export async function run(module, words, read, write) {
     }
 }
 
-/** The same over octets in memory. Returns the status, the output and the notes, which are text. */
+/** Runs the program over octets in memory. Returns the status, the output and the notes, which are text. */
 export async function runOn(module, words, input) {
     const written = { 1: [], 2: [] };
     let at = 0;

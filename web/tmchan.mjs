@@ -173,7 +173,7 @@ export class Library {
         }
     }
 
-    /** The same, where what is below 0 is thrown as what it stands for. */
+    /** Makes a call, and throws what a number below 0 stands for. */
     ask(name, ...given) {
         const answer = this.call(name, ...given), number = Number(answer);
         if (number >= 0) return answer;
@@ -782,7 +782,7 @@ export class Search {
         return this.#find("search_bits", array);
     }
 
-    /** The same of the bits of octets. */
+    /** The places that are found with the next octets, of eight bits each. */
     octets(array) {
         return this.#find("search_octets", array);
     }

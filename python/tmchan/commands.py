@@ -594,7 +594,7 @@ def find_arguments() -> argparse.ArgumentParser:
 
 
 def program_line(found: Found, name: str, start: int) -> str:
-    """The same by the program, where it reads this form by itself."""
+    """The program's command line, where it reads this form by itself, else no text."""
     link = found.link
     if link is None or found.swap or found.nrz_m or found.form not in ("u8", "i8", "packed"):
         return ""

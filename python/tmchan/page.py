@@ -11,7 +11,7 @@ from typing import Any, Callable, Iterator, Optional
 from .link import Item, Link, Totals, Window
 from .quality import Counts, quality_of
 
-# At most so many stretches; on a telephone a quarter of them is drawn.
+# The most stretches; on a telephone a quarter of them is drawn.
 MOST = 512
 # Symbols of a stretch at first.
 FINEST = 256
@@ -67,7 +67,7 @@ class Stretches:
         self.size, self.all = 2 * self.size, self.all[::2]
 
     def coarse(self, size: int, most: int) -> "Stretches":
-        """The same in stretches of at least so many symbols, and at most so many of them."""
+        """These in stretches of at least `size` symbols, and at most `most` of them."""
         made = Stretches()
         made.size = self.size
         while made.size < size or (len(self.all) - 1) * self.size // made.size >= most:

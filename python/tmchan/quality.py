@@ -132,8 +132,8 @@ def sent(mean: float, power: float, measured: tuple[float, ...]) -> Optional[flo
 
 
 def least(wrong: int, octets: int, measured: tuple[float, ...]) -> float:
-    """The Es/N0 that white noise has at least where so many symbols are wrong, 39 of 40 times: by what was measured of
-    symbols that are all cut, where more are wrong than at the end of the table."""
+    """The Es/N0 that white noise has at least where `wrong` of `octets` symbols are wrong, 39 of 40 times: by what was
+    measured of symbols that are all cut, where more are wrong than at the end of the table."""
     share = (wrong + 2 * math.sqrt(wrong + 1) + 2) / octets
     if share > measured[0]:
         return -math.inf
