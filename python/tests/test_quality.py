@@ -5,7 +5,7 @@ import pytest
 from links import frames, levels, tmchan, windows_of
 
 RATES = ("1/2", "2/3", "3/4", "5/6", "7/8")
-# Windows are the default, 8,192 steps; so many octets of frames are more than ten of them.
+# Windows are the default, 8,192 steps: the frames have more than ten of them.
 SIZE = 12_000
 
 
