@@ -96,11 +96,12 @@ static void finish_each(const tmchan_config *config, const uint8_t *given, size_
  * nothing then; a receiver writes the first ones, and takes all. */
 static void windows_each(const tmchan_config *config, const uint8_t *given, size_t given_length) {
     const size_t most = tmchan_window_room(config, given_length), bits_length = tmchan_decoder_room(config, given_length);
+    const size_t left = tmchan_window_room(config, 0); /* for the finish */
     uint64_t frames_length, count = 0;
     const size_t reports_length = tmchan_receiver_room(config, given_length, &frames_length);
     uint8_t *bits = guarded(bits_length), *frames = guarded(frames_length);
     tmchan_report *reports = guarded(reports_length * sizeof *reports);
-    tmchan_window *wanted = guarded(most * sizeof *wanted), last[2];
+    tmchan_window *wanted = guarded(most * sizeof *wanted), *last = guarded(left * sizeof *last);
     for (size_t length = most + 2; length-- > 0;) {
         tmchan_stream decoder = {0}, receiver = {0};
         tmchan_totals totals;
@@ -119,9 +120,9 @@ static void windows_each(const tmchan_config *config, const uint8_t *given, size
             expect(!memcmp(windows, wanted, count * sizeof *windows) && is_kept(windows, count * sizeof *windows, length * sizeof *windows),
                    "the windows of a decoder", length);
         }
-        answer = tmchan_decoder_finish_windows(&decoder, bits, bits_length, last, 1, &phase, &said);
+        answer = tmchan_decoder_finish_windows(&decoder, bits, bits_length, last, left - 1, &phase, &said);
         expect(answer == TMCHAN_ROOM && is_written(&said, 0, 0), "the last window with less room", length);
-        answer = tmchan_decoder_finish_windows(&decoder, bits, bits_length, last, 2, &phase, &said);
+        answer = tmchan_decoder_finish_windows(&decoder, bits, bits_length, last, left, &phase, &said);
         expect(answer > 0 && said.windows == 1 && last[0].kept == (uint64_t)answer, "the last window", length);
         memset(windows, KEPT, length * sizeof *windows + GUARD);
         answer = tmchan_receiver_push_windows(&receiver, given, given_length, frames, frames_length, reports, reports_length, windows, length, &said);
@@ -135,7 +136,7 @@ static void windows_each(const tmchan_config *config, const uint8_t *given, size
         free(windows);
     }
     expect(count > 1, "several windows", 0);
-    free(bits), free(frames), free(reports), free(wanted);
+    free(bits), free(frames), free(reports), free(wanted), free(last);
 }
 
 /* A receiver, of whose codeblocks the second is uncorrectable: all are due at its finish, or with the octets where a batch is of one. At
