@@ -37,6 +37,15 @@ def run_program(words, given):
     return ran.stdout, ran.stderr.decode(), ran.returncode
 
 
+def run(*words, given=None, output=subprocess.PIPE):
+    """Status of a command of the package in a process of its own, what it writes, and what it says."""
+    environment = {**os.environ, "PYTHONPATH": os.pathsep.join(sys.path)}
+    ran = subprocess.run(
+        [sys.executable, "-m", "tmchan", *words], input=given, stdout=output, stderr=subprocess.PIPE, env=environment
+    )
+    return ran.returncode, ran.stdout, ran.stderr.decode()
+
+
 def lines_of(items, link, totals, phase):
     """What the program reports of the items."""
     shown = [f"phase {phase.skip} cost {phase.cost}"] if phase else []
@@ -138,6 +147,7 @@ __all__ = [
     "received",
     "right",
     "rows",
+    "run",
     "run_program",
     "soft",
     "tmchan",

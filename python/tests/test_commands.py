@@ -7,19 +7,11 @@ import subprocess
 import sys
 
 import pytest
-from links import PROGRAM, TOP, frames, levels, noise, soft, tmchan
+from links import PROGRAM, TOP, frames, levels, noise, run, soft, tmchan
 
 PYTHON = os.path.join(TOP, "docs", "PYTHON.md")
 KNOWN = ["--input", "u8", "--depth", "2", "--length", "100"]
 LINK, SENT = tmchan.Link(depth=2, length=100), frames(30, 100)
-
-
-def run(*words, given=None, output=subprocess.PIPE):
-    environment = {**os.environ, "PYTHONPATH": os.pathsep.join(sys.path)}
-    ran = subprocess.run(
-        [sys.executable, "-m", "tmchan", *words], input=given, stdout=output, stderr=subprocess.PIPE, env=environment
-    )
-    return ran.returncode, ran.stdout, ran.stderr.decode()
 
 
 @pytest.fixture

@@ -215,25 +215,3 @@ def test_nothing_to_find():
         tmchan.find(b"", tolerance=2)
     with pytest.raises(tmchan.Refused, match="depth"):
         tmchan.find(b"", depth=7)
-
-
-@long
-@pytest.mark.parametrize("rate, decibels", [("1/2", 2.4), ("3/4", 4.2), ("7/8", 5)])
-def test_heads_of_noise_of_any_length(rate, decibels):
-    """Ten frames at 6 dB of Eb/N0."""
-    link = tmchan.Link.recording(depth=5, inner=rate)
-    sent = frames(10, 1115)
-    floats = levels(link.send(b"".join(sent)), decibels)
-    for k in range(16):
-        given = numpy.concatenate([noise(20_000 + k, k), floats])
-        came, strange = right(link.receive(soft(given)), sent)
-        assert came >= 9 and strange == 0
-    assert (
-        right(
-            check(
-                soft(given).tobytes(), sent, 9, "--input u8 --depth 5" + f" --inner {rate}" * (rate != "1/2")
-            ).receive(soft(given).tobytes()),
-            sent,
-        )[0]
-        >= 9
-    )

@@ -6,8 +6,7 @@ import re
 import xml.etree.ElementTree
 
 import pytest
-from links import frames, levels, noise, tmchan
-from test_commands import run
+from links import frames, levels, noise, run, tmchan
 
 from tmchan import commands
 from tmchan.link import Item, Totals, Window
