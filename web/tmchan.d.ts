@@ -85,13 +85,22 @@ export interface Window {
     /** The sum of their distances from the path's symbols, and of the squares of these. */
     readonly distance: number;
     readonly squares: number;
-    readonly symbolErrorRate: number;
-    /** Es/N0 in dB, in white noise. */
-    readonly esN0: number;
+    /** How good its symbols are. */
+    readonly quality: Quality;
 }
 
-/** Es/N0 in dB of all symbols of several windows. */
-export function esN0(windows: Window[]): number;
+/** What windows say of the symbols; both numbers are NaN where there are none. */
+export interface Quality {
+    /** The share of symbols that were received nearer to the other one. */
+    symbolErrorRate: number;
+    /** Es/N0 in dB, in white noise; -Infinity where it is below -2 dB, or nothing is known of it. */
+    esN0: number;
+    /** Most symbols are cut at 00 and FF, or have no noise: Es/N0 is `esN0` or greater. */
+    atLeast: boolean;
+}
+
+/** How good the symbols of several windows were, all together. */
+export function quality(windows: Iterable<Pick<Window, "kept" | "octets" | "wrong" | "distance" | "squares">>): Quality;
 
 /** What all symbols came to. */
 export interface Totals {

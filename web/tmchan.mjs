@@ -2,6 +2,7 @@
 // means. Nothing is fetched but the module beside this file, and nothing is sent.
 import { CALLS, NUMBERS, STRUCTS, VERSION } from "./layout.mjs";
 import { joined } from "./octets.mjs";
+import { quality } from "./quality.mjs";
 
 const UNSET = 2n ** 64n - 1n;
 // Outside of every list and range: what stands for a word that an option does not have.
@@ -535,9 +536,9 @@ class Decoding extends Stream {
     constructor(kind, library, config, counts) {
         super(kind, library, config);
         this.windows = [];
-        if (!counts) return;
-        this.#count = library.ask("window_room", this.config, OPTION_COUNT, BigInt(PIECE));
-        this.#at = this.rooms(STRUCTS.window.size * Number(this.#count));
+        if (counts) this.#count = library.ask("window_room", this.config, OPTION_COUNT, BigInt(PIECE));
+        // (there are none without an inner code)
+        if (this.#count) this.#at = this.rooms(STRUCTS.window.size * Number(this.#count));
     }
 
     /** Pushes octets, piece by piece. */
@@ -553,7 +554,8 @@ class Decoding extends Stream {
         if (this.#at === null) return this.ask(name, ...given, ...arrays, ...rest, this.written);
         const answer = this.ask(`${name}_windows`, ...given, ...arrays, this.#at, this.#count, ...rest, this.written);
         const { size } = STRUCTS.window, { windows } = this.library.fields("written", this.written);
-        for (let k = 0; k < windows; k++) this.#made.push(new Window(this.library.fields("window", this.#at + BigInt(k * size))));
+        const view = this.library.view(this.#at, size * windows);
+        for (let k = 0; k < windows; k++) this.#made.push(new Window(view, k * size));
         return answer;
     }
 
@@ -568,29 +570,17 @@ class Decoding extends Stream {
 
 /** What is counted of a window of the soft decoder: the fields of tmchan_window. */
 export class Window {
-    constructor(fields) {
-        Object.assign(this, fields);
+    constructor(view, at) {
+        for (const [name, place] of WINDOW) this[name] = Number(view.getBigUint64(at + place, true));
     }
 
-    /** The rate of symbols that were received nearer to the other one. */
-    get symbolErrorRate() {
-        return this.wrong / this.octets;
-    }
-
-    /** Es/N0 in dB in white noise; docs/GUIDE.md says where it holds. */
-    get esN0() {
-        return esN0([this]);
+    /** How good its symbols are. */
+    get quality() {
+        return quality([this]);
     }
 }
 
-/** Es/N0 in dB of all symbols of several windows. */
-export function esN0(windows) {
-    const sum = (name) => windows.reduce((all, it) => all + it[name], 0), octets = sum("octets");
-    if (!octets) return NaN;
-    const mean = sum("distance") / octets, variance = sum("squares") / octets - mean * mean, signal = 127.5 - mean;
-    if (signal <= 0) return -Infinity;
-    return variance > 0 ? 10 * Math.log10((signal * signal) / (2 * variance)) : Infinity;
-}
+const WINDOW = Object.entries(STRUCTS.window.fields).map(([name, [place]]) => [name, place]);
 
 /** Takes the octets of transfer frames, and gives the symbols of each frame's CADU once it is whole. */
 export class Sender extends Stream {
@@ -810,4 +800,4 @@ export function line(item, index) {
     return `frame ${index} at ${item.place} ${marker} ${words}`;
 }
 
-export { NUMBERS, STRUCTS };
+export { NUMBERS, STRUCTS, quality };

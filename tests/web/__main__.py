@@ -20,6 +20,7 @@ sys.path.insert(0, str(pathlib.Path(__file__).resolve().parent))
 
 import modules  # noqa: E402, F401
 import page  # noqa: E402, F401
+import passes  # noqa: E402, F401
 from browser import Browser, Server  # noqa: E402
 from shared import PAGE, TESTS, TOP, Room  # noqa: E402
 

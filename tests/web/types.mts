@@ -1,5 +1,5 @@
 // What is written over tmchan.d.ts, and what it has to refuse.
-import { load, line, esN0, Refused, OPTIONS, type Item } from "./tmchan.mjs";
+import { load, line, quality, Refused, OPTIONS, type Item } from "./tmchan.mjs";
 
 const library = await load();
 const link = library.link({ code: "rs16", depth: 5, inner: "1/2", length: null, randomize: true });
@@ -14,7 +14,8 @@ receiver.finish();
 console.log(receiver.totals?.bits, receiver.phase?.skip, receiver.slips);
 const counting = link.decoder({ windows: true });
 counting.push(symbols);
-console.log(counting.windows[0].symbolErrorRate, esN0(counting.windows));
+const { symbolErrorRate, esN0, atLeast } = quality(counting.windows);
+console.log(symbolErrorRate, esN0.toFixed(1), atLeast, counting.windows[0].quality.esN0);
 export const { word, wrong } = library.rsDecode(new Uint8Array(255), { erased: [3], basis: "dual", repair: 3 });
 try {
     library.link({ depth: 6 });
