@@ -1,5 +1,7 @@
 // Figures as SVG, which the page shows and the page of a pass keeps. They are text: their colours are page.css's, by classes.
-import { escaped, short } from "./text.mjs";
+import { LISTED } from "./pass.mjs";
+import { qualityOf } from "./quality.mjs";
+import { counted, escaped, short } from "./text.mjs";
 
 const WIDTH = 480, LEFT = 52, RIGHT = 12, TOP = 12, BOTTOM = 34;
 
@@ -34,108 +36,242 @@ function drawing(height, label, inner) {
 
 const across = (share) => LEFT + share * (WIDTH - LEFT - RIGHT);
 
-/** The axes of a figure, from 0 to the most of y, and what places its points. `along` is what the axis of x ends with. */
-function plot({ height = 200, most, along }) {
-    const top = ceiling(most), bottom = height - BOTTOM, y = (value) => bottom - (value / top) * (bottom - TOP);
-    const ticks = top <= 5 ? Array.from({ length: top + 1 }, (_, k) => k) : [0, top / 4, top / 2, (3 * top) / 4, top];
-    const rows = ticks.map((it) => horizontal("grid", y(it)) + text(LEFT - 6, y(it) + 5, "end", short(it)));
+/** The axes of a figure, and what places its points: `ticks` are values with a text each, `share` is how far up a value stands, from 0
+ * to 1, and `along` is what the axis of x ends with. */
+function plot({ height = 200, ticks, share, along }) {
+    const bottom = height - BOTTOM, y = (value) => bottom - share(value) * (bottom - TOP);
+    const rows = ticks.map(([it, said]) => horizontal("grid", y(it)) + text(LEFT - 6, y(it) + 5, "end", said));
     return { y, height, axes: rows.join("") + axis(bottom, height - 14, along) };
+}
+
+/** The axes of a figure whose values are counts, from 0 to the most. */
+function counting({ height, most, along }) {
+    const top = ceiling(most), values = top <= 5 ? Array.from({ length: top + 1 }, (_, k) => k) : [0, 1, 2, 3, 4].map((k) => (k * top) / 4);
+    return plot({ height, along, ticks: values.map((it) => [it, short(it)]), share: (value) => value / top });
 }
 
 const horizontal = (kind, y) => line(kind, [across(0), y], [across(1), y]);
 const axis = (at, below, along) =>
     horizontal("axis", at) + text(across(0), below, "start", "0") + text(across(1), below, "end", along);
 
-/** Bars that stand on one another: of each part the values by name. */
-function stacked(parts, kinds, { label, along, height: wanted }) {
-    const most = Math.max(1, ...parts.map((it) => kinds.reduce((sum, [name]) => sum + it[name], 0)));
-    const { y, axes, height } = plot({ height: wanted, most, along });
-    const width = across(1 / parts.length) - across(0), between = width > 4 ? 1 : 0;
-    const bars = parts.map((part, k) => {
-        let below = 0;
-        return kinds.map(([name, kind]) => {
-            const from = below;
-            below += part[name];
-            return part[name] ? box(kind, across(k / parts.length), y(below), width - between, y(from) - y(below)) : "";
-        }).join("");
-    });
-    return drawing(height, label, axes + bars.join(""));
+const path = (kind, steps) => (steps.length ? `<path class="${kind}" d="${steps.join("")}"/>` : "");
+const at = (x, y) => `M${round(x)} ${round(y)}`;
+const block = (x, y, width, height) => `${at(x, y)}h${round(width)}v${round(height)}h${round(-width)}z`;
+
+/** What stands in stretches, in their order. */
+class Along {
+    constructor({ size, all }) {
+        this.all = all;
+        this.text = `symbol ${short(size * all.length)}`;
+        this.sentence = `In stretches of ${counted(size, "symbol")}.`;
+        this.width = across(1 / all.length) - across(0);
+    }
+
+    /** Bars on one another: of each stretch the values by name. */
+    bars(y, kinds) {
+        const below = this.all.map(() => 0), width = this.width > 4 ? this.width - 1 : this.width;
+        return kinds.map(([name, kind]) => path(kind, this.all.flatMap((it, k) => {
+            if (!it[name]) return [];
+            const from = y(below[k]), to = y((below[k] += it[name]));
+            return [block(across(k / this.all.length), to, width, from - to)];
+        }))).join("");
+    }
+
+    /** The values that are there, null where none is, as [x, y]. */
+    #points(y, values) {
+        return values.flatMap((it, k) => (it === null ? [] : [[across((k + 0.5) / values.length), y(it)]]));
+    }
+
+    /** A line through the values, with a gap where two stretches in a row have none; of one by itself a short one. */
+    line(y, values) {
+        const runs = [];
+        let before = -Infinity;
+        values.forEach((it, k) => {
+            if (it === null) return;
+            if (k - before > 2) runs.push([]);
+            runs.at(-1).push([across((k + 0.5) / values.length), y(it)]);
+            before = k;
+        });
+        return runs.map((it) => (it.length > 1 ? line("mean", ...it) : path("mean", [`${at(it[0][0] - 2, it[0][1])}h4`]))).join("");
+    }
+
+    /** A short dash at each value. */
+    dashes(y, values) {
+        return path("most", this.#points(y, values).map(([x, y]) => `${at(x - 2, y)}h4`));
+    }
+
+    /** A triangle at each value, that points up (-1) or down (1). */
+    triangles(y, values, way) {
+        return path("least", this.#points(y, values).map(([x, y]) => `${at(x - 3, y - 2 * way)}h6l-3 ${5 * way}z`));
+    }
 }
 
-/** What came over the recording. */
-function framesFigure({ parts, good, bad, missing }, along) {
-    const clean = parts.reduce((sum, it) => sum + it.clean, 0);
-    const kinds = [["clean", "good"], ["repaired", "repaired"], ["bad", "bad"], ["missing", "missing"]];
-    const label = `Frames over the recording: ${clean} with nothing to repair, ${good - clean} repaired, ${bad} uncorrectable, `
-        + `room for ${missing} more`;
-    const colours = [["good", "nothing to repair"], ["repaired", "repaired"], ["bad", "uncorrectable"],
-        ["missing", "none found, with room for one"]];
+/** How many codeblocks came in each stretch. */
+function codeblocksFigure({ codeblocks, isCoded, rows }) {
+    const along = new Along(codeblocks), kinds = isCoded ? ["clean", "repaired", "bad", "missing"] : ["clean", "missing"];
+    const most = Math.max(1, ...along.all.map((it) => kinds.reduce((sum, name) => sum + it[name], 0)));
+    const { y, axes, height } = counting({ most, along: along.text });
+    const colours = [["good", isCoded ? "good" : "found"], ["repaired", "good, symbols repaired"], ["bad", "uncorrectable"],
+        ["missing", "missing, by the room in gaps"]];
+    const shown = { clean: "good", repaired: "repaired", bad: "bad", missing: "missing" };
+    const label = `Codeblocks along the recording: ${rows.slice(0, isCoded ? 5 : 2).map((it) => it.join(": ")).join("; ")}`;
     return {
-        title: "Frames over the recording",
-        svg: stacked(parts, kinds, { label, along }) + legend(colours),
-        sentence: parts.length === 1 ? "All codeblocks of the recording." : `Codeblocks in each of ${parts.length} parts of the recording.`,
+        title: "Codeblocks",
+        drawing: drawing(height, label, axes + along.bars(y, kinds.map((name) => [name, shown[name]])))
+            + legend(isCoded ? colours : [colours[0], colours[3]]),
+        sentence: along.sentence,
     };
+}
+
+/** A mean and a most of each stretch. */
+function meansFigure({ along, title, means, most, bound, sentence, label }) {
+    const highest = Math.max(0, ...most.filter((it) => it !== null));
+    const { y, axes, height } = counting({ most: Math.max(highest, bound ?? 2), along: along.text });
+    const limit = bound ? horizontal("bound", y(bound)) : "";
+    return { title, drawing: drawing(height, `${label}: at most ${highest}`, axes + along.dashes(y, most) + along.line(y, means) + limit),
+        sentence };
 }
 
 /** How near codewords came to what can be repaired. */
-function repairsFigure({ parts, bound }, along) {
-    const most = Math.max(...parts.map((it) => it.most)), size = parts.length, width = across(1 / size) - across(0);
-    const { y, axes, height } = plot({ most: Math.max(most, bound, 1), along });
-    const bars = parts.map((it, k) => (it.most ? box("repaired half", across(k / size), y(it.most), width, y(0) - y(it.most)) : ""));
-    // A line for each run of parts that have codewords; of a run of one, a short one.
-    const runs = [[]];
-    parts.forEach((it, k) => (it.words ? runs.at(-1).push([across((k + 0.5) / size), y(it.fixed / it.words)]) : runs.push([])));
-    const ends = ([[x, height]]) => [[x - 2, height], [x + 2, height]];
-    const means = runs.filter((it) => it.length).map((it) => line("mean", ...(it.length > 1 ? it : ends(it))));
+function repairedFigure({ drawn, bound }) {
+    return meansFigure({
+        along: new Along(drawn),
+        title: "Repaired symbols",
+        label: "Repaired symbols of a codeword",
+        means: drawn.all.map((it) => (it.words ? it.fixed / it.words : null)),
+        most: drawn.all.map((it) => (it.words ? it.mostFixed : null)),
+        bound,
+        sentence: `Of a codeword, in the mean (line) and at most (dashes). Up to ${bound} are repaired.`,
+    });
+}
+
+function esN0Figure({ drawn }) {
+    const along = new Along(drawn), found = drawn.all.map((it) => qualityOf(it.counts));
+    const some = (isLeast) => found.map((it) => (Number.isFinite(it.esN0) && it.atLeast === isLeast ? it.esN0 : null));
+    const told = some(false), least = some(true), values = [...told, ...least].filter((it) => it !== null);
+    const low = Math.min(0, ...values.map(Math.floor)), high = Math.max(10, ...values.map((it) => Math.ceil(it) + 1));
+    const step = high - low > 14 ? 5 : 2, first = Math.ceil(low / step) * step;
+    const ticks = Array.from({ length: Math.floor((high - first) / step) + 1 }, (_, k) => [first + step * k, String(first + step * k)]);
+    const { y, axes, height } = plot({ along: along.text, ticks, share: (value) => (value - low) / (high - low) });
+    const range = values.length ? `${Math.min(...values).toFixed(1)} to ${Math.max(...values).toFixed(1)} dB` : "nowhere told";
     return {
-        title: "Symbols repaired in a codeword",
-        svg: drawing(height, `Symbols repaired in a codeword: at most ${most}, of ${bound} that can be`,
-            axes + bars.join("") + means.join("") + horizontal("bound", y(bound))),
-        sentence: `The most (bars) and the mean (line) in each part; at most ${bound} can be (dashed). Uncorrectable codewords are not `
-            + `in it.`,
+        title: "Es/N0",
+        drawing: drawing(height, `Es/N0 along the recording: ${range}`, axes + along.line(y, told) + along.triangles(y, least, -1)),
+        sentence: "In dB, as for white noise, by the windows of the soft decoder. A triangle: at least so much, since most symbols are "
+            + "cut at 0 and 255. Where there is no point, there was no signal that tells it.",
     };
 }
 
-function markersFigure({ parts, bridged }, along) {
-    const label = "The most wrong bits of a marker in each part of the recording";
+function errorsFigure({ drawn }) {
+    const along = new Along(drawn), counts = drawn.all.map(({ counts }) => (counts.octets ? counts : null));
+    const rates = counts.map((it) => (it?.wrong ? it.wrong / it.octets : null));
+    const below = counts.map((it) => (it && !it.wrong ? 1 / it.octets : null));
+    const values = [...rates, ...below].filter((it) => it !== null), log = Math.log10;
+    const low = Math.floor(log(Math.min(1e-3, ...values))), high = log(0.5);
+    const ticks = Array.from({ length: -low }, (_, k) => [10 ** (low + k), low + k < -2 ? `1e${low + k}` : String(10 ** (low + k))]);
+    const { y, axes, height } = plot({ along: along.text, ticks, share: (value) => (log(value) - low) / (high - low) });
+    const most = Math.max(0, ...rates.filter((it) => it !== null));
     return {
+        title: "Symbol error rate",
+        drawing: drawing(height, `Symbol error rate along the recording: at most ${Number(most.toPrecision(2))}`,
+            axes + along.line(y, rates) + along.triangles(y, below, 1)),
+        sentence: "The share of symbols that were received nearer to the other one, before decoding. A triangle: none, that is fewer "
+            + "than one of as many.",
+    };
+}
+
+function eventsFigure({ drawn, totals, gapCount, flipCount }) {
+    const { all, text: end, width } = new Along(drawn), high = 24;
+    const rows = [["slips", "bad"], ["flips", "repaired"], ["gaps", "missing"]].map(([name, kind], row) => {
+        const mark = (k) => block(across(k / all.length), 10 + high * row, Math.max(2, width), 16);
+        const marks = path(kind, all.flatMap((it, k) => (it[name] ? [mark(k)] : [])));
+        return text(LEFT - 6, 23 + high * row, "end", name) + horizontal("grid", 18 + high * row) + marks;
+    });
+    const said = [counted(totals.slips, "slip"), counted(flipCount, "flip"), counted(gapCount, "gap")].join(", ");
+    return {
+        title: "Slips, flips and gaps",
+        drawing: drawing(120, `Along the recording ${said}`, rows.join("") + axis(86, 106, end)),
+        sentence: "Symbols lost or doubled, the polarity turned over, and no codeblock where one would follow.",
+    };
+}
+
+function markersFigure({ drawn }) {
+    return meansFigure({
+        along: new Along(drawn),
         title: "Wrong bits of markers",
-        svg: stacked(parts, [["distance", "marker"]], { label, along, height: 160 }),
-        sentence: `The most in each part, of 32; places taken without a marker (${bridged}) are not in it.`,
-    };
+        label: "Wrong bits of markers, of 32",
+        means: drawn.all.map((it) => (it.markers ? it.wrongBits / it.markers : null)),
+        most: drawn.all.map((it) => (it.markers ? it.mostWrongBits : null)),
+        sentence: "Of 32, in the mean (line) and at most (dashes).",
+    });
 }
 
-function eventsFigure({ bits, gaps, slips, flips, totals }, along) {
-    const count = totals?.slips ?? 0, high = 24;
-    const mark = (kind, row, from, to) =>
-        box(kind, across(from / bits), 10 + high * row, Math.max(2, across(to / bits) - across(from / bits)), 16);
-    const rows = ["gaps", "slips", "flips"].map((name, row) =>
-        text(LEFT - 6, 23 + high * row, "end", name) + horizontal("grid", 18 + high * row));
-    const marks = [
-        ...gaps.map((it) => mark("missing", 0, it.place, it.place + it.bits)),
-        ...slips.map((it) => mark("repaired", 1, it, it)),
-        ...flips.map((it) => mark("marker", 2, it, it)),
+const table = (rows) => `<table><tbody>${rows.map(([what, it]) =>
+    `<tr><th scope="row" class="text">${escaped(what)}</th><td>${escaped(it)}</td></tr>`).join("")}</tbody></table>`;
+
+/** Where gaps, slips and flips are, the first ones of each. */
+function listed({ gaps, slips, flips }) {
+    const rows = [
+        ...gaps.map(({ symbol, bits }) => [symbol, `gap of ${counted(bits, "bit")} before`]),
+        ...slips.map(({ symbol, dropped }) => [symbol, `slip: ${counted(dropped, "symbol")} dropped before`]),
+        ...flips.map(({ symbol, inverted }) => [symbol, `flip: ${inverted ? "inverted" : "upright"} from here on`]),
     ];
-    return {
-        title: "Gaps, slips and flips",
-        svg: drawing(120, `${gaps.length} gaps, ${count} slips, ${flips.length} changes of polarity`,
-            rows.join("") + axis(86, 106, along) + marks.join("")),
-        sentence: `Room for codeblocks that were not found (${gaps.length}); symbols dropped, since some had been lost or doubled `
-            + `(${count}); changes of the polarity (${flips.length}).`,
-    };
+    if (!rows.length) return "";
+    const shown = table(rows.sort((a, b) => a[0] - b[0]).map(([symbol, it]) => [symbol.toLocaleString("en"), it]));
+    return `<details><summary>Where they are, by symbol: the first ${LISTED} of each</summary>${shown}</details>`;
 }
 
-/** The figures of a pass: of each a title, the drawing with its legend, and a sentence. */
-export function figuresOf(summary) {
-    const along = `${short(summary.bits)} bits received`, made = [framesFigure(summary, along)];
-    if (!summary.uncoded) made.push(repairsFigure(summary, along));
-    return [...made, markersFigure(summary, along), eventsFigure(summary, along)];
+/** What the figures show, as a table: a row for each stretch. */
+function numbers({ drawn, isCoded, hasWindows }) {
+    const esN0 = (it) => (Number.isFinite(it.esN0) ? `${it.atLeast ? "at least " : ""}${it.esN0.toFixed(1)}` : "");
+    const rate = ({ octets, wrong }) => (octets ? String(Number((wrong / octets).toPrecision(2))) : "");
+    const columns = [
+        ["good", (it) => it.clean + it.repaired],
+        ...(isCoded ? [["repaired", (it) => it.repaired], ["uncorrectable", (it) => it.bad]] : []),
+        ["missing", (it) => Number(it.missing.toFixed(1))],
+        ...(isCoded ? [["symbols repaired", (it) => it.fixed], ["most of a codeword", (it) => it.mostFixed]] : []),
+        ...(hasWindows ? [["Es/N0, dB", (it) => esN0(qualityOf(it.counts))], ["symbol error rate", (it) => rate(it.counts)]] : []),
+        ["slips", (it) => it.slips],
+        ["flips", (it) => it.flips],
+        ["gaps", (it) => it.gaps],
+        ["wrong bits of markers", (it) => it.wrongBits],
+        ["most of a marker", (it) => it.mostWrongBits],
+    ];
+    const head = ["from symbol", ...columns.map(([name]) => name)].map((it) => `<th scope="col">${it}</th>`).join("");
+    const row = (it, k) => `<tr><th scope="row">${(k * drawn.size).toLocaleString("en")}</th>`
+        + `${columns.map(([, of]) => `<td>${of(it)}</td>`).join("")}</tr>`;
+    return `<details><summary>The numbers of the figures</summary><div class="scroll" tabindex="0" role="region" `
+        + `aria-label="The numbers of the figures"><table class="numbers"><thead><tr>${head}</tr></thead>`
+        + `<tbody>${drawn.all.map(row).join("")}</tbody></table></div></details>`;
 }
+
+/** The parts of the page of a pass: of each a title, what is shown, and a sentence where there is one. */
+export function partsOf(summary) {
+    const { rows, words, options, isCoded, hasWindows } = summary, events = eventsFigure(summary);
+    const every = Object.entries(options).filter(([, it]) => it !== null);
+    return [
+        { title: "Totals", drawing: table(rows) + numbers(summary) },
+        codeblocksFigure(summary),
+        ...(isCoded ? [repairedFigure(summary)] : []),
+        ...(hasWindows ? [esN0Figure(summary), errorsFigure(summary)] : []),
+        { ...events, drawing: events.drawing + listed(summary) },
+        markersFigure(summary),
+        {
+            title: "Options",
+            drawing: `<p><code>tmchan decode ${escaped(words.join(" "))}</code></p>`
+                + `<details><summary>All of them</summary>${table(every)}</details>`,
+        },
+    ];
+}
+
+/** A part as HTML, with a title of a level. */
+export const figure = ({ title, drawing: shown, sentence }, level) => `<figure><${level}>${escaped(title)}</${level}>${shown}`
+    + `${sentence ? `<figcaption>${escaped(sentence)}</figcaption>` : ""}</figure>`;
 
 /** How often each level was received, of symbols 0 and 1. */
 export function histogram([zeros, ones]) {
     const size = zeros.length, most = Math.max(...zeros.map((it, k) => it + ones[k]));
-    const { y, axes, height } = plot({ most, along: "level 255", height: 190 }), width = across(1 / size) - across(0) - 0.5;
+    const { y, axes, height } = counting({ most, along: "level 255", height: 190 }), width = across(1 / size) - across(0) - 0.5;
     const bars = zeros.map((zero, k) => box("zero", across(k / size), y(zero), width, y(0) - y(zero))
         + box("one", across(k / size), y(zero + ones[k]), width, y(zero) - y(zero + ones[k])));
     return drawing(height, "How often each level from 0 to 255 was received", axes + bars.join(""))
@@ -170,34 +306,17 @@ export function places(found, unit, bits) {
 
 /** The page of a pass: one file that needs nothing else. */
 export function pageOf(summary, said, css) {
-    const { name, words, good, bad, fixed, totals, bridged, inverted, missing, frameLength } = summary;
-    const figures = figuresOf(summary).map(({ title, svg, sentence }) =>
-        `<figure><h2>${escaped(title)}</h2>${svg}<figcaption>${escaped(sentence)}</figcaption></figure>`);
-    const table = {
-        frames: good,
-        uncorrectable: bad,
-        "symbols repaired": fixed,
-        "bits received": totals.bits,
-        slips: totals.slips,
-        "places without a marker": bridged,
-        inverted,
-        "room for more between them": missing,
-        "octets of a frame": frameLength,
-    };
-    const rows = Object.entries(table).map(([what, it]) =>
-        `<tr><th scope="row" class="text">${escaped(what)}</th><td>${it.toLocaleString("en")}</td></tr>`);
+    const name = escaped(summary.name), figures = partsOf(summary).map((it) => figure(it, "h2"));
     return `<!doctype html>
 <html lang="en"><head><meta charset="utf-8"><meta name="viewport" content="width=device-width, initial-scale=1">
-<meta name="color-scheme" content="light dark"><title>${escaped(name)}: a pass received by tmchan</title><style>${css}</style>
+<meta name="color-scheme" content="light dark"><title>${name}: a pass received by tmchan</title><style>${css}</style>
 </head><body>
-<header><h1>${escaped(name)}</h1><p class="result">${said.map(escaped).join("<br>")}</p>
-<p class="command">The program's words: <code>tmchan decode ${escaped(words.join(" "))}</code></p></header>
+<header><h1>${name}</h1><p class="result">${said.map(escaped).join("<br>")}</p></header>
 <main class="figures">
 ${figures.join("\n")}
-<figure><h2>Totals</h2><table><tbody>${rows.join("")}</tbody></table></figure>
 </main>
 <footer><p>Made by tmchan's page. What the library says of a frame is proved of the library; its module for WebAssembly is
 compiled from the module that was proved for x86-64, with one instruction's stand-in; that is tested by rows and drawn
-cases, not proved. The figures are the page's own.</p></footer></body></html>
+cases, not proved. The figures are the page's own, and Es/N0 is worked out of what the library counts.</p></footer></body></html>
 `;
 }

@@ -1,5 +1,5 @@
 // The second view: the frames of a recording.
-import { figuresOf, pageOf } from "./figures.mjs";
+import { figure, pageOf, partsOf } from "./figures.mjs";
 import { FORMS, formOfName, waveHeader } from "./recordings.mjs";
 import { counted, escaped } from "./text.mjs";
 import { DEFAULTS, OPTIONS, recordingSettings } from "./tmchan.mjs";
@@ -155,8 +155,7 @@ async function show(output) {
     const frames = output ? [] : [download(`${name}.frames`, () => parts)];
     find("downloads").replaceChildren("Download:", ...frames, download(`${name}.report.txt`, report(false), "text/plain"),
         download(`${name}.jsonl`, report(true), "application/jsonl"), download(`${name}.html`, page, "text/html"));
-    find("figures").innerHTML = figuresOf(summary).map(({ title, svg, sentence }) =>
-        `<figure><h4>${escaped(title)}</h4>${svg}<figcaption>${escaped(sentence)}</figcaption></figure>`).join("");
+    find("figures").innerHTML = partsOf(summary).map((it) => figure(it, "h4")).join("");
     from = 0;
     await rows();
     find("results").hidden = false;
@@ -165,11 +164,12 @@ async function show(output) {
 async function rows() {
     const { count, columns } = result, items = await asked.ask("rows", { from, count: ROWS });
     const each = Array.from({ length: columns }, (_, k) => `column ${k + 1}`);
-    const heads = ["number", "at bit", "marker", "wrong bits", "polarity", ...each, "octets"];
+    const heads = ["number", "at bit", "at symbol", "marker", "wrong bits", "polarity", ...each, "octets"];
     find("report").tHead.innerHTML = `<tr>${heads.map((it) => `<th scope="col">${it}</th>`).join("")}</tr>`;
-    const cells = (it) => [it.number, it.place, it.bridged ? "bridged" : "found", it.distance, it.inverted ? "inverted" : "upright",
-        ...it.repaired.map((symbols) => symbols ?? "uncorrectable"), it.length].map((cell) => `<td>${cell}</td>`);
-    find("report").tBodies[0].innerHTML = items.map((it) => `<tr class="${it.good ? "" : "bad"}">${cells(it).join("")}</tr>`).join("");
+    const cells = (it) => [it.number, it.place, it.symbol, it.bridged ? "bridged" : "found", it.distance,
+        it.inverted ? "inverted" : "upright", ...it.repaired.map((symbols) => symbols ?? "uncorrectable"), it.length];
+    const row = (it) => `<tr class="${it.good ? "" : "bad"}">${cells(it).map((cell) => `<td>${cell}</td>`).join("")}</tr>`;
+    find("report").tBodies[0].innerHTML = items.map(row).join("");
     const shown = `Codeblocks ${from} to ${from + items.length - 1} of ${count.toLocaleString("en")}`;
     find("rows-said").textContent = count ? shown : "No codeblocks";
     find("earlier").disabled = from === 0;

@@ -6,7 +6,6 @@ import { Symbols } from "./recordings.mjs";
 import { hasMemory64, line, load, octetsOf } from "./tmchan.mjs";
 
 const SLICE = 1 << 20; // octets of a file that are read at once
-const FEW = 1 << 16; // symbols that the receiver takes at once: the place of a slip is known to as many
 const LINES = 4096; // of a report that are made at once
 const PAUSE = 200; // milliseconds between two reports of progress, since to show one takes longer than to decode a megabyte
 const MOST_WITHOUT = 10_000_000; // octets of a file that is taken without 64-bit memory, where the decoder is slow
@@ -62,22 +61,14 @@ const tasks = {
         const { size } = file, end = Math.min(size, start + (length ?? Infinity));
         if (!isWide && end - start > MOST_WITHOUT)
             throw new Error(`Without memory of 64-bit addresses this page takes files up to ${MOST_WITHOUT / 1e6} MB`);
-        const link = (await loaded()).link(options), receiver = link.receiver(), symbols = new Symbols(form, swap);
+        const link = (await loaded()).link(options), receiver = link.receiver({ windows: true }), symbols = new Symbols(form, swap);
         const frames = await outputOf(output), began = performance.now();
-        let at = start, bits = 0, slips = 0, next = 0;
+        let at = start, next = 0;
         const { words, blockLength, frameLength } = link;
         pass = new Pass({ name: file.name, words, options: link.options, blockLength, frameLength });
         const take = async (received) => {
-            pass.push(received);
+            pass.push(received, receiver.windows);
             await frames.write(received.frames);
-        };
-        const give = async (given) => {
-            for (let from = 0; from < given.length; from += FEW) {
-                const piece = given.subarray(from, from + FEW), received = receiver.push(piece);
-                bits += piece.length * rateOf(link.options);
-                await take(received);
-                for (; slips < receiver.slips; slips++) if (pass.slips.length < 1000) pass.slips.push(bits);
-            }
         };
         const told = () => {
             const seconds = (performance.now() - began) / 1000;
@@ -87,12 +78,12 @@ const tasks = {
             while (at < end && !stopped) {
                 const piece = new Uint8Array(await file.slice(at, Math.min(end, at + SLICE)).arrayBuffer());
                 at += piece.length;
-                await give(symbols.push(piece));
+                await take(receiver.push(symbols.push(piece)));
                 if (performance.now() < next) continue;
                 next = performance.now() + PAUSE;
                 say(told());
             }
-            await give(symbols.finish());
+            await take(receiver.push(symbols.finish()));
             await take(receiver.finish());
             pass.totals = receiver.totals;
             pass.phase = receiver.phase;
@@ -123,12 +114,6 @@ const tasks = {
         return isJson ? [...parts, `${pass.lastJson}\n`] : [pass.firstLines, ...parts, pass.lastLines];
     },
 };
-
-function rateOf({ inner }) {
-    if (inner === "none") return 1;
-    const [bits, symbols] = inner.split("/");
-    return bits / symbols;
-}
 
 /** Where frames go: to a file as they come, or to parts of a megabyte, which the browser may keep on its disk. */
 async function outputOf(handle) {

@@ -101,7 +101,7 @@ def drops(room):
         done.append(f"{name}: {said.splitlines()[0]}")
     shown = count(browser, "#figures svg")
     rows = count(browser, "#report tbody tr")
-    assert shown == 4 and rows == 100, (shown, rows)
+    assert shown == 6 and rows == 100, (shown, rows)
     assert not browser.complaints(), browser.complaints()
     print(*(f"    {it}" for it in done), sep="\n")
     return f"{len(done)} recordings"
@@ -158,7 +158,7 @@ def downloads(room):
     assert downloaded(room, browser, ".report.txt").decode().splitlines() == lines
     rows = [json.loads(it) for it in downloaded(room, browser, ".jsonl").decode().splitlines()]
     page = downloaded(room, browser, ".html").decode()
-    assert page.startswith("<!doctype html>") and page.count("<svg") == 4
+    assert page.startswith("<!doctype html>") and page.count("<svg") == 6
     if not (TOP / "out/libtmchan.so").exists():
         return f"{len(rows)} lines, not compared with tmchan-receive: there is no out/libtmchan.so"
     ran = subprocess.run(
@@ -167,7 +167,8 @@ def downloads(room):
         stdout=subprocess.PIPE,
         check=False,
     )
-    wanted = [json.loads(it) for it in ran.stdout.splitlines()]
+    # (the page keeps no windows, of which there may be millions)
+    wanted = [it for it in map(json.loads, ran.stdout.splitlines()) if it["kind"] != "window"]
     for it in rows + wanted:
         it.pop("file")
         it.pop("words", None)
@@ -489,7 +490,7 @@ def traps(room):
     """A module that traps is thrown away, and the page says so; with the next try it goes on."""
     whole = (PAGE / "tmchan.wasm").read_bytes()
     try:
-        room.server.files["/tmchan.wasm"] = trapping(whole, "tmchan_receiver_push")
+        room.server.files["/tmchan.wasm"] = trapping(whole, "tmchan_receiver_push_windows")
         browser, path = opened(room, "use"), room.recording("plain.u8")
         take(browser, path)
         said = received(browser)
@@ -762,6 +763,6 @@ def widths(room):
     for width in (1400, 360):
         browser.size(width, 900)
         browser.go(room.path("saved.html").as_uri())
-        browser.until("document.querySelectorAll('svg').length >= 4")
+        browser.until("document.querySelectorAll('svg').length === 6")
         looked_at(room, browser, width, f"web-pass-{width}", "")
     return f"the page of a pass has {len(saved.encode()):,} octets"
