@@ -25,6 +25,7 @@ from drive import (
     take,
     text,
 )
+from passes import totals_of
 from shared import PAGE, PROGRAM, TOP, digest, program, test
 
 
@@ -173,6 +174,9 @@ def downloads(room):
         it.pop("file")
         it.pop("words", None)
     assert rows == wanted, (rows[:2], wanted[:2], rows[-1], wanted[-1])
+    shown = re.findall(r'<th scope="row" class="text">(.*?)</th><td>(.*?)</td>', page)
+    right = totals_of(path.read_bytes())
+    assert shown[: len(right)] == right and any("1.2 dB" in it for _, it in right), (shown, right)
     return (
         f"{len(frames):,} octets of frames, {len(lines)} lines, and {len(rows)} of JSON as tmchan-receive writes them"
     )

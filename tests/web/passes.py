@@ -13,7 +13,7 @@ from shared import PAGE, TOP, test
 sys.path.insert(0, str(TOP / "python"))
 
 from tmchan import page as pages  # noqa: E402
-from tmchan.link import Item, Totals, Window  # noqa: E402
+from tmchan.link import Item, Link, Totals, Window  # noqa: E402
 from tmchan.quality import NEARER, Counts, cut, quality_of  # noqa: E402
 
 # The most stretches that the page draws
@@ -166,6 +166,19 @@ def drawings(text, stretches, count):
             found = quality_of(it.counts)
             shown = pages.decibels(found).removesuffix(" dB") if math.isfinite(found.es_n0) else ""
             assert named["Es/N0, dB"] == shown, (named, found)
+
+
+def totals_of(octets):
+    """The totals of a recording at rate 1/2, as tmchan-receive --page has them, by the Python package."""
+    link = Link.recording(code="rs16")
+    its_pass = pages.Pass(link)
+    with link.receiver(windows=True) as receiver:
+        its_pass.push(receiver.push(octets), receiver.windows)
+        its_pass.push(receiver.finish(), receiver.windows)
+        totals = receiver.totals
+    unit = round(its_pass.unit * its_pass._rate)
+    coarse = its_pass.stretches.coarse(max(unit, its_pass.window_symbols), pages.MOST)
+    return [*pages.totals_rows(its_pass, totals), *pages.quality_rows(coarse)]
 
 
 @test
