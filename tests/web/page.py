@@ -660,6 +660,11 @@ def keyboard(room):
     browser.run("document.getElementById('to-use').focus()")
     browser.key("Enter", text="\r")
     browser.until("!document.getElementById('use').hidden && document.getElementById('learn').hidden")
+    # (with what came of a recording, too)
+    press(browser, "example")
+    browser.until("document.getElementById('use-said').textContent.startsWith('example.u8')")
+    received(browser)
+    browser.until("!document.getElementById('results').hidden")
     nameless = []
     for hash in ("learn", "use"):
         browser.run(f"location.hash = '{hash}'; for (const it of document.querySelectorAll('details')) it.open = true")
@@ -753,6 +758,10 @@ def widths(room):
         set_options(browser, keep=1024, ahead=128)
         received(browser)
         browser.until("!document.getElementById('results').hidden")
+        # (also with all that can be opened)
+        browser.run("for (const it of document.querySelectorAll('#figures details')) it.open = true")
+        assert browser.run("document.documentElement.scrollWidth") <= width, name
+        browser.run("for (const it of document.querySelectorAll('#figures details')) it.open = false")
         looked_at(room, browser, width, f"web-use-{name}", "use-said")
         assert not browser.complaints(), browser.complaints()
     saved = browser.run(
