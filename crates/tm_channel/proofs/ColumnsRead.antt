@@ -5,9 +5,9 @@ use Rattle.std.proofs.lemmas.List.{take_all}
 use Rattle.tm_config.specs.Configuration.{Configuration, data_length, word_length, correctable}
 use Rattle.tm_config.proofs.Choices.{uncoded_false}
 use Rattle.tm_config.specs.declared.values.OuterCode.TheVariants.{Uncoded}
-use Rattle.tm_dual.specs.Octet.{element_of, sent_octet}
-use Rattle.tm_dual.specs.declared.basis.Basis.{Basis}
-use Rattle.tm_dual.proofs.Sixteens.{numbers-take}
+use Rattle.tm_gf256.specs.Octet.{element_of, sent_octet}
+use Rattle.tm_gf256.specs.declared.basis.Basis.{Basis}
+use Rattle.tm_gf256.proofs.Sixteens.{numbers-take}
 use Rattle.tm_gf256.specs.Poly.{numbers}
 use Rattle.tm_interleave.specs.Column.{column}
 use Rattle.tm_interleave.specs.Interleaved.{interleaved}

@@ -12,9 +12,9 @@ use Rattle.tm_config.specs.declared.values.OuterCode.TheVariants.{Uncoded}
 use Rattle.tm_config.specs.Accepted.{IsAccepted}
 use Rattle.tm_config.proofs.Choices.{uncoded_cases, uncoded_false}
 use Rattle.tm_config.proofs.Lengths.{word_length-le}
-use Rattle.tm_dual.specs.Octet.{sent_octet, element_of}
-use Rattle.tm_dual.specs.declared.basis.Basis.{Basis}
-use Rattle.tm_dual.proofs.Inverse.{sent_octet-lt, element_of-lt, element_of-sent_octet}
+use Rattle.tm_gf256.specs.Octet.{sent_octet, element_of}
+use Rattle.tm_gf256.specs.declared.basis.Basis.{Basis}
+use Rattle.tm_gf256.proofs.DualInverse.{sent_octet-lt, element_of-lt, element_of-sent_octet}
 use Rattle.tm_interleave.specs.Column.{column}
 use Rattle.tm_interleave.specs.Interleaved.{interleaved}
 use Rattle.tm_interleave.proofs.Columns.{length-column, length-interleaved, column-interleaved, interleaved-columns_of, get_or-block}

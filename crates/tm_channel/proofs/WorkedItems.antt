@@ -8,8 +8,8 @@ use Rattle.tm_base.specs.Bits.{AreOctets, bits_of, low_bits}
 use Rattle.tm_config.specs.Configuration.{Configuration, configuration_of, default_raw}
 use Rattle.tm_config.specs.declared.values.OuterCode.TheVariants.{Rs16, Uncoded}
 use Rattle.tm_config.specs.declared.values.Sought.TheVariants.{Find}
-use Rattle.tm_dual.specs.declared.basis.Basis.TheVariants.{Dual, Poly}
-use Rattle.tm_dual.specs.Dual.{dual_element, dual_octet, dual_bits, dual_bit, trace}
+use Rattle.tm_gf256.specs.declared.basis.Basis.TheVariants.{Dual, Poly}
+use Rattle.tm_gf256.specs.Dual.{dual_element, dual_octet, dual_bits, dual_bit, trace}
 use Rattle.tm_gf256.specs.Field.{times, power, remainder, bit_product}
 use Rattle.tm_gf256.specs.Poly.{value_at}
 use Rattle.tm_random.specs.Sequence.{sequence_bit}

@@ -6,7 +6,7 @@ use Rattle.tm_base.specs.Marker.{marker_size}
 use Rattle.tm_config.specs.Configuration.{Configuration, configuration_of, default_raw}
 use Rattle.tm_config.specs.declared.values.OuterCode.TheVariants.{Rs8}
 use Rattle.tm_config.specs.declared.values.Sought.TheVariants.{Find}
-use Rattle.tm_dual.specs.declared.basis.Basis.TheVariants.{Poly}
+use Rattle.tm_gf256.specs.declared.basis.Basis.TheVariants.{Poly}
 use Rattle.tm_sync.specs.Bits.{complement, marker_bits}
 use Rattle.tm_channel.specs.SentStream.{SentUnit}
 

@@ -1,7 +1,7 @@
 // The columns of a codeblock, as words to be decoded in place, and the frame that they come to.
 ghost use Rattle.std.specs.Prelude.{◌≡◌, ◌≢◌, ◌<◌, ◌≤◌, ◌*◌, ℕ, List, length, map, take};
 ghost use Rattle.tm_config.specs.Configuration.{codeblock_length, word_length};
-ghost use Rattle.tm_dual.specs.Octet.{element_of, sent_octet};
+ghost use Rattle.tm_gf256.specs.Octet.{element_of, sent_octet};
 ghost use Rattle.tm_gf256.specs.Poly.{numbers};
 ghost use Rattle.tm_rs_code.specs.Code.{longest_word};
 ghost use Rattle.tm_interleave.specs.Column.{column};
@@ -10,7 +10,7 @@ ghost use Rattle.tm_channel.specs.ColumnWords.{all_symbols};
 
 use tm_codeblock::basis_of;
 use tm_config::{Config, OuterCode};
-use tm_dual::Basis;
+use tm_gf256::Basis;
 use tm_interleave::{put_word, take_word};
 use tm_workers::Word;
 

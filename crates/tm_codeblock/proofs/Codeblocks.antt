@@ -8,9 +8,9 @@ use Rattle.tm_base.proofs.Packing.{AreOctets-rest}
 use Rattle.tm_config.specs.Configuration.{Configuration, correctable, word_length, data_length}
 use Rattle.tm_config.specs.declared.values.OuterCode.TheVariants.{Uncoded}
 use Rattle.tm_config.proofs.Choices.{uncoded_false}
-use Rattle.tm_dual.specs.Octet.{sent_octet, element_of}
-use Rattle.tm_dual.specs.declared.basis.Basis.{Basis}
-use Rattle.tm_dual.proofs.Inverse.{sent_octet-element_of}
+use Rattle.tm_gf256.specs.Octet.{sent_octet, element_of}
+use Rattle.tm_gf256.specs.declared.basis.Basis.{Basis}
+use Rattle.tm_gf256.proofs.DualInverse.{sent_octet-element_of}
 use Rattle.tm_interleave.specs.Column.{column}
 use Rattle.tm_interleave.specs.Interleaved.{interleaved}
 use Rattle.tm_interleave.proofs.Columns.{same_columns, column-append, column-interleaved, length-interleaved, length-column}

@@ -4,8 +4,8 @@ use Rattle.std.specs.Prelude.{ℕ, ◌+◌, if◌then◌else◌, List, ◌++◌,
 use Rattle.std.specs.List.{range_with_len}
 use Rattle.tm_base.specs.Marker.{marker, marker_octets}
 use Rattle.tm_config.specs.Configuration.{Configuration, correctable, is_uncoded, word_length, longest_codeblock, codeblock_length}
-use Rattle.tm_dual.specs.Octet.{sent_octet, element_of}
-use Rattle.tm_dual.specs.declared.basis.Basis.{Basis}
+use Rattle.tm_gf256.specs.Octet.{sent_octet, element_of}
+use Rattle.tm_gf256.specs.declared.basis.Basis.{Basis}
 use Rattle.tm_interleave.specs.Column.{column}
 use Rattle.tm_interleave.specs.Interleaved.{interleaved}
 use Rattle.tm_random.specs.Masked.{masked}

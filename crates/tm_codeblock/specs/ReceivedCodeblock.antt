@@ -5,7 +5,7 @@ use Rattle.std.specs.List.{list_all, range_with_len}
 use Rattle.tm_base.specs.Bits.{octets_of}
 use Rattle.tm_base.specs.Marker.{marker_size}
 use Rattle.tm_config.specs.Configuration.{Configuration, correctable, data_length, codeblock_length, is_uncoded, is_sought}
-use Rattle.tm_dual.specs.Octet.{sent_octet, element_of}
+use Rattle.tm_gf256.specs.Octet.{sent_octet, element_of}
 use Rattle.tm_interleave.specs.Column.{column}
 use Rattle.tm_interleave.specs.Interleaved.{interleaved}
 use Rattle.tm_random.specs.Masked.{masked}

@@ -8,8 +8,7 @@ ghost use Rattle.tm_codeblock.specs.Cadu.{coded_octets, coded_column, codeblock_
 
 use tm_base::MARKER;
 use tm_config::{Config, LONGEST_CODEBLOCK, OuterCode};
-use tm_dual::Basis;
-use tm_gf256::Gf;
+use tm_gf256::{Basis, Gf};
 use tm_interleave::{put_word, take_word};
 use tm_random::mask;
 use tm_rs_code::Params;

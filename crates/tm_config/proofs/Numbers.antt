@@ -3,7 +3,7 @@ use Rattle.std.proofs.Common.{◌≡◌, ◌∙◌, inl, inr, refl, sym, ap, ℕ
 use Rattle.std.proofs.lemmas.Bool.{cases_Bool, eqb-true}
 use Rattle.std.proofs.lemmas.Bool.Decides.{nat_tests}
 use Rattle.std.specs.Prelude.{option_map}
-use Rattle.tm_dual.specs.Octet.{basis_of}
+use Rattle.tm_gf256.specs.Octet.{basis_of}
 use Rattle.tm_viterbi.specs.declared.block.Start.TheVariants.{Zero}
 use Rattle.tm_config.specs.declared.values.Raw.{Raw}
 use Rattle.tm_config.specs.declared.values.OuterCode.TheVariants.{Uncoded}

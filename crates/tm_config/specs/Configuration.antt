@@ -3,9 +3,9 @@ use Rattle.std.specs.Prelude.{◌≡◌, ℕ, ◌+◌, ◌-◌, ◌*◌, ◌/◌
 use Rattle.std.specs.Prelude.{Option, Some, None, option_map, unwrap_or, if◌then◌else◌}
 use Rattle.tm_conv.specs.declared.rates.Rate.{Rate}
 use Rattle.tm_conv.specs.declared.rates.Rate.TheVariants.{R12, R23, R34, R56, R78}
-use Rattle.tm_dual.specs.Octet.{basis_of}
-use Rattle.tm_dual.specs.declared.basis.Basis.{Basis}
-use Rattle.tm_dual.specs.declared.basis.Basis.TheVariants.{Dual, Poly}
+use Rattle.tm_gf256.specs.Octet.{basis_of}
+use Rattle.tm_gf256.specs.declared.basis.Basis.{Basis}
+use Rattle.tm_gf256.specs.declared.basis.Basis.TheVariants.{Dual, Poly}
 use Rattle.tm_rs_code.specs.Code.{longest_word, most_correctable, least_correctable}
 use Rattle.tm_viterbi.specs.declared.block.Start.{Start}
 use Rattle.tm_viterbi.specs.declared.block.Start.TheVariants.{Zero, Any}
@@ -133,7 +133,7 @@ all_switches = false ∷ true ∷ []
 abbrev pub is_on : ℕ → Bool
 is_on = numbered number_of_switch all_switches false
 
--- the numbers of the bases, from which `basis_of` of tm_dual goes back
+-- the numbers of the bases, from which `basis_of` of tm_gf256 goes back
 abbrev pub number_of_basis : Basis → ℕ
 number_of_basis Dual = 0
 number_of_basis Poly = 1

@@ -12,7 +12,7 @@ use crate::values::{
 use crate::{ConfigError, OuterCode, Raw, SoftForm, Values};
 use std::marker::Model;
 use tm_conv::Rate;
-use tm_dual::Basis;
+use tm_gf256::Basis;
 use tm_viterbi::Start;
 
 /// The configuration of a link, each value within its list or range, and all resolved but `invert`.

@@ -3,7 +3,7 @@ ghost use Rattle.std.specs.Prelude.{◌≡◌, option_map};
 ghost use Rattle.tm_config.specs.Configuration.{default_raw, correctable, is_uncoded, code_of, rate_of, number_of_switch, is_on, form_of, start_of, number_of_mode, mode_of, phase_of, is_followed, mode_by, number_of_sought, sought_of};
 
 use tm_conv::Rate;
-use tm_dual::Basis;
+use tm_gf256::Basis;
 use tm_viterbi::Start;
 
 /// The values of the options as numbers, not tested yet. Any number may stand in any field.

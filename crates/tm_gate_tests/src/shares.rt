@@ -3,7 +3,7 @@
 use crate::gates::{SPINS, ZEROS, gate_that_holds};
 use std::sync::atomic::{AtomicU64, Ordering};
 use std::test::Fail;
-use tm_dual::Basis;
+use tm_gf256::Basis;
 use tm_records::{Coding, Records};
 use tm_rs_code::Params;
 use tm_workers::{InPlace, OpenGate, decode_all, split_evenly};

@@ -9,3 +9,10 @@ pub mod Products
 pub mod PolyLemmas
 pub mod ProductLaw
 pub mod Coefficients
+pub mod Traces
+pub mod DualRuns
+pub mod DualEntries
+pub mod DualInverse
+pub mod Words
+pub mod Halves
+pub mod Sixteens

@@ -1,6 +1,5 @@
 // The dual basis.
-use tm_dual::{Basis, basis_laws, from_dual, to_dual};
-use tm_gf256::Gf;
+use tm_gf256::{Basis, Gf, basis_laws, from_dual, to_dual};
 
 // Rows of the two matrices of CCSDS 131.0-B: the octet of each bit of an element, and the element of
 // each bit of an octet, the most significant first; then coefficients of the generator of the

@@ -5,7 +5,7 @@ use std::alloc::Global;
 use std::process::Abort;
 use std::test::Fail;
 use std::thread::Threads;
-use tm_dual::Basis;
+use tm_gf256::Basis;
 use tm_records::{Coding, ErasedAnswer, OpenGate, Records, nearest_records_law};
 use tm_rs_code::Params;
 

@@ -18,8 +18,8 @@ use Rattle.tm_driver.specs.declared.ending.Outcome.TheVariants.{Done, Bad, LeftO
 use Rattle.tm_driver.specs.declared.ending.Stop.{Stop}
 use Rattle.tm_driver.specs.declared.ending.Stop.TheVariants.{SinkFault, BadWindow}
 use Rattle.tm_driver.proofs.SinkTexts.{wrote-nothing, wrote-prefix, wrote-no_prefix, wrote-then, wrote-then_prefix, prefix-of}
-use Rattle.tm_dual.specs.declared.basis.Basis.{Basis}
-use Rattle.tm_dual.specs.Octet.{sent_octet}
+use Rattle.tm_gf256.specs.declared.basis.Basis.{Basis}
+use Rattle.tm_gf256.specs.Octet.{sent_octet}
 use Rattle.tm_rs_code.specs.Erasures.{NearestErased}
 use Rattle.tm_rs_solve.specs.Answers.{found_erased}
 use Rattle.tm_rs_solve.specs.declared.answers.ErasedAnswer.{ErasedAnswer}

@@ -2,7 +2,7 @@
 use Rattle.std.proofs.Common.{◌≡◌, ℕ, zero, suc, ◌+◌, ◌-◌, ◌*◌, ◌≤◌, ◌==◌, Bool, not, List, [], ◌∷◌, ◌++◌, length, map, take, drop, refl, sym, ap, ◌∙◌, subst, arith, length-append, length-drop}
 use Rattle.std.proofs.lemmas.List.{length-map, length-take-le, take-append-le, drop-append-le, drop-drop}
 use Rattle.std.proofs.lemmas.Nat.{div-add-mod'}
-use Rattle.tm_dual.specs.Octet.{element_of}
+use Rattle.tm_gf256.specs.Octet.{element_of}
 use Rattle.tm_rs_code.specs.Erasures.{IsNearestErased, NearestErased}
 use Rattle.tm_rs_code.proofs.HasNearest.{has_nearest_erased}
 use Rattle.tm_rs_code.proofs.OnlyNearest.{nearest_erased_only}

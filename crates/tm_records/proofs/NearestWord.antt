@@ -14,7 +14,7 @@ use Rattle.tm_config.specs.declared.values.OuterCode.{OuterCode}
 use Rattle.tm_config.specs.declared.values.OuterCode.TheVariants.{Rs16, Rs8, Uncoded}
 use Rattle.tm_driver.specs.Meaning.{WroteOutput, taken_by}
 use Rattle.tm_driver.proofs.SinkTexts.{wrote-nothing}
-use Rattle.tm_dual.specs.Octet.{sent_octet, element_of}
+use Rattle.tm_gf256.specs.Octet.{sent_octet, element_of}
 use Rattle.tm_rs_code.specs.Nearest.{IsNearest}
 use Rattle.tm_rs_solve.specs.Answers.{found}
 use Rattle.tm_rs_solve.specs.declared.answers.Answer.{Answer}

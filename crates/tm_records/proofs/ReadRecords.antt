@@ -2,7 +2,7 @@
 use Rattle.std.proofs.Common.{◌≡◌, ℕ, suc, ◌+◌, ◌-◌, ◌*◌, ◌≤◌, ◌<◌, ◌==◌, ◌⊎◌, inl, inr, Bool, not, List, [], ◌∷◌, length, map, take, drop, get_or, set, sym, ap, ◌∙◌, subst, arith, Option, unwrap_or}
 use Rattle.std.proofs.lemmas.Bool.{cases_lt}
 use Rattle.std.proofs.lemmas.List.{drop-drop, drop-take, take-take, get_or-set_other, get_or-set_same}
-use Rattle.tm_dual.specs.Octet.{element_of}
+use Rattle.tm_gf256.specs.Octet.{element_of}
 use Rattle.tm_gf256.specs.Poly.{numbers}
 use Rattle.tm_rs_code.specs.Erasures.{IsNearestErased}
 use Rattle.tm_rs_solve.specs.Answers.{found_erased}

@@ -7,8 +7,8 @@ use Rattle.tm_base.specs.Written.{Wrote}
 use Rattle.tm_config.specs.Configuration.{Configuration, correctable, word_length}
 use Rattle.tm_driver.specs.Lines.{left_over_text, line_end}
 use Rattle.tm_driver.specs.Meaning.{Meaning}
-use Rattle.tm_dual.specs.declared.basis.Basis.{Basis}
-use Rattle.tm_dual.specs.Octet.{sent_octet}
+use Rattle.tm_gf256.specs.declared.basis.Basis.{Basis}
+use Rattle.tm_gf256.specs.Octet.{sent_octet}
 use Rattle.tm_rs_code.specs.Erasures.{NearestErased}
 use Rattle.tm_rs_code.specs.Erasures.NearestErased.{Fixed, Beyond}
 use Rattle.tm_rs_solve.specs.declared.answers.ErasedAnswer.{ErasedAnswer}

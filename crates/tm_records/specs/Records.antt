@@ -2,7 +2,7 @@
 -- of a word, and after these a flag for each symbol: 0 where the symbol is good, and any other
 -- number where it is erased.
 use Rattle.std.specs.Prelude.{◌≡◌, ℕ, ◌*◌, ◌/◌, ◌%◌, ◌==◌, Bool, not, List, [], ◌∷◌, length, map, take, drop}
-use Rattle.tm_dual.specs.Octet.{element_of}
+use Rattle.tm_gf256.specs.Octet.{element_of}
 use Rattle.tm_rs_code.specs.Erasures.{IsNearestErased, NearestErased}
 use Rattle.tm_records.specs.declared.coding.Coding.{Coding}
 

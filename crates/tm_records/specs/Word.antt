@@ -7,7 +7,7 @@ use Rattle.tm_base.specs.Written.{Wrote}
 use Rattle.tm_config.specs.Configuration.{Configuration, correctable, is_uncoded}
 use Rattle.tm_driver.specs.Meaning.{Meaning}
 use Rattle.tm_driver.specs.Lines.{line_end}
-use Rattle.tm_dual.specs.Octet.{sent_octet, element_of}
+use Rattle.tm_gf256.specs.Octet.{sent_octet, element_of}
 use Rattle.tm_rs_code.specs.Nearest.{IsNearest}
 use Rattle.tm_rs_code.specs.Nearest.Nearest.{Beyond as BeyondWord}
 use Rattle.tm_rs_code.specs.Code.{longest_word}

@@ -1,5 +1,5 @@
 // What words are decoded by.
-use tm_dual::Basis;
+use tm_gf256::Basis;
 use tm_rs_code::Params;
 
 /// The most symbols of a word.

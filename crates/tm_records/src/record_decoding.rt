@@ -1,7 +1,7 @@
 // The decoding of records.
 ghost use Rattle.std.specs.Prelude.{◌≡◌, ◌==◌, ◌<◌, ◌≤◌, ◌*◌, not, length, map, take, drop};
 ghost use Rattle.tm_base.specs.Limits.{most_workers};
-ghost use Rattle.tm_dual.specs.Octet.{element_of};
+ghost use Rattle.tm_gf256.specs.Octet.{element_of};
 ghost use Rattle.tm_gf256.specs.Poly.{numbers};
 ghost use Rattle.tm_records.specs.Batch.{AreRead, all_nearest};
 ghost use Rattle.tm_records.specs.Records.{AreFirstNearest, record_size, most_records};

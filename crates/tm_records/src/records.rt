@@ -1,7 +1,7 @@
 // A batch of records that is filled from pieces and decoded at once.
 ghost use Rattle.std.specs.Prelude.{◌≡◌, ◌<◌, ◌≤◌, ◌*◌, ◌-◌, ◌↔◌, ◌++◌, ℕ, List, [], length, map, min, take, IfOk, IsTrue, Some, slice_get};
 ghost use Rattle.tm_base.specs.Limits.{most_workers};
-ghost use Rattle.tm_dual.specs.Octet.{sent_octet};
+ghost use Rattle.tm_gf256.specs.Octet.{sent_octet};
 ghost use Rattle.tm_rs_code.specs.Code.{longest_word};
 ghost use Rattle.tm_rs_solve.specs.Answers.{found_erased};
 ghost use Rattle.tm_records.specs.Batch.{Batch, opened};

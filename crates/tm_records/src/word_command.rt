@@ -8,7 +8,7 @@ ghost use Rattle.tm_config.specs.Configuration.{correctable};
 ghost use Rattle.tm_driver.specs.Courses.{SinkWent, sink_call};
 ghost use Rattle.tm_driver.specs.Meaning.{Ends, taken_by};
 ghost use Rattle.tm_driver.specs.Statuses.{is_sink_fault};
-ghost use Rattle.tm_dual.specs.Octet.{sent_octet, element_of};
+ghost use Rattle.tm_gf256.specs.Octet.{sent_octet, element_of};
 ghost use Rattle.tm_rs_code.specs.Nearest.{IsNearest};
 ghost use Rattle.tm_rs_solve.specs.Answers.{found};
 ghost use Rattle.tm_records.specs.Word.{octets_of_hex, word_meaning, word_refusal, word_reason, word_text};

@@ -6,7 +6,7 @@ use Rattle.std.specs.Str.{bytes_eq}
 use Rattle.std.specs.Str.Parse.{digits_value}
 use Rattle.clap.specs.Words.{Text, Row, first_of}
 use Rattle.tm_conv.specs.declared.rates.Rate.TheVariants.{R12, R23, R34, R56, R78}
-use Rattle.tm_dual.specs.declared.basis.Basis.TheVariants.{Dual, Poly}
+use Rattle.tm_gf256.specs.declared.basis.Basis.TheVariants.{Dual, Poly}
 use Rattle.tm_viterbi.specs.declared.block.Start.TheVariants.{Zero, Any}
 use Rattle.tm_config.specs.declared.values.OuterCode.TheVariants.{Rs16, Rs8, Uncoded}
 use Rattle.tm_config.specs.declared.values.PhaseMode.TheVariants as mode

@@ -1,7 +1,7 @@
 -- What is answered, and what is left of the octets of a word.
 use Rattle.std.specs.Prelude.{◌≡◌, ℕ, ◌+◌, ◌==◌, ℤ, pos, Bool, not, List, map}
-use Rattle.tm_dual.specs.Octet.{sent_octet, element_of}
-use Rattle.tm_dual.specs.declared.basis.Basis.{Basis}
+use Rattle.tm_gf256.specs.Octet.{sent_octet, element_of}
+use Rattle.tm_gf256.specs.declared.basis.Basis.{Basis}
 use Rattle.tm_rs_code.specs.Erasures.{NearestErased, IsNearestErased}
 use Rattle.tm_rs_code.specs.Erasures.NearestErased.{Fixed as FixedErased, Beyond as BeyondErased}
 use Rattle.tm_rs_code.specs.Nearest.{Nearest, IsNearest}

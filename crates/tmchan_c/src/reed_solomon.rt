@@ -1,14 +1,13 @@
 // Words of the Reed-Solomon codes.
 ghost use Rattle.std.specs.Prelude.{◌≡◌, ◌≢◌, ◌+◌, ◌*◌, ◌≤◌, ◌++◌, None, Some, length, pos};
 ghost use Rattle.tm_codeblock.specs.Cadu.{coded_octets};
-ghost use Rattle.tm_dual.specs.Octet.{basis_of};
+ghost use Rattle.tm_gf256.specs.Octet.{basis_of};
 ghost use Rattle.tm_rs_code.specs.Code.{IsLength, IsStrength};
 ghost use Rattle.tmchan_c.specs.Refusal.{Refuses, answered, decode_refusal, encode_refusal, erased_refusal};
 ghost use Rattle.tmchan_c.specs.Repaired.{IsRepaired, IsRepairedErased, erased_by};
 
 use crate::refusal::{Refusal, checks_refusal, flags_refusal, word_refusal};
-use tm_dual::Basis;
-use tm_gf256::Gf;
+use tm_gf256::{Basis, Gf};
 use tm_rs_code::Params;
 use tm_rs_encode::checks;
 use tm_rs_solve::{Answer, ErasedAnswer, decode_erased_uncounted, decode_uncounted};

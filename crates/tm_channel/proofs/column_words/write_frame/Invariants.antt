@@ -1,5 +1,5 @@
 use Rattle.std.proofs.Common.{◌≡◌, ◌<◌, ℕ, map, take, length, get_or}
-use Rattle.tm_dual.specs.Octet.{sent_octet}
+use Rattle.tm_gf256.specs.Octet.{sent_octet}
 use Rattle.tm_gf256.specs.Poly.{numbers}
 use Rattle.tm_interleave.specs.Column.{column}
 use Rattle.tm_workers.specs.declared.words.Word.{Word}

@@ -1,6 +1,0 @@
-use Rattle.std.proofs.Common.{arith}
-use Rattle.tm_dual.proofs.Entries.{element_at}
-use Rattle.tm_dual.proofs.dual.from_dual.Goals as goal
-
-pub returns : goal.returns
-returns c = element_at c.args.octet (omega arith)

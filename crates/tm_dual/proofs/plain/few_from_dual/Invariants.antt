@@ -1,7 +1,0 @@
-use Rattle.std.proofs.Common.{◌≡◌, map, take}
-use Rattle.tm_gf256.specs.Poly.{numbers}
-use Rattle.tm_dual.specs.Dual.{dual_element}
-use Rattle.tm_dual.proofs.plain.few_from_dual.Given as goal
-
-abbrev pub invariant-loop-i : goal.invariant-loop-i
-invariant-loop-i l = numbers (take l.i l.elements) ≡ map dual_element (take l.i l.octets)

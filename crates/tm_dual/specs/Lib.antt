@@ -1,3 +1,0 @@
-pub mod Dual
-pub mod Octet
-pub mod Halves
