@@ -1,8 +1,8 @@
 -- What is said of items, as plain numbers.
 use Rattle.std.specs.Int.{from_bool}
 use Rattle.std.specs.Prelude.{◌≡◌, ◌+◌, ℕ, not, List, [], ◌∷◌, length, map, take}
-use Rattle.tm_rs_solve.specs.declared.answers.Answer.{Answer}
-use Rattle.tm_rs_solve.specs.declared.answers.Answer.TheVariants.{Fixed, Beyond}
+use Rattle.tm_rs.specs.declared.answers.Answer.{Answer}
+use Rattle.tm_rs.specs.declared.answers.Answer.TheVariants.{Fixed, Beyond}
 use Rattle.tm_channel.specs.Items.{ItemValue, are_fixed}
 use Rattle.tm_buffers.specs.declared.items.Report.{Report}
 

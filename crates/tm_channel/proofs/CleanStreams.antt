@@ -13,8 +13,8 @@ use Rattle.tm_config.specs.Configuration.{Configuration, codeblock_length, is_un
 use Rattle.tm_config.specs.Accepted.{IsAccepted}
 use Rattle.tm_inner.specs.SymbolPlaces.{symbols_before}
 use Rattle.tm_rs_code.proofs.Nearest.{distance-self}
-use Rattle.tm_rs_solve.specs.declared.answers.Answer.{Answer}
-use Rattle.tm_rs_solve.specs.declared.answers.Answer.TheVariants.{Fixed}
+use Rattle.tm_rs.specs.declared.answers.Answer.{Answer}
+use Rattle.tm_rs.specs.declared.answers.Answer.TheVariants.{Fixed}
 use Rattle.tm_sync.specs.declared.found.Found.{Found}
 use Rattle.tm_sync.specs.Bits.{marker_bits}
 use Rattle.tm_sync.specs.declared.found.Columns.{Columns}

@@ -6,7 +6,7 @@ use Rattle.tm_viterbi.specs.WindowBlock.{WindowBlock}
 use Rattle.tm_windows.specs.Windows.{dropped_to}
 use Rattle.tm_inner.specs.SymbolPlaces.{origin_by, symbol_at, symbols_before}
 use Rattle.tm_inner.specs.Inner.{BlocksAt, bits_at, plain_bits_by}
-use Rattle.tm_rs_solve.specs.declared.answers.Answer.{Answer}
+use Rattle.tm_rs.specs.declared.answers.Answer.{Answer}
 use Rattle.tm_sync.specs.declared.found.Found.{Found}
 use Rattle.tm_codeblock.specs.ReceivedCodeblock.{places_in, codeblock_in, codeblock_at, received_columns, frame_of}
 use Rattle.tm_channel.specs.Items.{ItemValue, AreNearest, are_fixed, IsItem, AreItemsOf, dropping, dropped_item}

@@ -7,8 +7,8 @@ use Rattle.tm_inner.specs.SymbolPlaces.{symbol_at}
 use Rattle.tm_rs_code.specs.Nearest.{IsNearest, Nearest}
 use Rattle.tm_rs_code.specs.Nearest.Nearest.{Fixed as FixedWord, Beyond as BeyondWord}
 use Rattle.tm_rs_code.proofs.HasNearest.{has_nearest}
-use Rattle.tm_rs_solve.specs.declared.answers.Answer.{Answer}
-use Rattle.tm_rs_solve.specs.declared.answers.Answer.TheVariants.{Fixed, Beyond}
+use Rattle.tm_rs.specs.declared.answers.Answer.{Answer}
+use Rattle.tm_rs.specs.declared.answers.Answer.TheVariants.{Fixed, Beyond}
 use Rattle.tm_sync.specs.declared.found.Found.{Found}
 use Rattle.tm_codeblock.specs.ReceivedCodeblock.{codeblock_at, received_columns, frame_of, places_in}
 use Rattle.tm_channel.specs.Items.{ItemValue, IsRepaired, AreNearest, is_given, IsItem, AreItemsOf, HaveSymbols}

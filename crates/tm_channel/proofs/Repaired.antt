@@ -14,9 +14,9 @@ use Rattle.tm_gf256.specs.Poly.{numbers}
 use Rattle.tm_rs_code.specs.Code.{Code}
 use Rattle.tm_rs_code.specs.Nearest.{IsNearest, is_correctable}
 use Rattle.tm_rs_code.proofs.HasNearest.{correctable-is}
-use Rattle.tm_rs_solve.specs.Answers.{found}
-use Rattle.tm_rs_solve.specs.declared.answers.Answer.{Answer}
-use Rattle.tm_rs_solve.specs.declared.answers.Answer.TheVariants.{Beyond, Fixed}
+use Rattle.tm_rs.specs.Answers.{found}
+use Rattle.tm_rs.specs.declared.answers.Answer.{Answer}
+use Rattle.tm_rs.specs.declared.answers.Answer.TheVariants.{Beyond, Fixed}
 use Rattle.tm_workers.specs.declared.words.Word.{Word}
 use Rattle.tm_workers.specs.Batch.{EachBecomes}
 use Rattle.tm_workers.specs.Words.{Decodes}

@@ -18,7 +18,7 @@ use Rattle.tm_rs_code.specs.Nearest.{IsCodewordOf}
 use Rattle.tm_rs_code.proofs.DistanceLaw.{same_of_distance}
 use Rattle.tm_rs_code.proofs.Numbers.{AreElements-replicate}
 use Rattle.tm_rs_code.proofs.Register.{value_at-zeros}
-use Rattle.tm_rs_solve.specs.declared.answers.Answer.TheVariants.{Fixed, Beyond}
+use Rattle.tm_rs.specs.declared.answers.Answer.TheVariants.{Fixed, Beyond}
 use Rattle.tm_sync.specs.Places.{wrong_bits, match_of, are_verified, place_at, places_from, places}
 use Rattle.tm_sync.specs.Rescan.{place_here, places_after}
 use Rattle.tm_codeblock.specs.ReceivedCodeblock.{codeblock_in, received_columns, frame_of, rules_of}

@@ -7,8 +7,8 @@ use Rattle.tm_base.specs.Marker.{marker_size}
 use Rattle.tm_config.specs.Configuration.{Configuration, codeblock_length, is_uncoded}
 use Rattle.tm_config.specs.declared.values.OuterCode.TheVariants.{Uncoded}
 use Rattle.tm_rs_code.specs.Code.{distance}
-use Rattle.tm_rs_solve.specs.declared.answers.Answer.{Answer}
-use Rattle.tm_rs_solve.specs.declared.answers.Answer.TheVariants.{Fixed}
+use Rattle.tm_rs.specs.declared.answers.Answer.{Answer}
+use Rattle.tm_rs.specs.declared.answers.Answer.TheVariants.{Fixed}
 use Rattle.tm_sync.specs.declared.found.Found.{Found}
 use Rattle.tm_sync.specs.Marked.{Entry, IsMarked, places_of}
 use Rattle.tm_sync.specs.PlacesInside.{HasNoneInside, MayStand}

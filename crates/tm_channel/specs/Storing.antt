@@ -1,8 +1,8 @@
 -- What the store of a batch of codeblocks holds.
 use Rattle.std.specs.Prelude.{◌≡◌, ℕ, ◌*◌, ◌<◌, if◌then◌else◌, List, [], length, map, take, drop, get_or, unwrap_or}
 use Rattle.tm_config.specs.Configuration.{Configuration, codeblock_length}
-use Rattle.tm_rs_solve.specs.declared.answers.Answer.{Answer}
-use Rattle.tm_rs_solve.specs.declared.answers.Answer.TheVariants.{Beyond}
+use Rattle.tm_rs.specs.declared.answers.Answer.{Answer}
+use Rattle.tm_rs.specs.declared.answers.Answer.TheVariants.{Beyond}
 use Rattle.tm_workers.specs.declared.words.Word.{Word}
 use Rattle.tm_codeblock.specs.ReceivedCodeblock.{column_count, received_columns}
 use Rattle.tm_channel.specs.ColumnWords.{all_symbols}

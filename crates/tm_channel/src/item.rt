@@ -5,7 +5,7 @@ ghost use Rattle.tm_channel.specs.Items.{ItemValue, are_fixed};
 
 use std::marker::Model;
 use tm_base::Failed;
-use tm_rs_solve::Answer;
+use tm_rs::Answer;
 
 /// What is said of a codeblock that was found (CCSDS 131.0-B, Frame Synchronization and Reed-Solomon Coding). It has at
 /// most eight answers.

@@ -33,7 +33,7 @@ pub use tm_config::{Config, ConfigError, Raw};
 pub use tm_inner::{
     InnerEnd, InnerReceiver, InnerSender, NoWatch, SendError, Window, WindowWatch, inner_all,
 };
-pub use tm_rs_solve::Answer;
+pub use tm_rs::Answer;
 pub use tm_viterbi::{Block, BlockTaker};
 pub use tm_windows::{AllError, Alone, Chosen, Crew, FeedError, Threaded};
 pub use tm_workers::{Gate, OpenGate};

@@ -11,7 +11,7 @@ use crate::column_words::write_frame;
 use crate::item::{Item, are_fixed};
 use tm_codeblock::{column_count, has_code, read_codeblock};
 use tm_config::{Config, LONGEST_CODEBLOCK};
-use tm_rs_solve::Answer;
+use tm_rs::Answer;
 use tm_sync::{Found, RecentBits};
 use tm_workers::Word;
 

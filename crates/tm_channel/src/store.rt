@@ -18,7 +18,7 @@ use std::marker::Model;
 use tm_codeblock::{codeblock_size, column_count, columns_of};
 use tm_config::{Config, LONGEST_CODEBLOCK};
 use tm_gf256::Gf;
-use tm_rs_solve::Answer;
+use tm_rs::Answer;
 use tm_sync::{Found, NO_PLACE, RecentBits};
 use tm_workers::Word;
 

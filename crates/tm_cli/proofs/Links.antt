@@ -19,8 +19,8 @@ use Rattle.tm_inner.specs.SymbolPlaces.{symbol_at}
 use Rattle.tm_inner.proofs.PhasePieces.{items_of-with_phase}
 use Rattle.tm_inner.proofs.WithPhase.{OnePhase, one-choice}
 use Rattle.tm_inner.proofs.ReceivedBits.{bits-plain}
-use Rattle.tm_rs_solve.specs.declared.answers.Answer.{Answer}
-use Rattle.tm_rs_solve.specs.declared.answers.Answer.TheVariants.{Fixed}
+use Rattle.tm_rs.specs.declared.answers.Answer.{Answer}
+use Rattle.tm_rs.specs.declared.answers.Answer.TheVariants.{Fixed}
 use Rattle.tm_sync.specs.declared.found.Found.{Found}
 use Rattle.tm_viterbi.specs.Clean.{complemented_octets}
 use Rattle.tm_codeblock.specs.Frames.{whole_frames}

@@ -1,8 +1,8 @@
 -- The lines of a report, and of a refusal, each ended by one line feed.
 use Rattle.std.specs.Prelude.{ℕ, Bool, if◌then◌else◌, List, [], ◌∷◌, ◌++◌, codes, decimal, flat_map}
 use Rattle.tm_driver.specs.Lines.{line_end}
-use Rattle.tm_rs_solve.specs.declared.answers.Answer.{Answer}
-use Rattle.tm_rs_solve.specs.declared.answers.Answer.TheVariants.{Fixed, Beyond}
+use Rattle.tm_rs.specs.declared.answers.Answer.{Answer}
+use Rattle.tm_rs.specs.declared.answers.Answer.TheVariants.{Fixed, Beyond}
 use Rattle.tm_channel.specs.Items.{ItemValue}
 
 -- that the words are refused, for this reason

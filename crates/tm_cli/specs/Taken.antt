@@ -3,7 +3,7 @@ use Rattle.std.specs.Prelude.{◌≡◌, ◌⊎◌, ℕ, ◌+◌, ◌≤◌, if�
 use Rattle.tm_base.specs.Count.{raised_by}
 use Rattle.tm_base.specs.Handed.{Handed, Phase, Item, items_of}
 use Rattle.tm_config.specs.Configuration.{longest_codeblock}
-use Rattle.tm_rs_solve.specs.declared.answers.Answer.{Answer}
+use Rattle.tm_rs.specs.declared.answers.Answer.{Answer}
 use Rattle.tm_channel.specs.Items.{ItemValue, are_fixed, frames_of}
 use Rattle.tm_driver.specs.Courses.{SinkState}
 use Rattle.tm_driver.specs.Lines.{phase_text}

@@ -11,8 +11,8 @@ use tm_config::{Config, LONGEST_CODEBLOCK, OuterCode};
 use tm_gf256::{Basis, Gf};
 use tm_interleave::{put_word, take_word};
 use tm_random::mask;
+use tm_rs::checks;
 use tm_rs_code::Params;
-use tm_rs_encode::checks;
 
 /// The most octets of a channel access data unit: those of the marker, and of the longest codeblock.
 pub const LONGEST_CADU: usize = 4 + LONGEST_CODEBLOCK;

@@ -5,8 +5,8 @@ use tm_base::Failed;
 use tm_channel::{Item, ItemTaker, Receiver, Totals};
 use tm_config::{Config, Raw};
 use tm_gf256::Gf;
+use tm_rs::{Answer, ErasedAnswer};
 use tm_rs_code::Params;
-use tm_rs_solve::{Answer, ErasedAnswer};
 use tm_workers::{ErasedWord, Gate, Word, decode_batch, decode_erased_batch};
 
 pub const SPINS: u64 = 1_000_000_000;

@@ -1,7 +1,7 @@
 // The check symbols against tabled values.
 use tm_gf256::Gf;
+use tm_rs::{checks, plain_checks};
 use tm_rs_code::Params;
-use tm_rs_encode::{checks, plain_checks};
 
 // The one information symbol 1 gives the coefficients of the generator polynomial after its first.
 #[test]

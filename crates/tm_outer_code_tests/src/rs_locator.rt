@@ -7,8 +7,8 @@ use std::marker::Brand;
 use std::process::Abort;
 use std::sync::ledger::{Blank, Ledger};
 use tm_gf256::Gf;
+use tm_rs::{Locator, Steps, locate, solve, solve_erased};
 use tm_rs_code::{Params, plain_values_at_places};
-use tm_rs_locator::{Locator, Steps, locate, solve, solve_erased};
 
 mod locators;
 

@@ -6,9 +6,8 @@ use std::marker::Brand;
 use std::process::Abort;
 use std::sync::ledger::{Blank, Ledger};
 use tm_gf256::Gf;
+use tm_rs::{Answer, ErasedAnswer, Steps, decode_erased, decode_word};
 use tm_rs_code::Params;
-use tm_rs_locator::Steps;
-use tm_rs_solve::{Answer, ErasedAnswer, decode_erased, decode_word};
 use words::WORDS;
 
 mod both_forms;

@@ -2,8 +2,8 @@
 use std::sync::atomic::{AtomicU64, Ordering};
 use std::test::Fail;
 use tm_gf256::Gf;
+use tm_rs::{Answer, ErasedAnswer};
 use tm_rs_code::Params;
-use tm_rs_solve::{Answer, ErasedAnswer};
 use tm_workers::{
     ErasedWord, Gate, InPlace, OpenGate, Word, decode_all, decode_batch, decode_erased_batch,
     split_evenly,

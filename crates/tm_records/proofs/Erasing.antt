@@ -21,9 +21,9 @@ use Rattle.tm_driver.proofs.SinkTexts.{wrote-nothing, wrote-prefix, wrote-no_pre
 use Rattle.tm_gf256.specs.declared.basis.Basis.{Basis}
 use Rattle.tm_gf256.specs.Octet.{sent_octet}
 use Rattle.tm_rs_code.specs.Erasures.{NearestErased}
-use Rattle.tm_rs_solve.specs.Answers.{found_erased}
-use Rattle.tm_rs_solve.specs.declared.answers.ErasedAnswer.{ErasedAnswer}
-use Rattle.tm_rs_solve.specs.declared.answers.ErasedAnswer.TheVariants.{Fixed as FixedBoth, Beyond as BeyondBoth}
+use Rattle.tm_rs.specs.Answers.{found_erased}
+use Rattle.tm_rs.specs.declared.answers.ErasedAnswer.{ErasedAnswer}
+use Rattle.tm_rs.specs.declared.answers.ErasedAnswer.TheVariants.{Fixed as FixedBoth, Beyond as BeyondBoth}
 use Rattle.tm_records.specs.Batch.{Batch, opened}
 use Rattle.tm_records.specs.declared.coding.Coding.{Coding}
 use Rattle.tm_records.specs.Erased.{coding_of, erased_meaning, erased_text, nearest_text, nearest_lines, is_beyond, record_rest}

@@ -16,9 +16,9 @@ use Rattle.tm_driver.specs.Meaning.{WroteOutput, taken_by}
 use Rattle.tm_driver.proofs.SinkTexts.{wrote-nothing}
 use Rattle.tm_gf256.specs.Octet.{sent_octet, element_of}
 use Rattle.tm_rs_code.specs.Nearest.{IsNearest}
-use Rattle.tm_rs_solve.specs.Answers.{found}
-use Rattle.tm_rs_solve.specs.declared.answers.Answer.{Answer}
-use Rattle.tm_rs_solve.specs.declared.answers.Answer.TheVariants.{Fixed, Beyond}
+use Rattle.tm_rs.specs.Answers.{found}
+use Rattle.tm_rs.specs.declared.answers.Answer.{Answer}
+use Rattle.tm_rs.specs.declared.answers.Answer.TheVariants.{Fixed, Beyond}
 use Rattle.tm_records.specs.Word.{octets_of_hex, word_meaning, word_refusal, word_of, word_text, IsWordLine, IsBeyond}
 use Rattle.tm_records.specs.declared.word_command.WordRefusal.{WordRefusal}
 use Rattle.tm_records.specs.declared.word_command.WordRefusal.TheVariants.{Code}

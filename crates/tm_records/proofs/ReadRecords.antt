@@ -5,9 +5,9 @@ use Rattle.std.proofs.lemmas.List.{drop-drop, drop-take, take-take, get_or-set_o
 use Rattle.tm_gf256.specs.Octet.{element_of}
 use Rattle.tm_gf256.specs.Poly.{numbers}
 use Rattle.tm_rs_code.specs.Erasures.{IsNearestErased}
-use Rattle.tm_rs_solve.specs.Answers.{found_erased}
-use Rattle.tm_rs_solve.specs.declared.answers.ErasedAnswer.{ErasedAnswer}
-use Rattle.tm_rs_solve.specs.declared.answers.ErasedAnswer.TheVariants.{Beyond}
+use Rattle.tm_rs.specs.Answers.{found_erased}
+use Rattle.tm_rs.specs.declared.answers.ErasedAnswer.{ErasedAnswer}
+use Rattle.tm_rs.specs.declared.answers.ErasedAnswer.TheVariants.{Beyond}
 use Rattle.tm_workers.specs.declared.words.ErasedWord.{ErasedWord}
 use Rattle.tm_workers.specs.Batch.{EachBecomes}
 use Rattle.tm_workers.specs.Words.{DecodesErased}

@@ -3,8 +3,8 @@ use Rattle.std.specs.Prelude.{◌≡◌, ℕ, ◌*◌, ◌<◌, ◌≤◌, List,
 use Rattle.tm_gf256.specs.Poly.{numbers}
 use Rattle.tm_rs_code.specs.Erasures.{NearestErased}
 use Rattle.tm_rs_code.specs.Code.{longest_word}
-use Rattle.tm_rs_solve.specs.Answers.{found_erased}
-use Rattle.tm_rs_solve.specs.declared.answers.ErasedAnswer.TheVariants.{Beyond}
+use Rattle.tm_rs.specs.Answers.{found_erased}
+use Rattle.tm_rs.specs.declared.answers.ErasedAnswer.TheVariants.{Beyond}
 use Rattle.tm_workers.specs.declared.words.ErasedWord.{ErasedWord}
 use Rattle.tm_records.specs.declared.coding.Coding.{Coding}
 use Rattle.tm_records.specs.Records.{first_erased, first_word, record_size, most_records}

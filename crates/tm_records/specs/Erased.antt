@@ -11,8 +11,8 @@ use Rattle.tm_gf256.specs.declared.basis.Basis.{Basis}
 use Rattle.tm_gf256.specs.Octet.{sent_octet}
 use Rattle.tm_rs_code.specs.Erasures.{NearestErased}
 use Rattle.tm_rs_code.specs.Erasures.NearestErased.{Fixed, Beyond}
-use Rattle.tm_rs_solve.specs.declared.answers.ErasedAnswer.{ErasedAnswer}
-use Rattle.tm_rs_solve.specs.declared.answers.ErasedAnswer.TheVariants.{Fixed as FixedBoth, Beyond as BeyondBoth}
+use Rattle.tm_rs.specs.declared.answers.ErasedAnswer.{ErasedAnswer}
+use Rattle.tm_rs.specs.declared.answers.ErasedAnswer.TheVariants.{Fixed as FixedBoth, Beyond as BeyondBoth}
 use Rattle.tm_records.specs.declared.coding.Coding.{Coding}
 use Rattle.tm_records.specs.Records.{AreNearest, AreNearestDue, left_over}
 

@@ -11,9 +11,9 @@ use Rattle.tm_gf256.specs.Octet.{sent_octet, element_of}
 use Rattle.tm_rs_code.specs.Nearest.{IsNearest}
 use Rattle.tm_rs_code.specs.Nearest.Nearest.{Beyond as BeyondWord}
 use Rattle.tm_rs_code.specs.Code.{longest_word}
-use Rattle.tm_rs_solve.specs.Answers.{found}
-use Rattle.tm_rs_solve.specs.declared.answers.Answer.{Answer}
-use Rattle.tm_rs_solve.specs.declared.answers.Answer.TheVariants.{Fixed, Beyond}
+use Rattle.tm_rs.specs.Answers.{found}
+use Rattle.tm_rs.specs.declared.answers.Answer.{Answer}
+use Rattle.tm_rs.specs.declared.answers.Answer.TheVariants.{Fixed, Beyond}
 use Rattle.tm_records.specs.declared.word_command.WordRefusal.{WordRefusal}
 use Rattle.tm_records.specs.declared.word_command.WordRefusal.TheVariants.{Code, Word, Hex}
 

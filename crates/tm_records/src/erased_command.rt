@@ -5,7 +5,7 @@ ghost use Rattle.tm_base.specs.Outside.{HasCause};
 ghost use Rattle.tm_base.specs.Written.{Wrote, WrotePrefix};
 ghost use Rattle.tm_driver.specs.Answered.{Answered};
 ghost use Rattle.tm_driver.specs.Courses.{sink_call, source_call};
-ghost use Rattle.tm_rs_solve.specs.Answers.{found_erased};
+ghost use Rattle.tm_rs.specs.Answers.{found_erased};
 ghost use Rattle.tm_records.specs.Batch.{opened};
 ghost use Rattle.tm_records.specs.Erased.{coding_of, erased_meaning, erased_text, is_beyond, nearest_lines};
 ghost use Rattle.tm_records.specs.Erasing.{Broke, BreaksMore, HasSpace, Holds, HoldsMore, outcome_with, stand};
@@ -20,8 +20,8 @@ use std::thread::Threads;
 use tm_base::{Failed, NoMemory, Sink, Source};
 use tm_config::{Config, OuterCode};
 use tm_driver::{Ending, Feed, Line, Outcome, Stop, drive, report_rest};
+use tm_rs::ErasedAnswer;
 use tm_rs_code::Params;
-use tm_rs_solve::ErasedAnswer;
 use tm_workers::OpenGate;
 
 // Writes what became of a record, and the octets of its codeword.

@@ -19,6 +19,6 @@ pub use coding::Coding;
 pub use erased_command::erased;
 pub use laws::nearest_records_law;
 pub use records::{BATCH, Records};
-pub use tm_rs_solve::ErasedAnswer;
+pub use tm_rs::ErasedAnswer;
 pub use tm_workers::{Gate, OpenGate};
 pub use word_command::{WordRefusal, test_word, word};

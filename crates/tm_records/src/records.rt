@@ -3,7 +3,7 @@ ghost use Rattle.std.specs.Prelude.{◌≡◌, ◌<◌, ◌≤◌, ◌*◌, ◌-
 ghost use Rattle.tm_base.specs.Limits.{most_workers};
 ghost use Rattle.tm_gf256.specs.Octet.{sent_octet};
 ghost use Rattle.tm_rs_code.specs.Code.{longest_word};
-ghost use Rattle.tm_rs_solve.specs.Answers.{found_erased};
+ghost use Rattle.tm_rs.specs.Answers.{found_erased};
 ghost use Rattle.tm_records.specs.Batch.{Batch, opened};
 ghost use Rattle.tm_records.specs.Records.{AreNearest, left_over, record_size, most_records};
 
@@ -14,7 +14,7 @@ use std::marker::Model;
 use std::thread::Threads;
 use tm_base::NoMemory;
 use tm_gf256::Gf;
-use tm_rs_solve::ErasedAnswer;
+use tm_rs::ErasedAnswer;
 use tm_workers::{ErasedWord, Gate};
 
 /// How many records a batch has.

@@ -10,7 +10,7 @@ ghost use Rattle.tm_driver.specs.Meaning.{Ends, taken_by};
 ghost use Rattle.tm_driver.specs.Statuses.{is_sink_fault};
 ghost use Rattle.tm_gf256.specs.Octet.{sent_octet, element_of};
 ghost use Rattle.tm_rs_code.specs.Nearest.{IsNearest};
-ghost use Rattle.tm_rs_solve.specs.Answers.{found};
+ghost use Rattle.tm_rs.specs.Answers.{found};
 ghost use Rattle.tm_records.specs.Word.{octets_of_hex, word_meaning, word_refusal, word_reason, word_text};
 
 use crate::coding::LONGEST_WORD;
@@ -20,8 +20,8 @@ use tm_base::{Failed, Sink};
 use tm_config::{Config, OuterCode};
 use tm_driver::{Ending, Line};
 use tm_gf256::Gf;
+use tm_rs::{Answer, decode_uncounted};
 use tm_rs_code::Params;
-use tm_rs_solve::{Answer, decode_uncounted};
 
 /// Why the text of a word is refused.
 #[derive(Clone, Copy, Debug, PartialEq, Eq)]

@@ -4,12 +4,11 @@ ghost use Rattle.std.specs.Prelude.{◌≡◌, ◌<◌, length};
 use crate::job::{Form, Job};
 use std::sync::ledger::{Blank, Ledger};
 use tm_gf256::Gf;
-use tm_rs_code::Params;
-use tm_rs_encode::checks;
-use tm_rs_locator::Steps;
-use tm_rs_solve::{
-    Answer, ErasedAnswer, decode_erased, decode_word, plain_decode_erased, plain_decode_word,
+use tm_rs::{
+    Answer, ErasedAnswer, Steps, checks, decode_erased, decode_word, plain_decode_erased,
+    plain_decode_word,
 };
+use tm_rs_code::Params;
 
 /// How many words became codewords, and how many of their symbols were wrong.
 #[derive(Drop)]

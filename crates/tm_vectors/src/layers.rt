@@ -10,8 +10,8 @@ use tm_gf256::{Basis, Gf};
 use tm_inner::{InnerSender, SendError};
 use tm_interleave::take_word;
 use tm_random::mask;
+use tm_rs::checks;
 use tm_rs_code::{Params, is_codeword};
-use tm_rs_encode::checks;
 
 // The configuration of a line.
 fn config_of(alloc: Global, line: &str) -> Result<Config, Fail> {

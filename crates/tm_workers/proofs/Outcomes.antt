@@ -8,11 +8,11 @@ use Rattle.tm_rs_code.specs.Erasures.NearestErased.{Fixed as FixedErased, Beyond
 use Rattle.tm_rs_code.specs.Nearest.{Nearest}
 use Rattle.tm_rs_code.specs.Nearest.Nearest.{Fixed as FixedWord, Beyond as BeyondWord}
 use Rattle.tm_rs_code.proofs.OnlyNearest.{nearest_only, nearest_erased_only}
-use Rattle.tm_rs_solve.specs.Answers.{found, found_erased}
-use Rattle.tm_rs_solve.specs.declared.answers.Answer.{Answer}
-use Rattle.tm_rs_solve.specs.declared.answers.Answer.TheVariants.{Fixed, Beyond}
-use Rattle.tm_rs_solve.specs.declared.answers.ErasedAnswer.{ErasedAnswer}
-use Rattle.tm_rs_solve.specs.declared.answers.ErasedAnswer.TheVariants.{Fixed as FixedBoth, Beyond as BeyondBoth}
+use Rattle.tm_rs.specs.Answers.{found, found_erased}
+use Rattle.tm_rs.specs.declared.answers.Answer.{Answer}
+use Rattle.tm_rs.specs.declared.answers.Answer.TheVariants.{Fixed, Beyond}
+use Rattle.tm_rs.specs.declared.answers.ErasedAnswer.{ErasedAnswer}
+use Rattle.tm_rs.specs.declared.answers.ErasedAnswer.TheVariants.{Fixed as FixedBoth, Beyond as BeyondBoth}
 use Rattle.tm_workers.specs.Batch.{EachBecomes}
 use Rattle.tm_workers.specs.Words.{Decodes, DecodesErased}
 use Rattle.tm_workers.specs.declared.words.Word.{Word}

@@ -4,11 +4,11 @@ use Rattle.tm_gf256.specs.Poly.{numbers}
 use Rattle.tm_rs_code.specs.Code.{Code}
 use Rattle.tm_rs_code.specs.Nearest.{IsNearest}
 use Rattle.tm_rs_code.specs.Erasures.{IsNearestErased}
-use Rattle.tm_rs_solve.specs.Answers.{found, found_erased}
-use Rattle.tm_rs_solve.specs.declared.answers.Answer.{Answer}
-use Rattle.tm_rs_solve.specs.declared.answers.Answer.TheVariants.{Beyond}
-use Rattle.tm_rs_solve.specs.declared.answers.ErasedAnswer.{ErasedAnswer}
-use Rattle.tm_rs_solve.specs.declared.answers.ErasedAnswer.TheVariants.{Beyond as BeyondBoth}
+use Rattle.tm_rs.specs.Answers.{found, found_erased}
+use Rattle.tm_rs.specs.declared.answers.Answer.{Answer}
+use Rattle.tm_rs.specs.declared.answers.Answer.TheVariants.{Beyond}
+use Rattle.tm_rs.specs.declared.answers.ErasedAnswer.{ErasedAnswer}
+use Rattle.tm_rs.specs.declared.answers.ErasedAnswer.TheVariants.{Beyond as BeyondBoth}
 use Rattle.tm_workers.specs.declared.words.Word.{Word}
 use Rattle.tm_workers.specs.declared.words.ErasedWord.{ErasedWord}
 

@@ -4,8 +4,8 @@ ghost use Rattle.tm_rs_code.specs.Code.{Code};
 ghost use Rattle.tm_workers.specs.Words.{Decodes, DecodesErased};
 
 use tm_gf256::Gf;
+use tm_rs::{Answer, ErasedAnswer, decode_erased_uncounted, decode_uncounted};
 use tm_rs_code::Params;
-use tm_rs_solve::{Answer, ErasedAnswer, decode_erased_uncounted, decode_uncounted};
 
 /// A word, of which the first n symbols count, and what became of it.
 #[derive(Clone, Copy, Debug, PartialEq, Eq)]

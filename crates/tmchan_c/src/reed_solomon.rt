@@ -8,9 +8,8 @@ ghost use Rattle.tmchan_c.specs.Repaired.{IsRepaired, IsRepairedErased, erased_b
 
 use crate::refusal::{Refusal, checks_refusal, flags_refusal, word_refusal};
 use tm_gf256::{Basis, Gf};
+use tm_rs::{Answer, ErasedAnswer, checks, decode_erased_uncounted, decode_uncounted};
 use tm_rs_code::Params;
-use tm_rs_encode::checks;
-use tm_rs_solve::{Answer, ErasedAnswer, decode_erased_uncounted, decode_uncounted};
 
 // The most symbols of a word.
 const MOST: usize = 255;

@@ -4,10 +4,8 @@ ghost use Rattle.std.specs.Prelude.{◌≡◌, ◌<◌};
 use std::marker::Brand;
 use std::sync::ledger::{Blank, Ledger};
 use tm_gf256::Gf;
+use tm_rs::{Steps, checks, decode_erased, decode_word, plain_decode_erased, plain_decode_word};
 use tm_rs_code::Params;
-use tm_rs_encode::checks;
-use tm_rs_locator::Steps;
-use tm_rs_solve::{decode_erased, decode_word, plain_decode_erased, plain_decode_word};
 
 // A codeword with `wrong` wrong symbols, seven places apart, the first at `shift`.
 fn word_with(e: u64, shift: usize, wrong: usize) -> [Gf; 255] {

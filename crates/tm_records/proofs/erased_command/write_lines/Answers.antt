@@ -1,6 +1,6 @@
 use Rattle.std.proofs.Common.{◌∙◌, ◌||◌, sym, subst}
 use Rattle.tm_base.specs.Written.{Wrote, WrotePrefix}
-use Rattle.tm_rs_solve.specs.Answers.{found_erased}
+use Rattle.tm_rs.specs.Answers.{found_erased}
 use Rattle.tm_driver.proofs.SinkTexts.{wrote-then}
 use Rattle.tm_driver.proofs.Results.{on_err-all}
 use Rattle.tm_records.proofs.Erasing.{line-is, lines-more, beyond-more, broke-in}

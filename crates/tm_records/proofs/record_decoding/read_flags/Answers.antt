@@ -1,5 +1,5 @@
 use Rattle.std.proofs.Common.{◌∙◌, arith}
-use Rattle.tm_rs_solve.proofs.Flags.{flags-read}
+use Rattle.tm_rs.proofs.Flags.{flags-read}
 use Rattle.tm_records.proofs.record_decoding.read_flags.Goals as goal
 
 pub returns : goal.returns

@@ -1,5 +1,5 @@
 use Rattle.std.proofs.Common.{◌∙◌, arith}
-use Rattle.tm_rs_solve.proofs.Flags.{flags-read}
+use Rattle.tm_rs.proofs.Flags.{flags-read}
 use Rattle.tmchan_c.proofs.reed_solomon.read_flags.Goals as goal
 
 pub returns : goal.returns

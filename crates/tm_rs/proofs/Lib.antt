@@ -1,0 +1,15 @@
+pub mod Rows
+pub mod Generators
+pub mod Registers
+pub mod Transitions
+pub mod Endings
+pub mod Erasures
+pub mod Products
+pub mod ErasedEndings
+pub mod Starts
+pub mod Quotients
+pub mod Remainders
+pub mod Words
+pub mod ErrorsAt
+pub mod Named
+pub mod Flags

@@ -1,6 +1,0 @@
-use Rattle.std.proofs.Common.{arith}
-use Rattle.tm_rs_encode.proofs.Registers.{numbers_are}
-use Rattle.tm_rs_encode.proofs.encode.store.Goals as goal
-
-pub returns : goal.returns
-returns c = numbers_are c.loop-i.out c.args.register.now (omega arith) (λ i below. c.loop-i.invariant i (omega arith))

@@ -1,6 +1,0 @@
-pub mod Transitions
-pub mod Endings
-pub mod Erasures
-pub mod Products
-pub mod ErasedEndings
-pub mod Starts
