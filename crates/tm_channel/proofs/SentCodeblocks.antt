@@ -15,11 +15,11 @@ use Rattle.tm_config.proofs.Lengths.{word_length-le}
 use Rattle.tm_gf256.specs.Octet.{sent_octet, element_of}
 use Rattle.tm_gf256.specs.declared.basis.Basis.{Basis}
 use Rattle.tm_gf256.proofs.DualInverse.{sent_octet-lt, element_of-lt, element_of-sent_octet}
-use Rattle.tm_interleave.specs.Column.{column}
-use Rattle.tm_interleave.specs.Interleaved.{interleaved}
-use Rattle.tm_interleave.proofs.Columns.{length-column, length-interleaved, column-interleaved, interleaved-columns_of, get_or-block}
-use Rattle.tm_random.specs.Masked.{masked}
-use Rattle.tm_random.proofs.Masks.{length-masked, AreOctets-masked, masked-twice}
+use Rattle.tm_codeblock.specs.Column.{column}
+use Rattle.tm_codeblock.specs.Interleaved.{interleaved}
+use Rattle.tm_codeblock.proofs.Columns.{length-column, length-interleaved, column-interleaved, interleaved-all_columns, get_or-block}
+use Rattle.tm_codeblock.specs.Masked.{masked}
+use Rattle.tm_codeblock.proofs.Masks.{length-masked, AreOctets-masked, masked-twice}
 use Rattle.tm_rs_code.specs.Code.{AreElements, IsSystematic, encode_word}
 use Rattle.tm_rs_code.specs.Nearest.{IsCodewordOf}
 use Rattle.tm_rs_code.proofs.Systematic.{systematic_exists}
@@ -306,5 +306,5 @@ frame-restored c frame codeblock ok is same = elim (coded c ok) [
       (ap (λ l. interleaved c.depth (data_length c) (map (data_octets c) l))
       (columns-coded c (codeblock_of c frame) some.0)
       ∙ ap (interleaved c.depth (data_length c)) (data-from c frame 0 c.depth ok is some.0 (omega arith))
-      ∙ interleaved-columns_of c.depth (data_length c) frame ok.some_depth (is.0 ∙ ok.whole))
+      ∙ interleaved-all_columns c.depth (data_length c) frame ok.some_depth (is.0 ∙ ok.whole))
 ]

@@ -12,7 +12,7 @@ use Rattle.tm_gf256.specs.declared.basis.Basis.TheVariants.{Dual, Poly}
 use Rattle.tm_gf256.specs.Dual.{dual_element, dual_octet, dual_bits, dual_bit, trace}
 use Rattle.tm_gf256.specs.Field.{times, power, remainder, bit_product}
 use Rattle.tm_gf256.specs.Poly.{value_at}
-use Rattle.tm_random.specs.Sequence.{sequence_bit}
+use Rattle.tm_codeblock.specs.Sequence.{sequence_bit}
 use Rattle.tm_rs_code.specs.Code.{root, distance}
 use Rattle.tm_rs_code.specs.Nearest.{IsCodewordOf}
 use Rattle.tm_rs_code.proofs.DistanceLaw.{same_of_distance}

@@ -4,14 +4,13 @@ ghost use Rattle.tm_config.specs.Configuration.{codeblock_length, word_length};
 ghost use Rattle.tm_gf256.specs.Octet.{element_of, sent_octet};
 ghost use Rattle.tm_gf256.specs.Poly.{numbers};
 ghost use Rattle.tm_rs_code.specs.Code.{longest_word};
-ghost use Rattle.tm_interleave.specs.Column.{column};
+ghost use Rattle.tm_codeblock.specs.Column.{column};
 ghost use Rattle.tm_codeblock.specs.ReceivedCodeblock.{frame_of, received_columns};
 ghost use Rattle.tm_channel.specs.ColumnWords.{all_symbols};
 
-use tm_codeblock::basis_of;
+use tm_codeblock::{basis_of, put_word, take_word};
 use tm_config::{Config, OuterCode};
 use tm_gf256::Basis;
-use tm_interleave::{put_word, take_word};
 use tm_workers::Word;
 
 /// Reads the columns of a codeblock, each into a word.

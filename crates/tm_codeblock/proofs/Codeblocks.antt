@@ -11,12 +11,12 @@ use Rattle.tm_config.proofs.Choices.{uncoded_false}
 use Rattle.tm_gf256.specs.Octet.{sent_octet, element_of}
 use Rattle.tm_gf256.specs.declared.basis.Basis.{Basis}
 use Rattle.tm_gf256.proofs.DualInverse.{sent_octet-element_of}
-use Rattle.tm_interleave.specs.Column.{column}
-use Rattle.tm_interleave.specs.Interleaved.{interleaved}
-use Rattle.tm_interleave.proofs.Columns.{same_columns, column-append, column-interleaved, length-interleaved, length-column}
+use Rattle.tm_codeblock.specs.Column.{column}
+use Rattle.tm_codeblock.specs.Interleaved.{interleaved}
+use Rattle.tm_codeblock.proofs.Columns.{same_columns, column-append, column-interleaved, length-interleaved, length-column}
 use Rattle.tm_rs_code.specs.Code.{encode_word}
 use Rattle.tm_base.specs.Marker.{marker}
-use Rattle.tm_random.specs.Masked.{masked}
+use Rattle.tm_codeblock.specs.Masked.{masked}
 use Rattle.tm_codeblock.specs.Cadu.{coded_octets, coded_column, codeblock_of, cadu}
 
 -- octets read in a basis and sent in it are the same octets

@@ -5,7 +5,7 @@ use Rattle.std.proofs.lemmas.List.Elements.{All-cons}
 use Rattle.tm_base.specs.Bits.{low_bits, bits_of, bits_of_octet, bit_number, octets_of, AreOctets}
 use Rattle.tm_base.proofs.Packing.{low_bits-zero, low_bits-push, bit_number-odd, octets_of-bits_of, AreOctets-rest}
 use Rattle.tm_config.specs.Configuration.{Configuration}
-use Rattle.tm_random.specs.Masked.{masked}
+use Rattle.tm_codeblock.specs.Masked.{masked}
 use Rattle.tm_sync.specs.Bits.{flip, complement, in_polarity}
 use Rattle.tm_codeblock.specs.ReceivedCodeblock.{codeblock_in}
 

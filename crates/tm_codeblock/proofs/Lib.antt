@@ -1,3 +1,7 @@
+pub mod Columns
+pub mod Sequences
+pub mod Masks
+mod SequenceTable
 pub mod Frames
 pub mod Codeblocks
 pub mod Complemented

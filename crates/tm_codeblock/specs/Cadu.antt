@@ -6,9 +6,9 @@ use Rattle.tm_base.specs.Marker.{marker, marker_octets}
 use Rattle.tm_config.specs.Configuration.{Configuration, correctable, is_uncoded, word_length, longest_codeblock, codeblock_length}
 use Rattle.tm_gf256.specs.Octet.{sent_octet, element_of}
 use Rattle.tm_gf256.specs.declared.basis.Basis.{Basis}
-use Rattle.tm_interleave.specs.Column.{column}
-use Rattle.tm_interleave.specs.Interleaved.{interleaved}
-use Rattle.tm_random.specs.Masked.{masked}
+use Rattle.tm_codeblock.specs.Column.{column}
+use Rattle.tm_codeblock.specs.Interleaved.{interleaved}
+use Rattle.tm_codeblock.specs.Masked.{masked}
 use Rattle.tm_rs_code.specs.Code.{encode_word}
 
 -- the octets of the systematic codeword, of the code that corrects e symbols, that begins with

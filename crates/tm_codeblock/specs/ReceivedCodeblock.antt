@@ -6,9 +6,9 @@ use Rattle.tm_base.specs.Bits.{octets_of}
 use Rattle.tm_base.specs.Marker.{marker_size}
 use Rattle.tm_config.specs.Configuration.{Configuration, correctable, data_length, codeblock_length, is_uncoded, is_sought}
 use Rattle.tm_gf256.specs.Octet.{sent_octet, element_of}
-use Rattle.tm_interleave.specs.Column.{column}
-use Rattle.tm_interleave.specs.Interleaved.{interleaved}
-use Rattle.tm_random.specs.Masked.{masked}
+use Rattle.tm_codeblock.specs.Column.{column}
+use Rattle.tm_codeblock.specs.Interleaved.{interleaved}
+use Rattle.tm_codeblock.specs.Masked.{masked}
 use Rattle.tm_rs_code.specs.Nearest.{is_correctable}
 use Rattle.tm_sync.specs.declared.found.Found.{Found}
 use Rattle.tm_sync.specs.declared.found.Columns.{Columns}

@@ -2,15 +2,15 @@
 ghost use Rattle.std.specs.Prelude.{◌≡◌, ◌≢◌, ℕ, ◌+◌, ◌-◌, ◌*◌, ◌<◌, ◌≤◌, ◌++◌, length, true, false};
 ghost use Rattle.tm_config.specs.Accepted.{IsAccepted};
 ghost use Rattle.tm_config.specs.Configuration.{correctable, word_length, codeblock_length, longest_codeblock, deepest};
-ghost use Rattle.tm_interleave.specs.Column.{column};
+ghost use Rattle.tm_codeblock.specs.Column.{column};
 ghost use Rattle.tm_codeblock.specs.ReceivedCodeblock.{column_count};
 ghost use Rattle.tm_codeblock.specs.Cadu.{coded_octets, coded_column, codeblock_of, cadu, unit_size};
 
+use crate::columns::{put_word, take_word};
+use crate::randomizer::mask;
 use tm_base::MARKER;
 use tm_config::{Config, LONGEST_CODEBLOCK, OuterCode};
 use tm_gf256::{Basis, Gf};
-use tm_interleave::{put_word, take_word};
-use tm_random::mask;
 use tm_rs::checks;
 use tm_rs_code::Params;
 

@@ -6,8 +6,8 @@ ghost use Rattle.tm_sync.specs.Bits.{complement};
 ghost use Rattle.tm_codeblock.specs.ReceivedCodeblock.{codeblock_in, columns_of};
 
 use crate::cadus::is_randomized;
+use crate::randomizer::mask;
 use tm_config::{Config, Sought};
-use tm_random::mask;
 use tm_sync::Columns;
 
 /// Makes the codeblock of the octets that were received: complemented where it was received inverted, and with the

@@ -1,5 +1,5 @@
 // A column of a block.
-use tm_interleave::{put_word, take_word};
+use tm_codeblock::{put_word, take_word};
 
 #[test]
 fn takes_and_puts_a_column(rt: HostRuntime) {

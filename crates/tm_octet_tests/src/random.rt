@@ -1,6 +1,6 @@
 // The sequence of the randomizer, added and taken away.
 use std::test::Fail;
-use tm_random::{mask, masked_twice};
+use tm_codeblock::{mask, masked_twice};
 
 #[test]
 fn sequence_begins_and_repeats(rt: HostRuntime) -> Result<(), Fail> {

@@ -6,10 +6,9 @@ use std::process::Abort;
 use std::test::Fail;
 use tm_base::{Failed, MemSink, put_all};
 use tm_channel::{Config, Sender, cadu};
+use tm_codeblock::{mask, take_word};
 use tm_gf256::{Basis, Gf};
 use tm_inner::{InnerSender, SendError};
-use tm_interleave::take_word;
-use tm_random::mask;
 use tm_rs::checks;
 use tm_rs_code::{Params, is_codeword};
 

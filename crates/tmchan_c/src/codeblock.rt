@@ -1,12 +1,11 @@
 // Codeblocks: the randomizer, and columns.
 ghost use Rattle.std.specs.Prelude.{◌≡◌, ◌≢◌, ◌<◌, ◌*◌, ℕ, None, length, pos};
-ghost use Rattle.tm_interleave.specs.Column.{column};
-ghost use Rattle.tm_random.specs.Masked.{masked};
+ghost use Rattle.tm_codeblock.specs.Column.{column};
+ghost use Rattle.tm_codeblock.specs.Masked.{masked};
 ghost use Rattle.tmchan_c.specs.Refusal.{answered, column_refusal};
 
 use crate::refusal::Refusal;
-use tm_interleave::{put_word, take_word};
-use tm_random::mask;
+use tm_codeblock::{mask, put_word, take_word};
 
 /// Adds the pseudo-random sequence to a codeblock, from its start, or takes it off again.
 #[unsafe(no_mangle)]

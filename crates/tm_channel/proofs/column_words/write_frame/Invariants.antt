@@ -1,7 +1,7 @@
 use Rattle.std.proofs.Common.{◌≡◌, ◌<◌, ℕ, map, take, length, get_or}
 use Rattle.tm_gf256.specs.Octet.{sent_octet}
 use Rattle.tm_gf256.specs.Poly.{numbers}
-use Rattle.tm_interleave.specs.Column.{column}
+use Rattle.tm_codeblock.specs.Column.{column}
 use Rattle.tm_workers.specs.declared.words.Word.{Word}
 use Rattle.tm_channel.proofs.column_words.write_frame.Given as goal
 

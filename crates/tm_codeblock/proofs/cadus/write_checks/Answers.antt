@@ -1,7 +1,7 @@
 use Rattle.std.proofs.Common.{◌≡◌, ◌++◌, ℕ, arith, subst}
 use Rattle.tm_config.specs.Configuration.{correctable}
 use Rattle.tm_gf256.specs.declared.basis.Basis.{Basis}
-use Rattle.tm_interleave.specs.Column.{column}
+use Rattle.tm_codeblock.specs.Column.{column}
 use Rattle.tm_codeblock.specs.Cadu.{coded_octets}
 use Rattle.tm_codeblock.proofs.cadus.write_checks.Goals as goal
 

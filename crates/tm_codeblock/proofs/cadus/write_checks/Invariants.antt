@@ -1,5 +1,5 @@
 use Rattle.std.proofs.Common.{◌≡◌, ◌<◌, ℕ, ◌++◌, length}
-use Rattle.tm_interleave.specs.Column.{column}
+use Rattle.tm_codeblock.specs.Column.{column}
 use Rattle.tm_codeblock.specs.Cadu.{coded_octets}
 use Rattle.tm_codeblock.proofs.cadus.write_checks.Given as goal
 

@@ -1,9 +1,0 @@
-use Rattle.std.proofs.Common.{◌≡◌, ◌≢◌, ◌<◌, ℕ, take}
-use Rattle.tm_interleave.specs.Column.{column}
-use Rattle.tm_interleave.proofs.put_word.Given as goal
-
-abbrev pub invariant-loop-k : goal.invariant-loop-k
-invariant-loop-k l = record {
-  put : take l.k (column l.depth l.i l.block) ≡ take l.k l.word;
-  others : (j : ℕ) → j < l.depth → j ≢ l.i → column l.depth j l.block ≡ column l.depth j l.initial.block;
-}

@@ -1,6 +1,0 @@
-use Rattle.std.proofs.Common.{◌≡◌, take}
-use Rattle.tm_interleave.specs.Column.{column}
-use Rattle.tm_interleave.proofs.take_every.Given as goal
-
-abbrev pub invariant-loop-k : goal.invariant-loop-k
-invariant-loop-k l = take l.k l.out ≡ take l.k (column l.depth l.i l.block)
