@@ -1,13 +1,17 @@
-//! Tests of the Reed-Solomon code, from its field to the workers that decode batches of its words: a module for each
-//! library. Beside its tests it has no code of its own.
+//! Tests of the outer code: of the columns and the randomizer of codeblocks, and of the Reed-Solomon code, from its field
+//! to the workers that decode batches of its words. Beside its tests it has no code of its own.
 #![tactic(auto)]
 
+#[cfg(test)]
+mod columns;
 #[cfg(test)]
 mod digits;
 #[cfg(test)]
 mod dual;
 #[cfg(test)]
 mod gf256;
+#[cfg(test)]
+mod randomizer;
 #[cfg(test)]
 mod records;
 #[cfg(test)]
