@@ -11,7 +11,7 @@ use Rattle.tm_gf256.proofs.Sixteens.{numbers-take}
 use Rattle.tm_gf256.specs.Poly.{numbers}
 use Rattle.tm_codeblock.specs.Column.{column}
 use Rattle.tm_codeblock.specs.Interleaved.{interleaved}
-use Rattle.tm_codeblock.proofs.Columns.{same_columns, column-interleaved, length-interleaved, length-column}
+use Rattle.tm_codeblock.proofs.ColumnLaws.{same_columns, column-interleaved, length-interleaved, length-column}
 use Rattle.tm_workers.specs.declared.words.Word.{Word}
 use Rattle.tm_codeblock.specs.ReceivedCodeblock.{received_columns, data_octets, frame_of}
 use Rattle.tm_channel.specs.ColumnWords.{symbols_of, all_symbols}

@@ -10,7 +10,7 @@ use Rattle.tm_config.proofs.Choices.{uncoded_cases}
 use Rattle.tm_config.proofs.Lengths.{codeblock_length-is}
 use Rattle.tm_conv.specs.declared.rates.Rate.{Rate}
 use Rattle.tm_codeblock.specs.Interleaved.{interleaved}
-use Rattle.tm_codeblock.proofs.Columns.{length-interleaved}
+use Rattle.tm_codeblock.proofs.ColumnLaws.{length-interleaved}
 use Rattle.tm_viterbi.specs.WindowBlock.{WindowBlock}
 use Rattle.tm_viterbi.specs.Clean.{kept_bits}
 use Rattle.tm_inner.specs.Inner.{plain_bits, plain_count, bits_at, inner_bits}

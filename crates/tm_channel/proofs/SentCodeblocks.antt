@@ -17,7 +17,7 @@ use Rattle.tm_gf256.specs.declared.basis.Basis.{Basis}
 use Rattle.tm_gf256.proofs.DualInverse.{sent_octet-lt, element_of-lt, element_of-sent_octet}
 use Rattle.tm_codeblock.specs.Column.{column}
 use Rattle.tm_codeblock.specs.Interleaved.{interleaved}
-use Rattle.tm_codeblock.proofs.Columns.{length-column, length-interleaved, column-interleaved, interleaved-all_columns, get_or-block}
+use Rattle.tm_codeblock.proofs.ColumnLaws.{length-column, length-interleaved, column-interleaved, interleaved-all_columns, get_or-block}
 use Rattle.tm_codeblock.specs.Masked.{masked}
 use Rattle.tm_codeblock.proofs.Masks.{length-masked, AreOctets-masked, masked-twice}
 use Rattle.tm_rs_code.specs.Code.{AreElements, IsSystematic, encode_word}

@@ -6,7 +6,7 @@ use Rattle.tm_config.specs.Configuration.{Configuration, codeblock_length, data_
 use Rattle.tm_config.specs.Accepted.{IsAccepted}
 use Rattle.tm_config.specs.declared.values.OuterCode.TheVariants.{Uncoded}
 use Rattle.tm_config.proofs.Choices.{uncoded_cases}
-use Rattle.tm_codeblock.proofs.Columns.{length-interleaved}
+use Rattle.tm_codeblock.proofs.ColumnLaws.{length-interleaved}
 use Rattle.tm_sync.specs.declared.found.Found.{Found}
 use Rattle.tm_codeblock.specs.ReceivedCodeblock.{codeblock_at, data_octets, frame_of, places_in}
 use Rattle.tm_codeblock.proofs.PlacesIn.{places_in-end}

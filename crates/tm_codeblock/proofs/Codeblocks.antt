@@ -13,7 +13,7 @@ use Rattle.tm_gf256.specs.declared.basis.Basis.{Basis}
 use Rattle.tm_gf256.proofs.DualInverse.{sent_octet-element_of}
 use Rattle.tm_codeblock.specs.Column.{column}
 use Rattle.tm_codeblock.specs.Interleaved.{interleaved}
-use Rattle.tm_codeblock.proofs.Columns.{same_columns, column-append, column-interleaved, length-interleaved, length-column}
+use Rattle.tm_codeblock.proofs.ColumnLaws.{same_columns, column-append, column-interleaved, length-interleaved, length-column}
 use Rattle.tm_rs_code.specs.Code.{encode_word}
 use Rattle.tm_base.specs.Marker.{marker}
 use Rattle.tm_codeblock.specs.Masked.{masked}

@@ -1,4 +1,4 @@
-pub mod Columns
+pub mod ColumnLaws
 pub mod Sequences
 pub mod Masks
 mod SequenceTable

@@ -2,7 +2,7 @@ use Rattle.std.proofs.Common.{◌≡◌, ◌+◌, ◌*◌, ◌++◌, ◌∷◌, 
 use Rattle.std.proofs.Math.Seq.{take-suc}
 use Rattle.std.proofs.lemmas.Grind.{take-set_at}
 use Rattle.tm_codeblock.specs.Column.{column}
-use Rattle.tm_codeblock.proofs.Columns.{column-set, column-set_other, same_whole, length-column}
+use Rattle.tm_codeblock.proofs.ColumnLaws.{column-set, column-set_other, same_whole, length-column}
 use Rattle.tm_codeblock.proofs.columns.put_word.Goals as goal
 
 pub loop-k-preserved : goal.loop-k-preserved

@@ -1,6 +1,6 @@
 use Rattle.std.proofs.Common.{◌+◌, ◌*◌, ◌++◌, ◌∷◌, [], refl, sym, ap, ◌∙◌, arith, length, get_or}
 use Rattle.std.proofs.lemmas.Grind.{take-set_at}
-use Rattle.tm_codeblock.proofs.Columns.{take-column, same_whole, length-column}
+use Rattle.tm_codeblock.proofs.ColumnLaws.{take-column, same_whole, length-column}
 use Rattle.tm_codeblock.proofs.columns.take_every.Goals as goal
 
 pub loop-k-preserved : goal.loop-k-preserved
