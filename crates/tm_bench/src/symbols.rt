@@ -1,11 +1,7 @@
-//! Feeds a decoder the same symbols again and again, in pieces of 4,096, and prints what its blocks come to. The first
-//! word is how often, the second whether they are `clean` or `noisy`, the third the rate, 1/2 where it is missing. The
-//! symbols are made once, so that the difference of two runs is the decoder's work alone.
-#![tactic(auto)]
-
+// Symbols of the convolutional code, decoded again and again. They are made once, so that the difference of two runs is
+// the decoder's work alone.
+use crate::job::Stream;
 use std::alloc::{AllocError, Global};
-use std::process::ExitCode;
-use std::{env, io};
 use tm_base::Failed;
 use tm_conv::{Encoder, Rate, Symbols};
 use tm_viterbi::{Block, BlockTaker, Start};
@@ -15,13 +11,15 @@ use tm_windows::{Decoder, FeedError};
 // register is 0 again after them.
 const STEPS: u64 = 8190;
 
-// What was handed over: the blocks, their kept bits, what their paths cost, and the sum of their last registers.
+/// What was handed over: the blocks, their kept bits, what their paths cost, and the sum of their last registers; and how
+/// many octets made no step.
 #[derive(Drop)]
-struct Sum {
-    blocks: u64,
-    bits: u64,
-    metric: u64,
-    registers: u64,
+pub struct Sum {
+    pub blocks: u64,
+    pub bits: u64,
+    pub metric: u64,
+    pub registers: u64,
+    pub left: u8,
 }
 
 impl BlockTaker for Sum {
@@ -98,57 +96,18 @@ fn feed_often(
     Ok(())
 }
 
-fn rate_of(word: &str) -> Rate {
-    match word {
-        "2/3" => Rate::R23,
-        "3/4" => Rate::R34,
-        "5/6" => Rate::R56,
-        "7/8" => Rate::R78,
-        _ => Rate::R12,
-    }
-}
-
-// The number that the first word is, whether the second is `noisy`, and the rate that the third is.
-fn parsed(words: &[String]) -> (u32, bool, Rate) {
-    let rounds = match words.get(1) {
-        Some(word) => word.parse::<u32>().unwrap_or(0),
-        None => 0,
-    };
-    let is_noisy = match words.get(2) {
-        Some(word) => word.as_str() == "noisy",
-        None => false,
-    };
-    let rate = match words.get(3) {
-        Some(word) => rate_of(word.as_str()),
-        None => Rate::R12,
-    };
-    (rounds, is_noisy, rate)
-}
-
-fn main(rt: HostRuntime) -> io::Result<ExitCode> {
-    let alloc = rt.alloc();
-    let words: Vec<String> = env::args(&rt)?.collect(alloc)?;
-    let (rounds, is_noisy, rate) = parsed(&words);
-    let octets = soft_symbols(alloc, rate, is_noisy)?;
+/// Decodes a stream, in pieces of 4,096 octets. None where there is no memory.
+pub fn decode_stream(alloc: Global, stream: &Stream) -> Option<Sum> {
+    let octets = soft_symbols(alloc, stream.rate, stream.is_noisy).ok()?;
     let mut sum = Sum {
         blocks: 0,
         bits: 0,
         metric: 0,
         registers: 0,
+        left: 0,
     };
-    let Ok(mut decoder) = Decoder::open(alloc, rate, true, Start::Zero, 8192, 256) else {
-        return Ok(ExitCode::from(5));
-    };
-    let Ok(()) = feed_often(&mut decoder, &octets, rounds, &mut sum) else {
-        return Ok(ExitCode::from(4));
-    };
-    let Ok(left) = decoder.finish(&mut sum) else {
-        return Ok(ExitCode::from(4));
-    };
-    let blocks = sum.blocks;
-    let bits = sum.bits;
-    let metric = sum.metric;
-    let registers = sum.registers;
-    println!(rt; "blocks {blocks} bits {bits} metric {metric} registers {registers} left {left}")?;
-    Ok(ExitCode::from(0))
+    let mut decoder = Decoder::open(alloc, stream.rate, true, Start::Zero, 8192, 256).ok()?;
+    feed_often(&mut decoder, &octets, stream.rounds, &mut sum).ok()?;
+    sum.left = decoder.finish(&mut sum).ok()?;
+    Some(sum)
 }

@@ -1,7 +1,7 @@
 // Words with errors, decoded one after another.
 ghost use Rattle.std.specs.Prelude.{◌≡◌, ◌<◌, length};
 
-use crate::job::{Form, Job};
+use crate::job::{Form, Words};
 use std::sync::ledger::{Blank, Ledger};
 use tm_gf256::Gf;
 use tm_rs::{
@@ -68,8 +68,8 @@ fn decode_one<L: Ledger>(
     }
 }
 
-/// Decodes the words of a job; none where there is no such code.
-pub fn decode<L: Ledger>(blank: Blank, job: &Job) -> Outcome
+/// Decodes words; none where there is no such code.
+pub fn decode_words<L: Ledger>(blank: Blank, words: &Words) -> Outcome
     requires name { blank.name ≡ L.name }
     requires parts { blank.parts ≡ L.parts }
     requires share { 0 < blank.parts }
@@ -79,28 +79,28 @@ pub fn decode<L: Ledger>(blank: Blank, job: &Job) -> Outcome
         fixed: 0,
         symbols: 0,
     };
-    let Ok(params) = Params::new(job.e, 255) else {
+    let Ok(params) = Params::new(words.e, 255) else {
         return outcome;
     };
     let clean = codeword(&params);
-    for n in 0..job.words {
+    for n in 0..words.count {
         let shift = (n % 255) as usize;
         let mut word = clean;
         let mut erased = [false; 255];
-        for i in 0..job.wrong {
+        for i in 0..words.wrong {
             let at = (7 * usize::from(i) + 3 + shift) % 255;
             word[at] = Gf(word[at].0 ^ i.wrapping_mul(7).wrapping_add(1));
         }
-        for i in 0..job.erased {
+        for i in 0..words.erased {
             let at = (7 * usize::from(i) + shift) % 255;
             erased[at] = true;
             word[at] = Gf(word[at].0 ^ shift as u8);
         }
         let answer = decode_one(
             &params,
-            job.form,
+            words.form,
             &erased,
-            job.erased != 0,
+            words.erased != 0,
             &mut word,
             &mut steps,
         );
