@@ -1,5 +1,9 @@
 -- Lists of words, each of which changes in its place.
-use Rattle.std.proofs.Common.{◌≡◌, ℕ, zero, suc, ◌<◌, get_or, subst, List, [], ◌∷◌, ◌++◌, length, take, drop, set, arith}
+use Rattle.std.proofs.Common.{◌≡◌, ℕ, zero, suc, ◌+◌, ◌-◌, ◌<◌, ◌≤◌, get_or, refl, sym, ap, ◌∙◌, subst, List, [], ◌∷◌, ◌++◌, length, take, drop, set, arith}
+use Rattle.std.proofs.Math.Seq.{take-add}
+use Rattle.std.proofs.lemmas.List.{drop-drop, length-drop, length-take-le}
+use Rattle.std.proofs.lemmas.Slice.{take-put_mid, drop-put_mid}
+use borrow.Rule.Slice.PartMut.{put_mid}
 use Rattle.tm_workers.specs.Batch.{EachBecomes}
 
 module _ {W : Type 0} (becomes : W → W → Type 0) where
@@ -25,3 +29,32 @@ module _ {W : Type 0} (becomes : W → W → Type 0) where
   each_more (o ∷ olds) (x ∷ xs) (suc i) w' d lt len rest h done =
       let r = each_more olds xs i w' d (omega arith) (omega arith) rest h done.1 in
       ((done.0, r.0), r.1)
+
+  EachBecomes-length : (a b : List W) → EachBecomes becomes a b → length a ≡ length b
+  EachBecomes-length [] [] h = refl
+  EachBecomes-length [] (y ∷ b) h = absurd h
+  EachBecomes-length (x ∷ a) [] h = absurd h
+  EachBecomes-length (x ∷ a) (y ∷ b) h = ap suc (EachBecomes-length a b h.1)
+
+  -- a part more, from place a to place b
+  pub part_more : (olds xs ys : List W) (a b : ℕ) → a ≤ b → b ≤ length xs → drop a xs ≡ drop a olds
+      → EachBecomes becomes (take (b - a) (drop a xs)) ys
+      → EachBecomes becomes (take a olds) (take a xs)
+      → EachBecomes becomes (take b olds) (take b (put_mid a (b - a) xs ys))
+      × (drop b (put_mid a (b - a) xs ys) ≡ drop b olds)
+  part_more olds xs ys a b order within rest part done =
+      let k : ℕ = b - a in
+      let sum : b ≡ a + k = omega arith in
+      let long : length ys ≡ k = sym (EachBecomes-length (take k (drop a xs)) ys part)
+      ∙ length-take-le k (drop a xs) (omega (arith, length-drop a xs)) in
+      let before : take b olds ≡ take a olds ++ take k (drop a xs) = ap (λ n. take n olds) sum
+      ∙ take-add a k olds ∙ ap (λ l. take a olds ++ take k l) (sym rest) in
+      let after : take b (put_mid a k xs ys) ≡ take a xs ++ ys =
+      take-put_mid a k xs ys b (omega arith) (omega arith) in
+      let same : drop b xs ≡ drop b olds = ap (λ n. drop n xs) sum ∙ sym (drop-drop k a xs)
+      ∙ ap (drop k) rest ∙ drop-drop k a olds ∙ ap (λ n. drop n olds) (sym sum) in (
+        subst (EachBecomes becomes (take b olds)) (sym after)
+            (subst (λ l. EachBecomes becomes l (take a xs ++ ys)) (sym before)
+            (EachBecomes-append (take a olds) (take a xs) (take k (drop a xs)) ys done part)),
+        drop-put_mid a k xs ys b (omega arith) (omega arith) long ∙ same,
+      )

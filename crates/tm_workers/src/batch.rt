@@ -1,6 +1,7 @@
 // Batches of words.
-ghost use Rattle.std.specs.Prelude.{All, ◌≡◌, ◌<◌, ◌≤◌, length, OnOk, OnErr, slice_index_or};
-ghost use Rattle.tm_workers.specs.Batch.{EachBecomes, IsBatch, words_bound};
+ghost use Rattle.std.specs.Prelude.{All, ◌≡◌, ◌+◌, ◌<◌, ◌≤◌, length, OnOk, OnErr, slice_index_or};
+ghost use Rattle.tm_base.specs.Limits.{most_workers};
+ghost use Rattle.tm_workers.specs.Batch.{EachBecomes, IsBatch, IsPart, words_bound};
 ghost use Rattle.tm_workers.specs.Words.{Decodes, DecodesErased};
 ghost use Rattle.tm_workers.specs.Working.{all_drawn, put_all};
 
@@ -11,6 +12,10 @@ use std::alloc::{AllocError, Global};
 use std::thread::Threads;
 use tm_base::{Gate, OpenGate};
 use tm_rs_code::Params;
+
+// The words are decoded in starts, one after another, of at most so many words for each worker. Room for what was
+// drawn is for the words of one start.
+const START_WORDS: usize = 1024;
 
 // Puts each word in its place.
 fn put<W: InPlace>(room: &[Drawn<W>], words: &mut [W])
@@ -32,27 +37,29 @@ fn put_rooms<W: InPlace>(rooms: &[Vec<Drawn<W>>], words: &mut [W])
     }
 }
 
-// Decodes each word, by workers that draw the words' numbers. Where memory is refused no gate was entered and no word
-// has changed.
+// Decodes each word of a start, by workers that draw the words' numbers. The first has the number `first`. Where memory
+// is refused no gate was entered and no word has changed.
 fn decode_drawn<R: Threads + Sync, G: Gate + Sync, W: InPlace + Send + Sync>(
     rt: &R,
     alloc: Global,
     gate: &G,
     params: &Params,
     repair: u8,
+    first: u32,
     workers: usize,
     words: &mut [W],
 ) -> Result<(), AllocError>
-    requires { IsBatch params.now.e repair (length words.old) workers }
+    requires part { IsPart params.now.e repair first (length words.old) }
+    requires workers { (0 < workers) × (workers ≤ most_workers) }
     ensures ok { OnOk result (EachBecomes (W.becomes params.now repair) words.old words.new) }
     ensures err { OnErr result (words.new ≡ words.old) }
 {
     let given = &words[..];
     let decode = |number: u32| -> W
-        requires { (repair ≤ params.now.e) × (number < length given.now) }
+        requires { IsPart params.now.e repair first (length given.now) × (number < length given.now) }
         ensures { (d : W) → W.becomes params.entry.now repair (slice_index_or given.entry.now number d) result }
     {
-        gate.enter(number);
+        gate.enter(first + number);
         let mut word = given[number as usize];
         word.decode(params, repair);
         word
@@ -60,6 +67,28 @@ fn decode_drawn<R: Threads + Sync, G: Gate + Sync, W: InPlace + Send + Sync>(
     let rooms = call_each(rt, alloc, given.len() as u32, workers, &decode)?;
     put_rooms(rooms.as_slice(), words);
     Ok(())
+}
+
+// Decodes each word of a start in its place. The first has the number `first`.
+fn decode_start<R: Threads + Sync, G: Gate + Sync, W: InPlace + Send + Sync>(
+    rt: &R,
+    alloc: Global,
+    params: &Params,
+    repair: u8,
+    first: u32,
+    words: &mut [W],
+    workers: u8,
+    gate: &G,
+)
+    requires part { IsPart params.now.e repair first (length words.old) }
+    requires workers { (0 < workers) × (workers ≤ most_workers) }
+    ensures { EachBecomes (W.becomes params.now repair) words.old words.new }
+{
+    // No more workers than words.
+    let most = words.len().min(usize::from(workers));
+    if most < 2 || decode_drawn(rt, alloc, gate, params, repair, first, most, words).is_err() {
+        split_evenly(rt, gate, params, repair, first, workers, words);
+    }
 }
 
 /// Decodes each word in its place, by workers that draw the words' numbers, or have a part of the words each where
@@ -76,10 +105,21 @@ pub fn decode_all<R: Threads + Sync, G: Gate + Sync, W: InPlace + Send + Sync>(
     requires { IsBatch params.now.e repair (length words.old) workers }
     ensures { EachBecomes (W.becomes params.now repair) words.old words.new }
 {
-    // No more workers than words.
-    let most = words.len().min(usize::from(workers));
-    if most < 2 || decode_drawn(rt, alloc, gate, params, repair, most, words).is_err() {
-        split_evenly(rt, gate, params, repair, 0, workers, words);
+    let size = START_WORDS * usize::from(workers);
+    let mut first = 0;
+    while first < words.len() {
+        let end = words.len().min(first + size);
+        decode_start(
+            rt,
+            alloc,
+            params,
+            repair,
+            first as u32,
+            &mut words[first..end],
+            workers,
+            gate,
+        );
+        first = end;
     }
 }
 
