@@ -1,71 +1,89 @@
 // Batches of words.
-ghost use Rattle.std.specs.Prelude.{All, ◌≡◌, ◌+◌, ◌<◌, ◌≤◌, length, OnOk, OnErr, slice_index_or};
+ghost use Rattle.std.specs.Prelude.{◌≡◌, ◌<◌, ◌≤◌, [], length, OnOk, OnErr};
+ghost use Rattle.boxcar.specs.Table.{Tagged};
 ghost use Rattle.tm_base.specs.Limits.{most_workers};
 ghost use Rattle.tm_workers.specs.Batch.{EachBecomes, IsBatch, IsPart, words_bound};
 ghost use Rattle.tm_workers.specs.Words.{Decodes, DecodesErased};
-ghost use Rattle.tm_workers.specs.Working.{all_drawn, put_all};
+ghost use Rattle.tm_workers.specs.Working.{KeepsEach};
 
-use crate::draws::{Drawn, call_each};
+use crate::draws::call_each;
+use crate::results::{OfWord, Results, make_slots, result_of};
 use crate::split::{decode_part, split_evenly};
+use crate::tickets::Tickets;
 use crate::words::{ErasedWord, InPlace, Word};
+use boxcar::slot::OnceSlot;
 use std::alloc::{AllocError, Global};
+use std::marker::Brand;
 use std::thread::Threads;
 use tm_base::{Gate, OpenGate};
 use tm_rs_code::Params;
 
-// The words are decoded in starts, one after another, of at most so many words for each worker. Room for what was
-// drawn is for the words of one start.
+// How many words of a start there are for each worker. The words are decoded in starts, one after another, so slots
+// are needed for those of one start alone.
 const START_WORDS: usize = 1024;
 
-// Puts each word in its place.
-fn put<W: InPlace>(room: &[Drawn<W>], words: &mut [W])
-    requires { All (λ d. d.number < length words.old) room.now }
-    ensures { words.new ≡ put_all room.now words.old }
+// Puts each word's result in its place. The first word has the number `first`.
+fn put_results<G: Gate, W: InPlace, K: Results<W>>(
+    gate: &G,
+    params: &Params,
+    repair: u8,
+    first: u32,
+    slots: &[OnceSlot<W, OfWord<K>>],
+    words: &mut [W],
+)
+    requires part { IsPart params.now.e repair first (length words.old) }
+    requires slots { Tagged [] 0 (length words.old) slots.now }
+    requires kept { KeepsEach (W.becomes params.now repair) words.old K.kept }
+    ensures { EachBecomes (W.becomes params.now repair) words.old words.new }
 {
-    for drawn in room {
-        words[drawn.number as usize] = drawn.value;
-    }
-}
-
-// Puts the words of all rooms in their places.
-fn put_rooms<W: InPlace>(rooms: &[Vec<Drawn<W>>], words: &mut [W])
-    requires { All (λ r. All (λ d. d.number < length words.old) r.items) rooms.now }
-    ensures { words.new ≡ put_all (all_drawn rooms.now) words.old }
-{
-    for room in rooms {
-        put(room.as_slice(), words);
+    for index in 0..words.len() {
+        let number = first + index as u32;
+        words[index] = result_of(gate, params, repair, number, &words[index], &slots[index]);
     }
 }
 
 // Decodes each word of a start, by workers that draw the words' numbers. The first has the number `first`. Where memory
 // is refused no gate was entered and no word has changed.
-fn decode_drawn<R: Threads + Sync, G: Gate + Sync, W: InPlace + Send + Sync>(
+fn decode_drawn<R: Threads + Sync, G: Gate + Sync, W: InPlace + Send + Sync, K: Results<W> + Sync>(
     rt: &R,
     alloc: Global,
     gate: &G,
     params: &Params,
     repair: u8,
     first: u32,
-    workers: usize,
+    workers: u32,
     words: &mut [W],
 ) -> Result<(), AllocError>
     requires part { IsPart params.now.e repair first (length words.old) }
     requires workers { (0 < workers) × (workers ≤ most_workers) }
+    requires kept { KeepsEach (W.becomes params.now repair) words.old K.kept }
     ensures ok { OnOk result (EachBecomes (W.becomes params.now repair) words.old words.new) }
     ensures err { OnErr result (words.new ≡ words.old) }
 {
-    let given = &words[..];
-    let decode = |number: u32| -> W
-        requires { IsPart params.now.e repair first (length given.now) × (number < length given.now) }
-        ensures { (d : W) → W.becomes params.entry.now repair (slice_index_or given.entry.now number d) result }
-    {
-        gate.enter(first + number);
-        let mut word = given[number as usize];
-        word.decode(params, repair);
-        word
+    let results = make_slots::<W, K>(alloc, words.len())?;
+    let Ok((tickets, mut seat)) = Tickets::new(alloc, words.len() as u32) else {
+        return Err(AllocError);
     };
-    let rooms = call_each(rt, alloc, given.len() as u32, workers, &decode)?;
-    put_rooms(rooms.as_slice(), words);
+    let slots = results.as_slice();
+    let given = &words[..];
+    let decode = |number: u32|
+        requires { IsPart params.now.e repair first (length given.now) × (number < length given.now)
+            × Tagged [] 0 (length given.now) slots.now × KeepsEach (W.becomes params.now repair) given.now K.kept }
+    {
+        let index = number as usize;
+        result_of(
+            gate,
+            params,
+            repair,
+            first + number,
+            &given[index],
+            &slots[index],
+        );
+    };
+    call_each(rt, &decode, &tickets, &mut seat, workers);
+    // That all numbers were drawn, since each worker has seen it, is known from here on.
+    tickets.close(seat);
+    put_results(gate, params, repair, first, slots, words);
     Ok(())
 }
 
@@ -85,14 +103,18 @@ fn decode_start<R: Threads + Sync, G: Gate + Sync, W: InPlace + Send + Sync>(
     ensures { EachBecomes (W.becomes params.now repair) words.old words.new }
 {
     // No more workers than words.
-    let most = words.len().min(usize::from(workers));
-    if most < 2 || decode_drawn(rt, alloc, gate, params, repair, first, most, words).is_err() {
+    let most = words.len().min(usize::from(workers)) as u32;
+    if most < 2
+        || decode_drawn::<R, G, W, Brand>(
+            rt, alloc, gate, params, repair, first, most, words,
+        ).is_err()
+    {
         split_evenly(rt, gate, params, repair, first, workers, words);
     }
 }
 
-/// Decodes each word in its place, by workers that draw the words' numbers, or have a part of the words each where
-/// memory is refused.
+/// Decodes each word in its place, in starts of 1,024 words for each worker. The workers draw the numbers of a start's
+/// words, or have a part of them each where memory is refused.
 pub fn decode_all<R: Threads + Sync, G: Gate + Sync, W: InPlace + Send + Sync>(
     rt: &R,
     alloc: Global,

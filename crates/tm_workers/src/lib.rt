@@ -1,11 +1,12 @@
 //! Words of the Reed-Solomon code decoded in batches by several workers, with the answer of one. Each word has a
 //! number, and tickets give each number once: a worker draws the next number, decodes the word and draws again, so a
-//! slow word holds nobody up.
+//! slow word holds nobody up. Its result stands in a slot of its own until all workers are done.
 #![tactic(auto)]
 
 mod batch;
 mod draws;
 mod outcome;
+mod results;
 mod rule;
 mod schedule;
 mod seats;
