@@ -6,7 +6,7 @@ use std::test::Fail;
 use tm_gf256::Basis;
 use tm_records::{Coding, Records};
 use tm_rs_code::Params;
-use tm_workers::{InPlace, OpenGate, decode_all, split_evenly};
+use tm_workers::{Gate, InPlace, OpenGate, decode_all, split_evenly};
 
 // How long a word stays under way once as many are as there are workers, so that one worker too many would show.
 const LINGERING: u64 = 1_000_000;
@@ -88,6 +88,67 @@ fn parts_are_even(rt: HostRuntime) -> Result<(), Fail> {
             assert!(rt; gate.freed.load(Ordering::SeqCst) == 1);
         }
     }
+    Ok(())
+}
+
+// Two workers have 2,048 words a start. A word is empty here.
+const START: u64 = 2048;
+
+#[derive(Clone, Copy)]
+struct Empty;
+
+impl InPlace for Empty {
+    ghost becomes = { λ _ _ _ _. Unit {0} };
+
+    fn decode(&mut self, _params: &Params, _repair: u8) {}
+}
+
+// Holds word 0 until all words of its start have entered, and a while longer, so that a word of the next one would show,
+// and notes how many had entered by then. It adds up their numbers.
+#[derive(Drop)]
+struct FirstStart {
+    entered: AtomicU64,
+    sum: AtomicU64,
+    freed_at: AtomicU64,
+}
+
+impl Gate for FirstStart {
+    fn enter(&self, index: u32) {
+        self.sum.fetch_add(u64::from(index), Ordering::SeqCst);
+        self.entered.fetch_add(1, Ordering::SeqCst);
+        if index != 0 {
+            return;
+        }
+        for _ in 0..SPINS {
+            if self.entered.load(Ordering::SeqCst) >= START {
+                break;
+            }
+        }
+        for _ in 0..LINGERING {
+            if self.entered.load(Ordering::SeqCst) > START {
+                break;
+            }
+        }
+        let entered = self.entered.load(Ordering::SeqCst);
+        self.freed_at.store(entered, Ordering::SeqCst);
+    }
+}
+
+#[test]
+fn a_start_is_decoded_whole_before_the_next(rt: HostRuntime) -> Result<(), Fail> {
+    let Ok(params) = Params::new(16, 255) else {
+        panic!(rt; "no code")
+    };
+    let gate = FirstStart {
+        entered: AtomicU64::new(0),
+        sum: AtomicU64::new(0),
+        freed_at: AtomicU64::new(0),
+    };
+    let mut words = [Empty; 2052];
+    decode_all(&rt, rt.alloc(), &params, 16, &mut words, 2, &gate);
+    assert!(rt; gate.freed_at.load(Ordering::SeqCst) == START);
+    assert!(rt; gate.entered.load(Ordering::SeqCst) == 2052);
+    assert!(rt; gate.sum.load(Ordering::SeqCst) == 2_104_326);
     Ok(())
 }
 

@@ -162,3 +162,53 @@ fn each_number_enters_once_and_before_its_word_is_decoded(rt: HostRuntime) -> Re
     }
     Ok(())
 }
+
+// A word that notes how often it was decoded.
+#[derive(Clone, Copy)]
+struct Counted {
+    times: u32,
+}
+
+impl InPlace for Counted {
+    ghost becomes = { λ _ _ _ _. Unit {0} };
+
+    fn decode(&mut self, _params: &Params, _repair: u8) {
+        self.times = self.times.saturating_add(1);
+    }
+}
+
+// Adds up how many numbers enter, and the numbers.
+#[derive(Drop)]
+struct Adding {
+    entered: AtomicU64,
+    sum: AtomicU64,
+}
+
+impl Gate for Adding {
+    fn enter(&self, index: u32) {
+        self.entered.fetch_add(1, Ordering::SeqCst);
+        self.sum.fetch_add(u64::from(index), Ordering::SeqCst);
+    }
+}
+
+// Two workers have 2,048 words a start.
+#[test]
+fn each_start_goes_on_with_the_numbers(rt: HostRuntime) -> Result<(), Fail> {
+    let Ok(params) = Params::new(16, 33) else {
+        panic!(rt; "no code")
+    };
+    for workers in [1u8, 2, 3] {
+        let gate = Adding {
+            entered: AtomicU64::new(0),
+            sum: AtomicU64::new(0),
+        };
+        let mut words = [Counted { times: 0 }; 2052];
+        decode_all(&rt, rt.alloc(), &params, 16, &mut words, workers, &gate);
+        assert!(rt; gate.entered.load(Ordering::SeqCst) == 2052);
+        assert!(rt; gate.sum.load(Ordering::SeqCst) == 2_104_326);
+        for word in &words {
+            assert!(rt; word.times == 1);
+        }
+    }
+    Ok(())
+}
