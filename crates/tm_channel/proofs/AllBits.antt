@@ -6,10 +6,10 @@ use Rattle.tm_sync.specs.declared.found.Found.{Found}
 use Rattle.tm_sync.proofs.Rescanned.{places_after-nil}
 use Rattle.tm_config.specs.Configuration.{Configuration}
 use Rattle.tm_codeblock.specs.ReceivedCodeblock.{rules_of, columns_of, places_in, sound_in}
-use Rattle.tm_channel.specs.Items.{ItemValue, AreItemsOf, AreFirstItemsOf, AreItems}
+use Rattle.tm_channel.specs.Items.{ItemValue, AreItemsOf, AreItems}
 use Rattle.tm_channel.specs.Due.{in_batches, due_count, due}
 use Rattle.tm_channel.proofs.Batches.{length-due}
-use Rattle.tm_channel.proofs.Streaming.{items-append, first-append, first-longer}
+use Rattle.tm_channel.proofs.Streaming.{items-append}
 
 pub due-nil : (c : Configuration) → due c [] ≡ []
 due-nil c =
@@ -34,20 +34,3 @@ all-items c bits items others are also =
     subst (λ (fs : List Found). AreItemsOf c bits fs (items ++ others)) (due-then-last c bits)
     (items-append c bits (due c bits) (beyond (due c bits) (places_in c bits)) items others
     (subst (λ (fs : List Found). AreItemsOf c bits fs items) (beyond-nil c (due c bits)) are) also)
-
-pub some-items : (c : Configuration) (bits : List Bool) (items others : List ItemValue)
-    → AreItemsOf c bits (beyond (due c []) (due c bits)) items
-    → AreFirstItemsOf c bits (beyond (due c bits) (places_in c bits)) others
-    → AreFirstItemsOf c bits (places_in c bits) (items ++ others)
-some-items c bits items others are also =
-    subst (λ (fs : List Found). AreFirstItemsOf c bits fs (items ++ others)) (due-then-last c bits)
-    (first-append c bits (due c bits) (beyond (due c bits) (places_in c bits)) items others
-    (subst (λ (fs : List Found). AreItemsOf c bits fs items) (beyond-nil c (due c bits)) are) also)
-
-pub few-items : (c : Configuration) (bits : List Bool) (items : List ItemValue)
-    → AreFirstItemsOf c bits (beyond (due c []) (due c bits)) items
-    → AreFirstItemsOf c bits (places_in c bits) items
-few-items c bits items are =
-    subst (λ (fs : List Found). AreFirstItemsOf c bits fs items) (due-then-last c bits)
-    (first-longer c bits (due c bits) (beyond (due c bits) (places_in c bits)) items
-    (subst (λ (fs : List Found). AreFirstItemsOf c bits fs items) (beyond-nil c (due c bits)) are))

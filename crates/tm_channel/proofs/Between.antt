@@ -1,5 +1,5 @@
 -- Bits of octets between two places.
-use Rattle.std.proofs.Common.{◌≡◌, ℕ, ◌+◌, ◌-◌, ◌*◌, ◌≤◌, List, [], ◌++◌, length, take, drop, min, sym, ap, ◌∙◌, arith, length-drop, take-append-drop, inl, inr}
+use Rattle.std.proofs.Common.{◌≡◌, ℕ, ◌+◌, ◌-◌, ◌*◌, ◌≤◌, List, [], ◌++◌, length, take, drop, min, sym, ap, ◌∙◌, arith, length-drop, inl, inr}
 use Rattle.std.proofs.lemmas.List.{take_all, drop_all, drop-drop, drop-take}
 use Rattle.std.proofs.lemmas.Bool.{cases_lt}
 use Rattle.std.proofs.Math.Seq.{take-add}
@@ -26,14 +26,6 @@ pub between-all : (from to : ℕ) (octets : List ℕ) → 8 * length octets ≤ 
 between-all from to octets end =
     take_all (to - from) (drop from (bits_of octets))
     (omega (arith, length-drop from (bits_of octets), length-bits_of octets))
-
-pub between-rest : (from at : ℕ) (octets : List ℕ) → from ≤ at
-    → bits_between from at octets ++ drop at (bits_of octets) ≡ drop from (bits_of octets)
-between-rest from at octets first =
-    let place : at ≡ from + (at - from) = omega arith in
-    ap (λ n. bits_between from at octets ++ drop n (bits_of octets)) place
-    ∙ ap (λ l. bits_between from at octets ++ l) (sym (drop-drop (at - from) from (bits_of octets)))
-    ∙ take-append-drop (at - from) (drop from (bits_of octets))
 
 -- those of whole octets, after the first ones
 pub between-octets : (first end begun : ℕ) (octets : List ℕ) → first ≤ end → begun ≤ 8 * (end - first)

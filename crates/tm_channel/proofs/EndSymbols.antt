@@ -23,7 +23,7 @@ use Rattle.tm_windows.proofs.KeptBits.{followed-keep}
 use Rattle.tm_channel.specs.Items.{ItemValue}
 use Rattle.tm_channel.specs.Origins.{AreAt, place_symbol}
 use Rattle.tm_channel.specs.Handing.{phase_of}
-use Rattle.tm_channel.specs.OctetReceiving.{BitReceiverStandsFor, BitReceiving, Decodes, DecodesFirstSymbols, DecodesSymbols, HasSymbols, SayFirstSymbols, SaySymbols, Stages, StagesFor, SymbolsFor, bits_of_blocks}
+use Rattle.tm_channel.specs.OctetReceiving.{BitReceiverStandsFor, BitReceiving, Decodes, DecodesSymbols, HasSymbols, SaySymbols, Stages, StagesFor, SymbolsFor, bits_of_blocks}
 use Rattle.tm_channel.proofs.FirstStage.{Ending, NotesRun, Settles, first-kept, origin-coded, phase-stays, plain-none}
 use Rattle.tm_channel.proofs.GivenOctets.{EndSay, IsOf, at-end, blocks-after}
 use Rattle.tm_channel.proofs.KeptSymbols.{stands-noted, symbols-then}
@@ -78,29 +78,6 @@ end-coded s settled now blocks items coded of settles decodes given done stands 
     subst (λ (k : Configuration). SymbolsFor k (skip_of now.inner.chosen) (done ++ blocks)
     (length (bits_of_blocks (done ++ blocks))) now.bits × AreAt (symbol_at k (skip_of now.inner.chosen) (done ++ blocks))
     (length (bits_of_blocks (done ++ blocks))) (map place_symbol items)) same
-    (decodes given done stands_now (ap (λ (k : Configuration). is_some k.inner) same ∙ coded) (of ∙ sym same)
-    (subst (BitReceiverStandsFor s.bits) before stood)
-    (subst (λ (k : Configuration). SymbolsFor k (skip_of settled.chosen) done (length (bits_of_blocks done)) s.bits)
-    (sym same) here))
-
-pub end-coded_first : (s : Stages) (settled : InnerDecoding) (now : Stages) (blocks : List WindowBlock)
-    (tried : List ItemValue) → is_some s.inner.config.inner ≡ true → IsOf s → Settles s.inner settled
-    → DecodesFirstSymbols (record { inner = settled; bits = s.bits }) now blocks tried
-    → (given : List ℕ) (done : List WindowBlock) → InnerDecoderStandsFor s.inner given done
-    → BitReceiverStandsFor s.bits (inner_bits s.inner.config given done)
-    → SymbolsFor s.inner.config (skip_of s.inner.chosen) done (length (inner_bits s.inner.config given done)) s.bits
-    → AreAt (symbol_at s.inner.config (skip_of now.inner.chosen) (done ++ blocks))
-    (length (bits_of_blocks (done ++ blocks))) (map place_symbol tried)
-end-coded_first s settled now blocks tried coded of settles decodes given done stands stood known =
-    let c = s.inner.config in
-    let same = settles.on.config in
-    let before = coded-bits c given done coded in
-    let stands_now = settles.stands given done stands in
-    let here = symbols-chosen c s.inner.chosen settled.chosen done s.bits
-    (phase-stays s.inner settled given given done done same settles.on.stays stands stands_now)
-    (subst (λ (l : List Bool). SymbolsFor c (skip_of s.inner.chosen) done (length l) s.bits) before known) in
-    subst (λ (k : Configuration). AreAt (symbol_at k (skip_of now.inner.chosen) (done ++ blocks))
-    (length (bits_of_blocks (done ++ blocks))) (map place_symbol tried)) same
     (decodes given done stands_now (ap (λ (k : Configuration). is_some k.inner) same ∙ coded) (of ∙ sym same)
     (subst (BitReceiverStandsFor s.bits) before stood)
     (subst (λ (k : Configuration). SymbolsFor k (skip_of settled.chosen) done (length (bits_of_blocks done)) s.bits)
@@ -162,48 +139,6 @@ read-by s settled now phase blocks settles decodes given done stood =
       config = config;
       choice = e.choice;
     }
-
-pub say-early : (s : Stages) (settled : InnerDecoding) (now : Stages) (phase : Option Chosen)
-    (blocks : List WindowBlock) (tried : List ItemValue) → IsOf s → Settles s.inner settled
-    → Decodes settled now.inner (with_phase phase [] ++ map Item blocks)
-    → DecodesFirstSymbols (record { inner = settled; bits = s.bits }) now blocks tried
-    → (s.bits.batch.config.inner ≡ None → SayFirstSymbols s.bits (bits_of_blocks blocks) tried)
-    → EndSay s phase blocks tried
-say-early s settled now phase blocks tried of settles decodes coded_says plain_says given done stood =
-    let c = s.inner.config in
-    let before = items_of stood.handed in
-    let handed = stood.handed ++ (with_phase phase [] ++ map Item blocks) in
-    let r = read-by s settled now.inner phase blocks settles decodes given done stood in
-    let stands = stands-items s.inner given stood.handed stood.inner in
-    let chosen = now.inner.chosen in
-    let Said : Option Chosen → List WindowBlock → Type 0 = λ o l. AreAt (symbol_at c (skip_of o) l)
-    (length (inner_bits c given l)) (map place_symbol (stood.items ++ tried)) in
-    let here : Said chosen (before ++ blocks) = elim (cases_Bool (is_some c.inner)) as (λ _. Said chosen (before ++ blocks)) [
-      | inl coded ↦ symbols-then (symbol_at c (skip_of chosen) (before ++ blocks))
-          (length (inner_bits c given (before ++ blocks))) stood.items tried
-          (earlier-at c s.inner.chosen chosen given before blocks stood.items r.same
-          (bits-longer c given before blocks coded) stood.are_at)
-          (subst (λ (l : List Bool). AreAt (symbol_at c (skip_of chosen) (before ++ blocks)) (length l)
-          (map place_symbol tried)) (sym (coded-bits c given (before ++ blocks) coded))
-          (end-coded_first s settled now blocks tried coded of settles coded_says given before stands stood.bits
-          stood.symbols))
-      | inr plain ↦ (
-          let none = no-rate c.inner plain in
-          let nothing = (prefix-nil before blocks (plain-none now.inner given (before ++ blocks)
-          (ap (λ (k : Configuration). is_some k.inner) r.config ∙ plain) r.stands)).1 in
-          let is = plain-blocks c given before blocks none nothing in
-          symbols-then (symbol_at c (skip_of chosen) (before ++ blocks)) (length (inner_bits c given (before ++ blocks)))
-          stood.items tried
-          (earlier-at c s.inner.chosen chosen given before blocks stood.items r.same
-          (omega (arith, ap length is, length-append (inner_bits c given before) (bits_of_blocks blocks))) stood.are_at)
-          (plain_says (ap (λ (k : Configuration). k.inner) of ∙ none) (inner_bits c given before)
-          (length (inner_bits c given (before ++ blocks))) (symbol_at c (skip_of chosen) (before ++ blocks))
-          (plain-short c given before blocks none nothing stands.few) (omega (arith, ap length is)) stood.bits
-          (plain-has s chosen given blocks (bits_of_blocks blocks) given before none of stands.few is stood.symbols))
-          )
-    ] in
-    subst (λ (o : Option Chosen). Said o (items_of handed)) (sym r.phase)
-    (subst (Said chosen) (sym r.items) here)
 
 -- ---- the last window
 
@@ -442,42 +377,6 @@ say-all s settled now last phase blocks ready noted bits_now origin left count s
     (symbols-then at number (stood.items ++ items) others h.said it.1) (rest number at it.0.stored)) in
     let Said : Option Chosen → List WindowBlock → Type 0 = λ o k. AreAt (symbol_at c (skip_of o) k)
     (length (inner_bits c given k)) (map place_symbol (stood.items ++ ((items ++ others) ++ more))) in
-    let handed = stood.handed ++ (with_phase phase [] ++ map Item (blocks ++ ready)) in
-    subst (λ (o : Option Chosen). Said o (items_of handed)) (sym is.0)
-    (subst (Said now.inner.chosen) (sym is.1) items_all)
-
--- the taker failed at one of the items of its bits
-pub say-some : (s : Stages) (settled : InnerDecoding) (now : Stages) (last : InnerDecoding) (phase : Option Chosen)
-    (blocks ready : List WindowBlock) (noted : BitReceiving) (origin left count : ℕ) (slips : Option ℕ)
-    (items tried : List ItemValue) → IsOf s → Settles s.inner settled
-    → Decodes settled now.inner (with_phase phase [] ++ map Item blocks)
-    → DecodesSymbols (record { inner = settled; bits = s.bits }) now blocks items
-    → (s.bits.batch.config.inner ≡ None → SaySymbols s.bits now.bits (bits_of_blocks blocks) items)
-    → now.bits.batch.config ≡ s.bits.batch.config
-    → ((bits : List Bool) → length (bits ++ bits_of_blocks blocks) < 2 ^ 63 → BitReceiverStandsFor s.bits bits
-    → BitReceiverStandsFor now.bits (bits ++ bits_of_blocks blocks))
-    → LastRun now.inner last ready now.bits noted origin left count slips
-    → SayFirstSymbols noted (bits_of_blocks ready) tried
-    → EndSay s phase (blocks ++ ready) (items ++ tried)
-say-some s settled now last phase blocks ready noted origin left count slips items tried of settles decodes
-    coded_says plain_says config goes l says given done stood =
-    let c = s.inner.config in
-    let before = items_of stood.handed in
-    let h = end-has s settled now last phase blocks ready noted origin left count slips items of settles decodes coded_says
-    plain_says config goes l given done stood in
-    let is = all-read s given done stood settled now.inner phase blocks ready settles decodes in
-    let all = (before ++ blocks) ++ ready in
-    let at = symbol_at c (skip_of now.inner.chosen) all in
-    let number = length (inner_bits c given all) in
-    let bits = inner_bits c given before ++ bits_of_blocks blocks in
-    let short : length bits < 2 ^ 63 = omega (arith, h.few, length-append bits (bits_of_blocks ready)) in
-    let it = says bits number at h.few h.within
-    (stands-noted now.bits noted bits l.notes.0 (goes (inner_bits c given before) short stood.bits)) h.has in
-    let items_all : AreAt at number (map place_symbol (stood.items ++ (items ++ tried))) =
-    subst (λ (k : List ItemValue). AreAt at number (map place_symbol k)) (append_assoc stood.items items tried)
-    (symbols-then at number (stood.items ++ items) tried h.said it) in
-    let Said : Option Chosen → List WindowBlock → Type 0 = λ o k. AreAt (symbol_at c (skip_of o) k)
-    (length (inner_bits c given k)) (map place_symbol (stood.items ++ (items ++ tried))) in
     let handed = stood.handed ++ (with_phase phase [] ++ map Item (blocks ++ ready)) in
     subst (λ (o : Option Chosen). Said o (items_of handed)) (sym is.0)
     (subst (Said now.inner.chosen) (sym is.1) items_all)

@@ -1,6 +1,7 @@
 -- Items that are first ones for octets stay first, whatever octets come.
-use Rattle.std.proofs.Common.{◌≡◌, ◌==◌, ◌-◌, ℕ, Bool, List, [], ◌∷◌, ◌++◌, length, take, drop, map, refl, sym, ap, ◌∙◌, subst, Option, Some, None}
-use Rattle.std.proofs.lemmas.List.{append-nil, map-append}
+use Rattle.std.proofs.Common.{◌≡◌, ◌==◌, ◌-◌, inl, inr, ℕ, Bool, List, [], ◌∷◌, ◌++◌, length, take, drop, map, refl, sym, ap, ◌∙◌, subst, arith, Option, Some, None}
+use Rattle.std.proofs.lemmas.List.{append-nil, map-append, take_all}
+use Rattle.tm_base.specs.Handed.{Handed}
 use Rattle.tm_config.specs.Configuration.{Configuration}
 use Rattle.tm_config.specs.Accepted.{IsAccepted}
 use Rattle.tm_conv.specs.declared.rates.Rate.{Rate}
@@ -8,6 +9,7 @@ use Rattle.tm_viterbi.specs.WindowBlock.{WindowBlock}
 use Rattle.tm_windows.specs.Windows.{AreBlocksIn}
 use Rattle.tm_viterbi.specs.Clean.{kept_bits}
 use Rattle.tm_inner.specs.Inner.{BlocksAt, plain_bits, bits_at, windows_of, soft_octets, Inner, inner_bits}
+use Rattle.tm_inner.specs.Phase.{skip_of}
 use Rattle.tm_inner.specs.Receiving.{FirstAt}
 use Rattle.tm_inner.specs.SymbolPlaces.{symbol_at}
 use Rattle.tm_inner.proofs.FewBits.{first-of-due}
@@ -16,6 +18,8 @@ use Rattle.tm_inner.proofs.PlainBits.{plain-append}
 use Rattle.tm_sync.specs.declared.found.Found.{Found}
 use Rattle.tm_codeblock.specs.ReceivedCodeblock.{places_in}
 use Rattle.tm_channel.specs.Items.{ItemValue, AreItemsOf, AreFirstItemsOf, AreItems}
+use Rattle.tm_channel.specs.declared.totals.Totals.{Totals}
+use Rattle.tm_channel.specs.Handing.{AreReceived, AreReceivedDue, AreReceivedFirst, AreReceivedPrefix}
 use Rattle.tm_channel.specs.Receive.{Receive, ReceiveDue, ReceiveFirst, ReceivePrefix}
 use Rattle.tm_channel.specs.Due.{due_count}
 use Rattle.tm_channel.proofs.DueItems.{first-items}
@@ -67,18 +71,23 @@ first-stand stay stand c phase octets more first items ok prefix all =
     (subst (λ (l : List Bool). AreItems c l items) (all.inner.are_bits ∙ split.1) all.are_items) all.symbols
 
 -- those that are due are first ones
+pub due-first : (c : Configuration) (phase : ℕ) (octets : List ℕ) (due : List ItemValue)
+    → ReceiveDue c phase octets due → ReceiveFirst c phase octets due
+due-first c phase octets due p =
+    let bits = inner_bits c octets p.blocks in
+    record {
+      blocks = p.blocks;
+      are_first = first-of-due c phase octets p.blocks p.are_due;
+      are_items = first-of c bits (due_count c bits) (places_in c bits) due p.are_items;
+      symbols = p.symbols;
+    }
+
 pub due-stand : StayClosed → StandFirst → (c : Configuration) (phase : ℕ) (octets more : List ℕ)
     (due items : List ItemValue) → IsAccepted c
     → ReceiveDue c phase octets due → Receive c phase (octets ++ more) items → (rest : List ItemValue)
     × (items ≡ due ++ rest)
 due-stand stay stand c phase octets more due items ok p all =
-    let bits = inner_bits c octets p.blocks in
-    first-stand stay stand c phase octets more due items ok (record {
-      blocks = p.blocks;
-      are_first = first-of-due c phase octets p.blocks p.are_due;
-      are_items = first-of c bits (due_count c bits) (places_in c bits) due p.are_items;
-      symbols = p.symbols;
-    }) all
+    first-stand stay stand c phase octets more due items ok (due-first c phase octets due p) all
 
 -- octets come to one list of bits
 abbrev pub OneList : Type 0
@@ -100,3 +109,40 @@ prefix-stand one blocks c phase octets first items ok prefix all =
     (symbols-at blocks c phase octets prefix.bits all.bits first prefix.inner all.inner prefix.symbols)
     (λ n below. refl)
     (subst (λ (l : List Bool). AreItems c l items) same all.are_items) all.symbols
+
+-- ---- what is due, and all of it, where a taker may fail at something of it
+
+-- what is due is first, where there is something
+pub handed-first : (c : Configuration) (octets : List ℕ) (handed : List (Handed ItemValue)) → (handed ≡ [] → ⊥)
+    → AreReceivedDue c octets handed → AreReceivedFirst c octets handed
+handed-first c octets handed some (inl none) = absurd (some none.1)
+handed-first c octets handed some (inr due) = (
+  due.0,
+  record {
+    chosen = due.1.chosen;
+    choice = due.1.choice;
+    items = due.1.items;
+    are_items = due-first c (skip_of due.1.chosen) octets due.1.items due.1.are_items;
+    are = due.1.are;
+  },
+)
+
+-- and all of it is a prefix
+pub handed-prefix : (c : Configuration) (octets : List ℕ) (handed : List (Handed ItemValue)) (totals : Totals)
+    → AreReceived c octets handed totals → AreReceivedPrefix c octets handed
+handed-prefix c octets handed totals all =
+    let r = all.are_items in
+    let fs = places_in c r.0 in
+    record {
+      chosen = all.chosen;
+      choice = all.choice;
+      items = all.items;
+      are_items = record {
+        bits = r.0;
+        inner = r.1;
+        are_items = first-of c r.0 (length fs) fs all.items
+            (subst (λ (l : List Found). AreItemsOf c r.0 l all.items) (sym (take_all (length fs) fs (omega arith))) r.3);
+        symbols = r.4;
+      };
+      are = all.are;
+    }

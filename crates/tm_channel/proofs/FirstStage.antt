@@ -5,8 +5,6 @@ use Rattle.std.specs.Option.{is_some}
 use Rattle.std.proofs.lemmas.List.{append-nil, length-map, length-take-le, map-append}
 use Rattle.tm_base.specs.Handed.{Handed, Item, on_handed}
 use Rattle.tm_base.specs.Takers.{HandedOver}
-use Rattle.tm_base.proofs.Handing.{HandedPart-after}
-use Rattle.tm_base.proofs.HandedItems.{HandedPart-items}
 use Rattle.tm_config.specs.Configuration.{Configuration}
 use Rattle.tm_config.specs.declared.values.Sought.TheVariants.{Given}
 use Rattle.tm_config.proofs.Choices.{given_or_find, never_both}
@@ -28,15 +26,15 @@ use Rattle.tm_inner.proofs.FollowedBits.{followed-few}
 use Rattle.tm_inner.proofs.ReceivedBits.{length-soft}
 use Rattle.tm_inner.proofs.SymbolPlaces.{symbol-stays}
 use Rattle.tm_channel.specs.Origins.{AreAt, place_symbol}
-use Rattle.tm_channel.specs.Receiving.{AreDue, AreFirstDue, GoesOn as ReceivingGoesOn}
+use Rattle.tm_channel.specs.Receiving.{AreDue, GoesOn as ReceivingGoesOn}
 use Rattle.tm_inner.proofs.DecoderReads.{all-read, read-all, read-on, read-run}
 use Rattle.tm_inner.proofs.PhasePieces.{further}
 use Rattle.tm_channel.specs.Items.{ItemValue}
-use Rattle.tm_channel.specs.OctetReceiving.{BitReceiving, BitReceiverStandsFor, Decoded, DecodedPart, Decodes, DecodesSymbols, Notes, NotesOrigin, Received, ReceivedAt, ReceivedPart, ReceivedPartAt, SayFirstSymbols, SaySymbols, Stages, SymbolsFor, bits_of_blocks}
+use Rattle.tm_channel.specs.OctetReceiving.{BitReceiving, BitReceiverStandsFor, Decoded, Decodes, DecodesSymbols, Notes, NotesOrigin, Received, ReceivedAt, SaySymbols, Stages, SymbolsFor, bits_of_blocks}
 use Rattle.tm_channel.proofs.PhasedItems.{prefix-nil}
 use Rattle.tm_channel.proofs.KeptSymbols.{stands-noted, symbols-then}
-use Rattle.tm_channel.proofs.ReceivedPieces.{all_bits-append, part-noted, part-then, received-none, received-noted, received-then, say-first-then, say-then}
-use Rattle.tm_channel.proofs.RunSymbols.{RunOf, noted-plain, run-on, run-part, some-rate, symbols-chosen}
+use Rattle.tm_channel.proofs.ReceivedPieces.{all_bits-append, received-none, received-noted, received-then, say-then}
+use Rattle.tm_channel.proofs.RunSymbols.{RunOf, noted-plain, run-on, some-rate, symbols-chosen}
 use Rattle.tm_channel.proofs.SymbolPlaces.{bits-kept}
 use Rattle.tm_channel.proofs.Symbols.{at-longer}
 
@@ -382,25 +380,10 @@ received-by took a b taker now bits others same p = record {
   due = subst (λ l. AreDue a.batch.config (BitReceiverStandsFor a) l p.items) same p.due;
 }
 
-unfoldable pub part-by : {T : Type 0} (took broke : T → ItemValue → T → Type 0) (a b : BitReceiving) (taker now : T)
-    (bits others : List Bool) → bits ≡ others → ReceivedPart took broke a b taker now bits
-    → ReceivedPart took broke a b taker now others
-part-by took broke a b taker now bits others same p = record {
-  config = p.config;
-  tried = p.tried;
-  handed = p.handed;
-  first = subst (λ l. AreFirstDue a.batch.config (BitReceiverStandsFor a) l p.tried) same p.first;
-}
-
 -- with no inner code a note changes no symbol
 say-noted : (r m now : BitReceiving) (bits : List Bool) (items : List ItemValue) → r.batch.config.inner ≡ None
     → Notes r m → SaySymbols m now bits items → SaySymbols r now bits items
 say-noted r m now bits items none notes says = λ given count at few le stood h.
-    says given count at few le (stands-noted r m given notes stood) (noted-plain r m count at none notes h)
-
-say-first-noted : (r m : BitReceiving) (bits : List Bool) (tried : List ItemValue) → r.batch.config.inner ≡ None
-    → Notes r m → SayFirstSymbols m bits tried → SayFirstSymbols r bits tried
-say-first-noted r m bits tried none notes says = λ given count at few le stood h.
     says given count at few le (stands-noted r m given notes stood) (noted-plain r m count at none notes h)
 
 -- whether the phase was read does not matter
@@ -548,68 +531,6 @@ running-none took_phase took a b taker taker_now [] r none = record {
   plain = r.plain;
 }
 running-none took_phase took a b taker taker_now (x ∷ ready) r none = absurd cc
-
--- the taker fails at an item that is due with the bits of those that are ready
-pub running-part : {T : Type 0} (took_phase broke_phase : T → ℕ → ℕ → T → Type 0)
-    (took broke : T → ItemValue → T → Type 0) (a b : Stages) (noted bits_now : BitReceiving) (origin : ℕ)
-    (taker middle taker_now : T)
-    (ready : List WindowBlock) → Running took_phase took a b taker middle ready → NotesRun b.inner b.bits noted origin
-    → ReceivedPartAt took broke noted bits_now middle taker_now (bits_of_blocks ready)
-    → DecodedPart took_phase broke_phase took broke a (record { inner = b.inner; bits = bits_now }) taker taker_now
-unfolding part-by part-then part-noted
-running-part took_phase broke_phase took broke a b noted bits_now origin taker middle taker_now ready r notes p =
-    let blocks = all_bits-append r.blocks ready in
-    let part = part-noted took broke b.bits noted bits_now middle taker_now (bits_of_blocks ready) notes.0 p.part in
-    let first = part-then took broke a.bits b.bits bits_now r.middle middle taker_now (bits_of_blocks r.blocks)
-    (bits_of_blocks ready) r.received part in
-    let all = part-by took broke a.bits bits_now r.middle taker_now (bits_of_blocks r.blocks ++ bits_of_blocks ready)
-    (bits_of_blocks (r.blocks ++ ready)) (sym blocks) first in
-    record {
-      phase = r.phase;
-      blocks = r.blocks ++ ready;
-      decodes = r.decodes;
-      tried = r.received.items ++ p.part.tried;
-      handed =
-          HandedPart-after (on_handed took_phase took) (on_handed broke_phase broke) taker r.middle taker_now
-          (with_phase r.phase []) (map Item (r.received.items ++ p.part.tried)) r.phased
-          (HandedPart-items took_phase broke_phase took broke r.middle taker_now (r.received.items ++ p.part.tried)
-          all.handed);
-      first = all.first;
-      symbols = λ given done stood coded of stands known.
-          let c = a.inner.config in
-          let was = r.symbols given done stood coded of stands known in
-          let front = done ++ r.blocks in
-          let here = r.stands given done stood in
-          let here_too = subst (InnerDecoderStandsFor b.inner given) (sym (append_assoc done r.blocks ready)) here in
-          let rate = some-rate c.inner coded in
-          let rate_is = ap (λ (v : Configuration). v.inner) r.decodes.config ∙ rate.1 in
-          let same : b.bits.batch.config ≡ b.inner.config = r.received.config ∙ of ∙ sym r.decodes.config in
-          let it = run-of b.inner given front ready b.bits noted origin rate.0 rate_is same r.later here_too notes in
-          let bits = subst (BitReceiverStandsFor b.bits) (sym (all_bits-append done r.blocks))
-          (r.received.stands (bits_of_blocks done) (few-of a b given done r.blocks ready rate.0 rate_is here) stands) in
-          let phase = skip_of b.inner.chosen in
-          let next_at = run-part c rate.0 phase origin front ready b.bits noted p.part.tried
-          (r.received.config ∙ of) it.0 p.symbols bits was.0 in
-          let long : length (bits_of_blocks front) ≤ length (bits_of_blocks (front ++ ready)) =
-          omega (
-            arith,
-            ap length (all_bits-append front ready),
-            length-append (bits_of_blocks front) (bits_of_blocks ready),
-          ) in
-          let before = at-longer (symbol_at c phase front) (symbol_at c phase (front ++ ready))
-          (length (bits_of_blocks front)) (length (bits_of_blocks (front ++ ready))) (map place_symbol r.received.items)
-          long (λ n below. symbol-stays c phase n front ready (omega (arith, below, it.0.kept))) was.1 in
-          subst (λ (l : List WindowBlock). AreAt (symbol_at c phase l) (length (bits_of_blocks l))
-          (map place_symbol (r.received.items ++ p.part.tried))) (append_assoc done r.blocks ready)
-          (symbols-then (symbol_at c phase (front ++ ready)) (length (bits_of_blocks (front ++ ready)))
-          r.received.items p.part.tried before next_at);
-      plain = λ none.
-          subst (λ (l : List Bool). SayFirstSymbols a.bits l (r.received.items ++ p.part.tried)) (sym blocks)
-          (say-first-then a.bits b.bits (bits_of_blocks r.blocks) (bits_of_blocks ready) r.received.items p.part.tried
-          r.received.stands (r.plain none)
-          (say-first-noted b.bits noted (bits_of_blocks ready) p.part.tried
-          (ap (λ (v : Configuration). v.inner) r.received.config ∙ none) notes.0 p.symbols));
-    }
 
 -- ---- what was read is handed over
 

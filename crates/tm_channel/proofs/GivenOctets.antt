@@ -2,11 +2,11 @@
 -- and the items that are due of them.
 use Rattle.std.proofs.Common.{◌≡◌, ◌==◌, ◌<◌, ◌≤◌, ◌+◌, ◌-◌, ◌*◌, ◌^◌, ℕ, inl, inr, if◌then◌else◌, Bool, true, false, List, [], ◌∷◌, ◌++◌, length, drop, map, refl, sym, ap, ◌∙◌, subst, arith, append_assoc, length-append, length-drop, Option, Some, None}
 use Rattle.std.specs.Option.{is_some}
-use Rattle.std.proofs.lemmas.List.{append-nil, drop_all, length-map, map-append}
+use Rattle.std.proofs.lemmas.List.{append-nil, length-map, map-append}
 use Rattle.std.proofs.Math.Seq.{drop-length}
 use Rattle.tm_base.specs.Handed.{Handed, Item, on_handed, items_of}
 use Rattle.tm_base.specs.Pieces.{beyond}
-use Rattle.tm_base.specs.Takers.{HandedOver, HandedPart}
+use Rattle.tm_base.specs.Takers.{HandedOver}
 use Rattle.tm_base.proofs.Handing.{HandedOver-append}
 use Rattle.tm_base.proofs.HandedItems.{HandedOver-items, items_of-append, items_of-items}
 use Rattle.tm_config.specs.Configuration.{Configuration}
@@ -15,45 +15,40 @@ use Rattle.tm_config.proofs.Choices.{never_both}
 use Rattle.tm_conv.specs.declared.rates.Rate.{Rate}
 use Rattle.tm_viterbi.specs.WindowBlock.{WindowBlock}
 use Rattle.tm_windows.specs.Queue.{Queueing}
-use Rattle.tm_windows.specs.Windows.{AreFirstIn, dropped_of}
+use Rattle.tm_windows.specs.Windows.{dropped_of}
 use Rattle.tm_viterbi.specs.Clean.{kept_bits}
 use Rattle.tm_windows.specs.declared.choosing.Chosen.{Chosen}
-use Rattle.tm_inner.specs.Inner.{BlocksAt, plain_bits, plain_count, bits_at, windows_of, soft_value, soft_octets, AreInnerBlocks, AreInnerDue, Inner, inner_bits, reported_slips}
+use Rattle.tm_inner.specs.Inner.{plain_bits, plain_count, bits_at, soft_value, AreInnerBlocks, AreInnerDue, Inner, inner_bits, reported_slips}
 use Rattle.tm_inner.specs.InnerDecoding.{InnerDecoding, InnerDecoderStandsFor, IsDrained, lost_in, unread}
 use Rattle.tm_inner.specs.Phase.{IsChosenBy, IsChosen, IsSettled, needed_at, skipped_at, phase_octets, skip_of, with_phase, IsChosenSoFar, WithPhase, WithPhaseSoFar}
 use Rattle.tm_inner.specs.Handing.{AreHanded, AreHandedDue}
-use Rattle.tm_inner.specs.Receiving.{FirstAt, AreInnerFirst, Hands, HandsPrefix, HasRead}
-use Rattle.tm_inner.proofs.DueBits.{StandFirst, StayClosed, drop-split, soft-more}
-use Rattle.tm_inner.proofs.GivenPieces.{Stay, hands-prefix, hands-longer}
-use Rattle.tm_inner.proofs.PlainBits.{bits-nil, plain-append, plain-few}
-use Rattle.tm_inner.proofs.PhasePieces.{PhaseStays, items_of-with_phase, further}
-use Rattle.tm_inner.proofs.WithPhase.{choice-stays, settled-stays, so_far-stays}
+use Rattle.tm_inner.specs.Receiving.{AreInnerFirst, HasRead}
+use Rattle.tm_inner.proofs.PlainBits.{bits-nil, plain-few}
+use Rattle.tm_inner.proofs.PhasePieces.{items_of-with_phase, further}
 use Rattle.tm_inner.proofs.FewBits.{first-few, whole-few}
 use Rattle.tm_inner.proofs.Decoders.{stands-first}
 use Rattle.tm_inner.proofs.DecoderReads.{handed-due, read-all}
 use Rattle.tm_sync.specs.declared.found.Found.{Found}
 use Rattle.tm_codeblock.specs.ReceivedCodeblock.{places_in}
 use Rattle.tm_inner.specs.SymbolPlaces.{symbol_at}
-use Rattle.tm_channel.specs.Items.{ItemValue, AreItemsOf, AreFirstItemsOf, AreItems, HaveSymbols}
+use Rattle.tm_channel.specs.Items.{ItemValue, AreItemsOf, AreItems, HaveSymbols}
 use Rattle.tm_channel.specs.Origins.{AreAt, place_symbol}
 use Rattle.tm_channel.specs.Due.{due}
 use Rattle.tm_channel.specs.declared.totals.Totals.{Totals}
-use Rattle.tm_channel.specs.Handing.{totals_of, phase_of, AreReceived, AreReceivedDue, AreReceivedFirst, AreReceivedPrefix}
+use Rattle.tm_channel.specs.Handing.{totals_of, phase_of, AreReceived, AreReceivedDue}
 use Rattle.tm_channel.specs.Most.{AreFew}
-use Rattle.tm_channel.specs.Receiving.{waiting_bits, AreFurther, AreFirstFurther, AreFirstDue}
-use Rattle.tm_channel.specs.OctetReceiving.{BitReceiving, FirstWith, BitReceiverStandsFor, Stages, StagesFor, StagesHand, StagesOn, AreSpare, Decodes, Decoded, DecodedPart, Received, ReceivedPart, ReceivedLast, ReceivedLastPart, SymbolsFor, bits_of_blocks}
-use Rattle.tm_channel.proofs.Streaming.{first-longer, first-more, first-then, items-then}
-use Rattle.tm_channel.proofs.AllBits.{beyond-nil, all-items, some-items, few-items, due-nil}
+use Rattle.tm_channel.specs.Receiving.{waiting_bits, AreFurther}
+use Rattle.tm_channel.specs.OctetReceiving.{BitReceiving, BitReceiverStandsFor, Stages, StagesFor, StagesHand, StagesOn, AreSpare, Decodes, Decoded, Received, ReceivedLast, SymbolsFor, bits_of_blocks}
+use Rattle.tm_channel.proofs.Streaming.{items-then}
+use Rattle.tm_channel.proofs.AllBits.{beyond-nil, all-items, due-nil}
 use Rattle.tm_channel.proofs.ReceivedPieces.{all_bits, all_bits-append}
-use Rattle.tm_channel.proofs.PhasedItems.{prefix-nil, with_phase-split, none-after, part-some, phase_from-append, phase_from-items, phase_of-with_phase, phased-further}
+use Rattle.tm_channel.proofs.PhasedItems.{prefix-nil, with_phase-split, none-after, phase_from-append, phase_from-items, phase_of-with_phase, phased-further}
 use Rattle.tm_channel.proofs.FurtherBits.{found-none, found-some, further-at, phased-items, bits-last}
 use Rattle.tm_channel.proofs.FewItems.{ends-few}
 use Rattle.tm_channel.proofs.KeptSymbols.{symbols-then}
 use Rattle.tm_channel.proofs.Symbols.{at-longer, have-of}
-use Rattle.tm_channel.proofs.StageSymbols.{StageFirstSymbols, StageSymbols, stage-coded, stage-coded_first, stage-earlier, stage-first-said, stage-said, stage-same}
-use Rattle.tm_channel.proofs.SymbolPlaces.{symbols-whole}
+use Rattle.tm_channel.proofs.StageSymbols.{StageSymbols, stage-coded, stage-earlier, stage-said, stage-same}
 use Rattle.tm_channel.proofs.FirstStage.{Ending, Fills, Settles, Stays, chosen-ended, plain-none, read-moved, read-so_far}
-use Rattle.tm_codeblock.proofs.PlacesIn.{places_in-append, places_in-end}
 
 -- ---- pieces of octets
 
@@ -65,24 +60,6 @@ due-further c bits piece done items are also =
     subst (λ (fs : List Found). AreItemsOf c (bits ++ piece) fs (done ++ items)) (beyond-nil c (due c (bits ++ piece)))
     (items-then c [] bits piece done items (subst (λ (fs : List Found). AreItemsOf c bits fs done)
     (sym (beyond-nil c (due c bits))) are) also)
-
-first-of-more : (c : Configuration) (bits piece : List Bool) (done items : List ItemValue)
-    → AreItemsOf c bits (due c bits) done → AreFirstFurther c bits piece items
-    → AreFirstItemsOf c (bits ++ piece) (places_in c (bits ++ piece)) (done ++ items)
-first-of-more c bits piece done items are also =
-    few-items c (bits ++ piece) (done ++ items)
-    (first-then c [] bits piece done items (subst (λ (fs : List Found). AreItemsOf c bits fs done)
-    (sym (beyond-nil c (due c bits))) are) also)
-
--- first items of a prefix of the bits are first items of all
-first-beyond : (c : Configuration) (bits rest : List Bool) (items : List ItemValue)
-    → AreFirstItemsOf c bits (places_in c bits) items
-    → AreFirstItemsOf c (bits ++ rest) (places_in c (bits ++ rest)) items
-first-beyond c bits rest items are =
-    subst (λ (fs : List Found). AreFirstItemsOf c (bits ++ rest) fs items) (sym (places_in-append c bits rest))
-    (first-longer c (bits ++ rest) (places_in c bits)
-    (drop (length (places_in c bits)) (places_in c (bits ++ rest))) items
-    (first-more c bits rest (places_in c bits) items (places_in-end c bits) are))
 
 -- ---- the phase comes once
 
@@ -144,11 +121,6 @@ nil-items : (c : Configuration) (bits : List Bool) (items : List ItemValue) → 
 nil-items c bits [] are = refl
 nil-items c bits (item ∷ items) are = absurd are
 
-nil-first : (c : Configuration) (bits : List Bool) (items : List ItemValue) → AreFirstItemsOf c bits [] items
-    → items ≡ []
-nil-first c bits [] are = refl
-nil-first c bits (item ∷ items) are = absurd are
-
 unsettled-bits : (c : Configuration) (given : List ℕ) (handed : List (Handed WindowBlock)) → (IsSettled c given → ⊥)
     → handed ≡ [] → inner_bits c given (items_of handed) ≡ []
 unsettled-bits c given handed unsettled none =
@@ -158,15 +130,6 @@ due-none-items : (c : Configuration) (bits : List Bool) (items : List ItemValue)
     → AreItemsOf c bits (due c bits) items → items ≡ []
 due-none-items c bits items none are =
     nil-items c bits items (subst (λ (fs : List Found). AreItemsOf c bits fs items) (ap (due c) none ∙ due-nil c) are)
-
-first-none-items : (c : Configuration) (bits piece : List Bool) (items : List ItemValue) → bits ++ piece ≡ []
-    → AreFirstFurther c bits piece items → items ≡ []
-first-none-items c bits piece items none are =
-    let nothing : beyond (due c bits) (due c (bits ++ piece)) ≡ [] =
-    ap (λ (l : List Bool). beyond (due c bits) (due c l)) none ∙ ap (beyond (due c bits)) (due-nil c)
-    ∙ drop_all (length (due c bits)) [] (omega arith) in
-    nil-first c (bits ++ piece) items (subst (λ (fs : List Found). AreFirstItemsOf c (bits ++ piece) fs items) nothing
-    are)
 
 -- ---- what is handed over: a phase that may come, and items
 
@@ -559,66 +522,6 @@ hands-wait took s now taker octets spare of none most w = record {
   stands = stages-wait s now octets spare of none most w;
 }
 
--- a part of it was
-stages-prefix : (s : Stages) (now : InnerDecoding) (octets : List ℕ) (phase : Option Chosen)
-    (blocks : List WindowBlock) (piece : List Bool) (tried : List ItemValue)
-    → IsOf s → Grows s.inner now octets phase blocks piece
-    → AreFirstDue s.bits.batch.config (BitReceiverStandsFor s.bits) piece tried
-    → StageFirstSymbols s now octets blocks piece tried
-    → (with_phase phase [] ++ map Item tried ≡ [] → ⊥)
-    → (given : List ℕ) (done : List (Handed ItemValue)) → length given + length octets < 2 ^ 60 → StagesFor s given done
-    → FirstWith s.inner.config now.chosen (given ++ octets) (done ++ (with_phase phase [] ++ map Item tried))
-stages-prefix s now octets phase blocks piece tried of grows first says some given done few stood =
-    let c = s.inner.config in
-    let f = onward s now octets phase blocks piece grows given done few stood in
-    let handed = stood.handed ++ f.more in
-    let bits = inner_bits c given (items_of stood.handed) in
-    let said = stage-first-said s now octets blocks piece tried says given stood.handed stood.inner handed f.are_more
-    stood.going few stood.bits f.few f.is stood.symbols in
-    let earlier = stage-earlier s (record { inner = now; bits = s.bits }) octets blocks piece given stood.handed stood.inner
-    handed f.read grows.config grows.kept f.are_more f.is stood.items stood.are_at in
-    let symbols = symbols-then (symbol_at c (skip_of now.chosen) (items_of handed))
-    (length (inner_bits c (given ++ octets) (items_of handed))) stood.items tried earlier said in
-    let more = subst (λ (k : Configuration). AreFirstFurther k bits piece tried) of (first bits f.few stood.bits) in (
-      elim f.first as (λ _. AreReceivedFirst c (given ++ octets) (done ++ (with_phase phase [] ++ map Item tried))) [
-        | inl w ↦ (
-            let none : phase ≡ None = f.is_phase ∙ ap phase_of (prefix-nil stood.handed f.more w.1).1 in
-            let no_items = first-none-items c bits piece tried
-            (sym f.is ∙ unsettled-bits c (given ++ octets) handed w.0 w.1) more in
-            absurd (some (ap (λ (o : Option Chosen). with_phase o [] ++ map Item tried) none ∙ ap (map Item) no_items))
-            )
-        | inr g ↦ (
-            let h = g.1 in
-            let same = phased-items h.chosen h.items handed h.are in
-            let chosen : phase_of handed ≡ h.chosen = ap phase_of h.are ∙ phase_of-with_phase h.chosen h.items in (
-              g.0,
-              record {
-                chosen = h.chosen;
-                choice = h.choice;
-                items = stood.items ++ tried;
-                are_items = record {
-                  blocks = items_of handed;
-                  are_first = subst (AreInnerFirst c (skip_of h.chosen) (given ++ octets)) (sym same) h.are_items;
-                  symbols = subst (λ (o : Option Chosen). HaveSymbols (symbol_at c (skip_of o) (items_of handed))
-                      (stood.items ++ tried)) (sym (read-phase now (given ++ octets) handed f.read f.all) ∙ chosen)
-                      (have-of (symbol_at c (skip_of now.chosen) (items_of handed))
-                      (length (inner_bits c (given ++ octets) (items_of handed))) (stood.items ++ tried) symbols);
-                  are_items =
-                      subst (λ (l : List Bool). AreFirstItemsOf c l (places_in c l) (stood.items ++ tried))
-                      (sym f.is) (first-of-more c bits piece stood.items tried stood.are_items more);
-                };
-                are =
-                    phased-more c given stood.handed stood.waiting f.more done stood.items tried phase stood.are_due
-                    stood.are_items stood.are
-                    (once-due c given octets stood.handed stood.waiting f.more stood.are_due f.first) f.is_phase
-                    ∙ ap (λ (o : Option Chosen). with_phase o (stood.items ++ tried)) chosen;
-              },
-            )
-            )
-      ],
-      subst (λ (k : Configuration). IsChosenSoFar k (given ++ octets) now.chosen) grows.config f.so_far,
-    )
-
 pub hands-due : {T : Type 0} (took_phase : T → ℕ → ℕ → T → Type 0) (took : T → ItemValue → T → Type 0)
     (s now : Stages) (taker middle taker_now : T) (octets : List ℕ) (phase : Option Chosen)
     (blocks : List WindowBlock) (piece : List Bool)
@@ -634,28 +537,6 @@ hands-due took_phase took s now taker middle taker_now octets phase blocks piece
       (HandedOver-items took_phase took middle taker_now p.items p.handed);
   stands = stages-due took s now middle taker_now octets phase blocks piece of grows drained p says;
 }
-
--- the taker failed
-pub prefix-due : {T : Type 0} (took_phase broke_phase : T → ℕ → ℕ → T → Type 0)
-    (took broke : T → ItemValue → T → Type 0) (s : Stages) (now : InnerDecoding) (taker taker_now : T)
-    (octets : List ℕ) (phase : Option Chosen) (blocks : List WindowBlock) (piece : List Bool)
-    (tried : List ItemValue) → IsOf s
-    → Grows s.inner now octets phase blocks piece
-    → HandedPart (on_handed took_phase took) (on_handed broke_phase broke) taker
-    (with_phase phase [] ++ map Item tried) taker_now
-    → AreFirstDue s.bits.batch.config (BitReceiverStandsFor s.bits) piece tried
-    → StageFirstSymbols s now octets blocks piece tried
-    → HandsPrefix (on_handed took_phase took) (on_handed broke_phase broke) StagesFor
-    (FirstWith s.inner.config now.chosen) s taker taker_now octets
-prefix-due took_phase broke_phase took broke s now taker taker_now octets phase blocks piece tried of grows part first
-    says =
-    record {
-      tried = with_phase phase [] ++ map Item tried;
-      handed = part;
-      first = stages-prefix s now octets phase blocks piece tried of grows first says
-          (part-some (on_handed took_phase took) (on_handed broke_phase broke) taker taker_now
-          (with_phase phase [] ++ map Item tried) part);
-    }
 
 -- ---- one piece after another
 
@@ -694,12 +575,6 @@ stages-more took a b c taker middle now first second p q = record {
       (subst (λ (l : List (Handed ItemValue)). StagesOn c ((given ++ first) ++ second) l stood.handed)
       (append_assoc done p.more q.more) on);
 }
-
-pub stages-hand : {T : Type 0} (took : T → Handed ItemValue → T → Type 0) (s now : Stages) (taker taker_now : T)
-    (octets : List ℕ) → StagesHand took s now taker taker_now octets
-    → Hands took StagesFor s now taker taker_now octets
-stages-hand took s now taker taker_now octets p =
-    record { more = p.more; handed = p.handed; stands = λ given done few stood. (p.stands given done few stood).0 }
 
 -- symbols of the first blocks are those of more
 received-symbols : (c : Configuration) (given : List ℕ) (done more : List WindowBlock) (chosen now : Option Chosen)
@@ -771,50 +646,6 @@ received-due s given done stood =
 
 -- ---- what is first stays so
 
-stays-at : StayClosed → (rate : Option Rate) (c : Configuration) (phase : ℕ) (octets more : List ℕ)
-    (blocks : List WindowBlock) → FirstAt rate c phase octets blocks
-    → FirstAt rate c phase (octets ++ more) blocks × ((rest : List Bool)
-    × (bits_at rate c (octets ++ more) blocks ≡ bits_at rate c octets blocks ++ rest))
-stays-at closed None c phase octets more blocks first = (
-  first,
-  (
-    drop (c.skip - length (plain_bits c octets)) (plain_bits c more),
-    ap (drop c.skip) (plain-append c octets more) ∙ drop-split c.skip (plain_bits c octets) (plain_bits c more),
-  ),
-)
-stays-at closed (Some rate) c phase octets more blocks first =
-    let back = map (soft_value c) (drop (phase - length (drop c.skip octets)) (drop (c.skip - length octets) more)) in (
-      subst (λ (l : List ℕ). AreFirstIn (windows_of c rate) l blocks) (sym (soft-more c phase octets more))
-          (closed (windows_of c rate) (soft_octets c phase octets) back blocks first),
-      ([], sym (append-nil (all_bits blocks))),
-    )
-
-pub first-stays : PhaseStays → StayClosed → (c : Configuration) → Stay (AreReceivedFirst c)
-first-stays stays closed c octets more handed h =
-    let t = h.1 in
-    let r = t.are_items in
-    let first = stays-at closed c.inner c (skip_of t.chosen) octets more r.blocks r.are_first in (
-      settled-stays c octets more h.0,
-      record {
-        chosen = t.chosen;
-        choice = choice-stays stays c octets more t.chosen h.0 t.choice;
-        items = t.items;
-        are_items = record {
-          blocks = r.blocks;
-          symbols = r.symbols;
-          are_first = first.0;
-          are_items = subst (λ (l : List Bool). AreFirstItemsOf c l (places_in c l) t.items) (sym first.1.1)
-              (first-beyond c (inner_bits c octets r.blocks) first.1.0 t.items r.are_items);
-        };
-        are = t.are;
-      },
-    )
-
-pub first_with-stays : PhaseStays → StayClosed → (c : Configuration) (chosen : Option Chosen)
-    → Stay (FirstWith c chosen)
-first_with-stays stays closed c chosen octets more handed h =
-    (first-stays stays closed c octets more handed h.0, so_far-stays stays c octets more chosen h.0.0 h.1)
-
 -- ---- one run after another
 
 -- With the first octets what is due was handed over; then the first stage was given a piece more, of
@@ -853,35 +684,6 @@ holds-due took_phase took start now bits next taker middle taker_now octets code
     grows drained d.phased d.received
     (stage-coded s now next h.piece d.blocks d.received.items (coded-still start h.inner coded h.config) h.of h.fills
     d.symbols)))
-
--- the taker fails at a part of it
-pub holds-part : {T : Type 0} (took_phase broke_phase : T → ℕ → ℕ → T → Type 0)
-    (took broke : T → ItemValue → T → Type 0) (start : Stages) (now : InnerDecoding) (bits : BitReceiving)
-    (next : Stages) (taker middle taker_now : T) (octets rest : List ℕ) → PhaseStays → StayClosed → IsCoded start
-    → Holds (on_handed took_phase took) start now bits taker middle octets
-    → DecodedPart took_phase broke_phase took broke (record { inner = now; bits = bits }) next middle taker_now
-    → HandsPrefix (on_handed took_phase took) (on_handed broke_phase broke) StagesFor
-    (FirstWith start.inner.config next.inner.chosen) start taker taker_now (octets ++ rest)
-holds-part took_phase broke_phase took broke start now bits next taker middle taker_now octets rest stays closed coded
-    h d =
-    let takes = on_handed took_phase took in
-    let breaks = on_handed broke_phase broke in
-    let c = start.inner.config in
-    let First = FirstWith c next.inner.chosen in
-    let s : Stages = record { inner = h.inner; bits = bits } in
-    let grows = grows-coded h.inner now next.inner h.piece d.phase d.blocks (coded-still start h.inner coded h.config)
-    h.fills d.decodes in
-    let part = subst (λ (k : Configuration). HandsPrefix takes breaks StagesFor (FirstWith k next.inner.chosen) s middle
-    taker_now h.piece) h.config
-    (prefix-due took_phase broke_phase took broke s next.inner middle taker_now h.piece d.phase d.blocks
-    (bits_of_blocks d.blocks) d.tried h.of grows d.handed d.first
-    (stage-coded_first s now next h.piece d.blocks d.tried (coded-still start h.inner coded h.config) h.of h.fills
-    d.symbols)) in
-    subst (λ (l : List ℕ). HandsPrefix takes breaks StagesFor First start taker taker_now (l ++ rest)) h.all
-    (hands-longer takes breaks StagesFor First start taker taker_now (h.first ++ h.piece) rest
-    (first_with-stays stays closed c next.inner.chosen)
-    (hands-prefix takes breaks StagesFor First start s taker middle taker_now h.first h.piece
-    (stages-hand takes start s taker middle h.first h.hands) part))
 
 -- all of it waits
 pub holds-wait : {T : Type 0} (took : T → Handed ItemValue → T → Type 0) (start : Stages) (now : InnerDecoding)
@@ -1098,170 +900,4 @@ ends took s bits_now taker middle now phase blocks totals of ends_in p q says gi
           (subst (λ (l : List Bool). AreItems c l (stood.items ++ others)) (sym is) all)),
     )
 
--- a prefix of all, where these are first items of the bits
-ends-first : (s : Stages) (phase : Option Chosen) (blocks : List WindowBlock) (totals : Totals) (given : List ℕ)
-    (done : List (Handed ItemValue)) (stood : StagesFor s given done)
-    → Ended s given done stood phase blocks totals → (tried : List ItemValue)
-    → EndsAt s.inner.config given (stood.handed ++ (with_phase phase [] ++ map Item blocks)) (stood.items ++ tried)
-    → AreFirstItemsOf s.inner.config (inner_bits s.inner.config given (items_of stood.handed) ++ bits_of_blocks blocks)
-    (places_in s.inner.config (inner_bits s.inner.config given (items_of stood.handed) ++ bits_of_blocks blocks))
-    (stood.items ++ tried)
-    → AreReceivedPrefix s.inner.config given (done ++ (with_phase phase [] ++ map Item tried))
-ends-first s phase blocks totals given done stood e tried says first =
-    let c = s.inner.config in
-    record {
-      chosen = e.chosen;
-      choice = e.choice;
-      items = stood.items ++ tried;
-      are_items = record {
-        bits = e.bits;
-        inner = e.inner;
-        symbols = e.symbols (stood.items ++ tried) says;
-        are_items =
-            subst (λ (l : List Bool). AreFirstItemsOf c l (places_in c l) (stood.items ++ tried))
-            (sym e.is) first;
-      };
-      are = e.are tried;
-    }
-
--- the taker failed at one of the items that are due with the bits of all blocks
-pub ends-part : {T : Type 0} (took broke : T → ItemValue → T → Type 0) (s : Stages) (bits_now : BitReceiving)
-    (taker now : T) (phase : Option Chosen) (blocks : List WindowBlock) (totals : Totals) → IsOf s
-    → EndsIn s phase blocks totals
-    → (p : ReceivedPart took broke s.bits bits_now taker now (bits_of_blocks blocks))
-    → EndSay s phase blocks p.tried
-    → (given : List ℕ) (done : List (Handed ItemValue)) → StagesFor s given done
-    → AreReceivedPrefix s.inner.config given (done ++ (with_phase phase [] ++ map Item p.tried))
-ends-part took broke s bits_now taker now phase blocks totals of ends_in p says given done stood =
-    let c = s.inner.config in
-    let e = ended s given done stood phase blocks totals ends_in in
-    let bits = inner_bits c given (items_of stood.handed) in
-    let piece = bits_of_blocks blocks in
-    let more = subst (λ (k : Configuration). AreFirstFurther k bits piece p.tried) of
-    (p.first bits e.few stood.bits) in
-    ends-first s phase blocks totals given done stood e p.tried (says given done stood)
-    (first-of-more c bits piece stood.items p.tried stood.are_items more)
-
--- it failed at one of the last items
-pub ends-prefix : {T : Type 0} (took broke : T → ItemValue → T → Type 0) (s : Stages) (bits_now : BitReceiving)
-    (taker middle now : T) (phase : Option Chosen) (blocks : List WindowBlock) (totals : Totals) → IsOf s
-    → EndsIn s phase blocks totals
-    → (p : Received took s.bits bits_now taker middle (bits_of_blocks blocks))
-    (q : ReceivedLastPart took broke bits_now middle now) → EndSay s phase blocks (p.items ++ q.tried)
-    → (given : List ℕ) (done : List (Handed ItemValue)) → StagesFor s given done
-    → AreReceivedPrefix s.inner.config given (done ++ (with_phase phase [] ++ map Item (p.items ++ q.tried)))
-ends-prefix took broke s bits_now taker middle now phase blocks totals of ends_in p q says given done stood =
-    let c = s.inner.config in
-    let e = ended s given done stood phase blocks totals ends_in in
-    let bits = inner_bits c given (items_of stood.handed) in
-    let piece = bits_of_blocks blocks in
-    let more = subst (λ (k : Configuration). AreFurther k bits piece p.items) of (p.due bits e.few stood.bits) in
-    let due_items = due-further c bits piece stood.items p.items stood.are_items more in
-    let last = subst (λ (k : Configuration). AreFirstItemsOf k (bits ++ piece)
-    (beyond (due k (bits ++ piece)) (places_in k (bits ++ piece))) q.tried)
-    (p.config ∙ of) (q.first (bits ++ piece) (p.stands bits e.few stood.bits)) in
-    let items = some-items c (bits ++ piece) (stood.items ++ p.items) q.tried
-    (subst (λ (fs : List Found). AreItemsOf c (bits ++ piece) fs (stood.items ++ p.items))
-    (sym (beyond-nil c (due c (bits ++ piece)))) due_items) last in
-    ends-first s phase blocks totals given done stood e (p.items ++ q.tried)
-    (says given done stood)
-    (subst (AreFirstItemsOf c (bits ++ piece) (places_in c (bits ++ piece)))
-    (append_assoc stood.items p.items q.tried) items)
-
 -- ---- the taker fails before the last block
-
--- octets come to bits
-abbrev pub HasBits : Type 0
-HasBits = (c : Configuration) (phase : ℕ) (octets : List ℕ) → IsAccepted c → (bits : List Bool)
-    × Inner c phase octets bits
-
--- the bits of first blocks stand first
-whole-first : StandFirst → (rate : Option Rate) (c : Configuration) (phase : ℕ) (octets : List ℕ)
-    (first blocks : List WindowBlock) (left : ℕ) → FirstAt rate c phase octets first
-    → BlocksAt rate c phase octets blocks left
-    → (rest : List Bool) × (bits_at rate c octets blocks ≡ bits_at rate c octets first ++ rest)
-whole-first stand None c phase octets first blocks left is all =
-    ([], sym (append-nil (drop c.skip (plain_bits c octets))))
-whole-first stand (Some rate) c phase octets first blocks left is all =
-    let split = stand (windows_of c rate) (soft_octets c phase octets) first blocks left is all in
-    (all_bits split.0, ap (λ (l : List WindowBlock). all_bits l) split.1 ∙ all_bits-append first split.0)
-
-more-at : (rate : Option Rate) (c : Configuration) (given : List ℕ) (blocks more : List WindowBlock)
-    → (is_some rate ≡ false → more ≡ [])
-    → bits_at rate c given (blocks ++ more) ≡ bits_at rate c given blocks ++ bits_of_blocks more
-more-at None c given blocks more none =
-    sym (append-nil (drop c.skip (plain_bits c given)))
-    ∙ ap (λ (l : List WindowBlock). drop c.skip (plain_bits c given) ++ bits_of_blocks l) (sym (none refl))
-more-at (Some rate) c given blocks more none = all_bits-append blocks more
-
-pub ends-early : (s : Stages) (settled now : InnerDecoding) (phase : Option Chosen) (blocks : List WindowBlock)
-    (tried : List ItemValue) → HasBits → StandFirst → IsAccepted s.inner.config → IsOf s → Settles s.inner settled
-    → Decodes settled now (with_phase phase [] ++ map Item blocks)
-    → AreFirstDue s.bits.batch.config (BitReceiverStandsFor s.bits) (bits_of_blocks blocks) tried
-    → EndSay s phase blocks tried
-    → (given : List ℕ) (done : List (Handed ItemValue)) → StagesFor s given done
-    → AreReceivedPrefix s.inner.config given (done ++ (with_phase phase [] ++ map Item tried))
-ends-early s settled now phase blocks tried has stand ok of settles decodes first says given done stood =
-    let c = s.inner.config in
-    let more = with_phase phase [] ++ map Item blocks in
-    let handed = stood.handed ++ more in
-    let e = at-end s settled now more settles decodes given done stood in
-    let skip = skip_of now.chosen in
-    let items : items_of handed ≡ e.read.blocks = phased-items now.chosen e.read.blocks handed e.are in
-    let split : items_of handed ≡ items_of stood.handed ++ blocks = items_of-append stood.handed more
-    ∙ ap (λ (l : List WindowBlock). items_of stood.handed ++ l) (blocks-after phase blocks) in
-    let none : is_some c.inner ≡ false → blocks ≡ [] = λ plain.
-    let none_now = plain-none now given e.read.blocks
-    (ap (λ (k : Configuration). is_some k.inner) (decodes.config ∙ settles.on.config) ∙ plain) e.read.stands in
-    (prefix-nil (items_of stood.handed) blocks (sym split ∙ items ∙ none_now)).1 in
-    let bits = inner_bits c given (items_of stood.handed) in
-    let piece = bits_of_blocks blocks in
-    let is : inner_bits c given e.read.blocks ≡ bits ++ piece = ap (inner_bits c given) (sym items ∙ split)
-    ∙ more-at c.inner c given (items_of stood.handed) blocks none in
-    let few : length (bits ++ piece) < 2 ^ 63 =
-    omega (arith, ap length is, first-few c skip given e.read.blocks e.first, stood.inner.stands.few) in
-    let further_first = subst (λ (k : Configuration). AreFirstFurther k bits piece tried) of
-    (first bits few stood.bits) in
-    let whole = has c skip given ok in
-    let after = whole-first stand c.inner c skip given e.read.blocks whole.1.blocks whole.1.left e.first
-    whole.1.are_blocks in
-    let all : (bits ++ piece) ++ after.0 ≡ whole.0 =
-    sym (whole.1.are_bits ∙ after.1 ∙ ap (λ l. l ++ after.0) is) in
-    let phased : WithPhase (λ phase blocks. AreInnerFirst c phase given blocks) c given handed = record {
-      chosen = now.chosen;
-      choice = e.choice;
-      items = e.read.blocks;
-      are_items = e.first;
-      are = e.are;
-    } in
-    let chosen : phase_of handed ≡ now.chosen = ap phase_of e.are ∙ phase_of-with_phase now.chosen e.read.blocks in
-    record {
-      chosen = now.chosen;
-      choice = e.choice;
-      items = stood.items ++ tried;
-      are_items = record {
-        bits = whole.0;
-        inner = whole.1;
-        symbols =
-            let count = length (inner_bits c given (items_of handed)) in
-            let whole_at = symbol_at c skip whole.1.blocks in
-            have-of whole_at count (stood.items ++ tried)
-            (at-longer (symbol_at c (skip_of (phase_of handed)) (items_of handed)) whole_at count count
-            (map place_symbol (stood.items ++ tried)) (omega arith)
-            (λ n below. sym (ap (λ (o : Option Chosen). symbol_at c (skip_of o) (items_of handed) n) chosen
-            ∙ ap (λ (l : List WindowBlock). symbol_at c skip l n) items
-            ∙ symbols-whole stand c skip given e.read.blocks whole.1.blocks whole.1.left e.first whole.1.are_blocks n
-            (omega (arith, below, ap (λ (l : List WindowBlock). length (inner_bits c given l)) items))))
-            (says given done stood));
-        are_items =
-            subst (λ (l : List Bool). AreFirstItemsOf c l (places_in c l) (stood.items ++ tried)) all
-            (first-beyond c (bits ++ piece) after.0 (stood.items ++ tried)
-            (first-of-more c bits piece stood.items tried stood.are_items further_first));
-      };
-      are =
-          phased-more c given stood.handed stood.waiting more done stood.items tried phase stood.are_due
-          stood.are_items stood.are
-          (once-last (λ phase blocks. AreInnerFirst c phase given blocks) c given stood.handed stood.waiting more
-          stood.are_due phased) (phase-after phase blocks)
-          ∙ ap (λ (o : Option Chosen). with_phase o (stood.items ++ tried)) chosen;
-    }

@@ -8,7 +8,7 @@ use Rattle.tm_sync.specs.Finding.{Finding}
 use Rattle.tm_channel.specs.Items.{ItemValue}
 use Rattle.tm_channel.specs.Origins.{AreAt, AreHandedSymbols, PlaceSymbol, origin_at, place_symbol, symbol_by}
 use Rattle.tm_channel.specs.OctetReceiving.{BitReceiverStandsFor, BitReceiving, HasSymbols, Notes}
-use Rattle.tm_channel.proofs.Symbols.{at-append, at-take}
+use Rattle.tm_channel.proofs.Symbols.{at-append}
 
 -- bits were passed, or given, and the codeblocks that are stored are these
 pub symbols-stored : (r now : BitReceiving) (count : ℕ) (at : ℕ → ℕ) → r.finder.passed ≤ now.finder.passed
@@ -68,12 +68,6 @@ pub symbols-then : (at : ℕ → ℕ) (count : ℕ) (items others : List ItemVal
 symbols-then at count items others are also =
     subst (AreAt at count) (sym (map-append place_symbol items others))
     (at-append at count (map place_symbol items) (map place_symbol others) are also)
-
--- the first of those that are stored
-pub symbols-some : (at : ℕ → ℕ) (count number : ℕ) (symbols : List PlaceSymbol) (items : List ItemValue)
-    → map place_symbol items ≡ take number symbols → AreAt at count symbols → AreAt at count (map place_symbol items)
-symbols-some at count number symbols items is are =
-    subst (AreAt at count) (sym is) (at-take at count number symbols are)
 
 -- those of one item more
 pub symbols-next : (symbols : List PlaceSymbol) (index : ℕ) (items : List ItemValue) (item : ItemValue)

@@ -27,6 +27,7 @@ pub mod Batches
 pub mod Streaming
 pub mod Holding
 pub mod Apart
+pub mod Until
 pub mod Ones
 pub mod Settling
 pub mod Pieces

@@ -1,5 +1,5 @@
 -- Bits that are octets 0 and 1.
-use Rattle.std.proofs.Common.{◌≡◌, ℕ, ◌+◌, ◌-◌, ◌==◌, Bool, List, ◌++◌, take, drop, map, sym, ap, ◌∙◌, arith, take-append-drop}
+use Rattle.std.proofs.Common.{◌≡◌, ℕ, ◌+◌, ◌-◌, ◌==◌, Bool, List, ◌++◌, take, drop, map, ap, ◌∙◌, arith}
 use Rattle.std.proofs.lemmas.List.{map-append}
 use Rattle.std.proofs.Math.Seq.{take-add}
 
@@ -16,10 +16,3 @@ next-ones bits done count =
     let same : count ≡ (done + count) - done = omega arith in
     ap ones (take-add done count bits ∙ ap (λ n. take done bits ++ take n (drop done bits)) same)
     ∙ map-append (λ bit. bit == 1) (take done bits) (next_octets done count bits)
-
-pub all-ones : (bits : List ℕ) (done count : ℕ) → (ones (take done bits) ++ ones (next_octets done count bits))
-    ++ ones (drop (done + count) bits) ≡ ones bits
-all-ones bits done count =
-    ap (λ l. l ++ ones (drop (done + count) bits)) (sym (next-ones bits done count))
-    ∙ sym (map-append (λ bit. bit == 1) (take (done + count) bits) (drop (done + count) bits))
-    ∙ ap ones (take-append-drop (done + count) bits)

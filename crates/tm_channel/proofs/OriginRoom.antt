@@ -1,5 +1,5 @@
 -- Origins in a room, and how far they reach back.
-use Rattle.std.proofs.Common.{◌≡◌, ◌==◌, ◌<◌, ◌≤◌, ◌+◌, ◌-◌, ◌*◌, ℕ, zero, suc, Bool, true, false, if◌then◌else◌, nat_le, List, [], ◌∷◌, ◌++◌, length, take, drop, get_or, set, inl, inr, refl, sym, ap, ◌∙◌, arith}
+use Rattle.std.proofs.Common.{◌≡◌, ◌==◌, ◌<◌, ◌≤◌, ◌+◌, ◌*◌, ℕ, zero, suc, Bool, true, false, if◌then◌else◌, nat_le, List, [], ◌∷◌, ◌++◌, length, take, drop, get_or, set, inl, inr, refl, sym, ap, ◌∙◌, arith}
 use Rattle.std.proofs.Math.Nat.{sub-zero, suc-mul, zero-mul}
 use Rattle.std.proofs.lemmas.List.{length-take-le, take_at}
 use Rattle.std.proofs.lemmas.Bool.{cases_lt, eqb-true, le-leb, leb-false, leb-true}

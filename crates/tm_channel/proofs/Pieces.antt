@@ -2,10 +2,10 @@
 use Rattle.std.proofs.Common.{◌<◌, ◌^◌, Bool, List, ◌++◌, length, subst, arith, append_assoc, length-append}
 use Rattle.tm_base.specs.Pieces.{beyond}
 use Rattle.tm_config.specs.Configuration.{Configuration}
-use Rattle.tm_channel.specs.Items.{ItemValue, AreItemsOf, AreFirstItemsOf}
+use Rattle.tm_channel.specs.Items.{ItemValue, AreItemsOf}
 use Rattle.tm_channel.specs.Due.{due}
-use Rattle.tm_channel.specs.Receiving.{AreDue, AreFirstDue, GoesOn}
-use Rattle.tm_channel.proofs.Streaming.{items-then, first-then, first-of-all}
+use Rattle.tm_channel.specs.Receiving.{AreDue, GoesOn}
+use Rattle.tm_channel.proofs.Streaming.{items-then}
 
 -- fewer bits in all are fewer in the prefix
 prefix-few : (bits piece more : List Bool) → length (bits ++ (piece ++ more)) < 2 ^ 63 → length (bits ++ piece) < 2 ^ 63
@@ -37,19 +37,3 @@ due-then c Stood Stands piece more items others goes are also bits few h =
     (append_assoc bits piece more)
     (items-then c bits piece more items others (are bits (prefix-few bits piece more few) h)
     (also (bits ++ piece) (all-few bits piece more few) (goes bits (prefix-few bits piece more few) h)))
-
-pub first-due-then : (c : Configuration) (Stood Stands : List Bool → Type 0) (piece more : List Bool)
-    (items others : List ItemValue) → GoesOn Stood Stands piece
-    → AreDue c Stood piece items → AreFirstDue c Stands more others
-    → AreFirstDue c Stood (piece ++ more) (items ++ others)
-first-due-then c Stood Stands piece more items others goes are also bits few h =
-    subst (λ (l : List Bool). AreFirstItemsOf c l (beyond (due c bits) (due c l)) (items ++ others))
-    (append_assoc bits piece more)
-    (first-then c bits piece more items others (are bits (prefix-few bits piece more few) h)
-    (also (bits ++ piece) (all-few bits piece more few) (goes bits (prefix-few bits piece more few) h)))
-
-pub first-due-all : (c : Configuration) (Stood : List Bool → Type 0) (piece more : List Bool) (items : List ItemValue)
-    → AreFirstDue c Stood piece items → AreFirstDue c Stood (piece ++ more) items
-first-due-all c Stood piece more items are bits few h =
-    subst (λ (l : List Bool). AreFirstItemsOf c l (beyond (due c bits) (due c l)) items) (append_assoc bits piece more)
-    (first-of-all c bits piece more items (are bits (prefix-few bits piece more few) h))

@@ -1,25 +1,20 @@
 -- Octets that hold the bits themselves, through both stages of a receiver.
-use Rattle.std.proofs.Common.{◌≡◌, ◌∙◌, ◌++◌, ◌+◌, ◌-◌, ◌<◌, ◌≤◌, ◌^◌, ℕ, false, List, [], Bool, Option, Some, None, ap, arith, drop, length, map, refl, subst, sym, take}
+use Rattle.std.proofs.Common.{◌≡◌, ◌∙◌, ◌++◌, ◌+◌, ◌-◌, ◌<◌, ◌≤◌, ◌^◌, ℕ, false, List, Bool, Option, Some, None, ap, arith, drop, length, refl, subst, sym, take}
 use Rattle.std.specs.Option.{is_some}
 use Rattle.std.proofs.lemmas.List.{take_all}
-use Rattle.tm_base.specs.Handed.{Item, on_handed}
-use Rattle.tm_base.proofs.Handing.{HandedPart-after}
-use Rattle.tm_base.proofs.HandedItems.{HandedPart-items}
+use Rattle.tm_base.specs.Handed.{on_handed}
 use Rattle.tm_config.specs.Configuration.{Configuration}
 use Rattle.tm_viterbi.specs.WindowBlock.{WindowBlock}
 use Rattle.tm_windows.specs.Queue.{Queueing}
 use Rattle.tm_inner.specs.Inner.{plain_bits, plain_count}
 use Rattle.tm_inner.specs.InnerDecoding.{HasFilled, InnerDecoderStandsFor, InnerDecoding, IsDrained, IsQueueOf}
-use Rattle.tm_inner.specs.Phase.{with_phase}
-use Rattle.tm_inner.specs.Receiving.{HandsPrefix}
 use Rattle.tm_channel.specs.Items.{ItemValue}
-use Rattle.tm_channel.specs.OctetReceiving.{BitReceiving, BitReceiverStandsFor, Decoded, DecodedPart, FirstWith, ReceivedAt, ReceivedPartAt, Stages, StagesFor, StagesHand, bits_of_blocks}
+use Rattle.tm_channel.specs.OctetReceiving.{BitReceiving, Decoded, ReceivedAt, Stages, StagesHand, bits_of_blocks}
 use Rattle.tm_channel.proofs.FirstStage.{Fills, GoesOn}
-use Rattle.tm_channel.proofs.GivenOctets.{IsOf, grows-plain, hands-due, prefix-due}
-use Rattle.tm_channel.proofs.Pieces.{first-due-all}
-use Rattle.tm_channel.proofs.ReceivedPieces.{part-then, received-then, say-first-all, say-first-then, say-then}
+use Rattle.tm_channel.proofs.GivenOctets.{IsOf, grows-plain, hands-due}
+use Rattle.tm_channel.proofs.ReceivedPieces.{received-then, say-then}
 use Rattle.tm_channel.proofs.RunSymbols.{no-rate}
-use Rattle.tm_channel.proofs.StageSymbols.{stage-plain, stage-plain_first}
+use Rattle.tm_channel.proofs.StageSymbols.{stage-plain}
 
 -- ---- octets are put in
 
@@ -59,46 +54,6 @@ found_in inner octets = drop (inner.config.skip - plain_count inner.config inner
 -- the second stage has no inner code either
 none-in : (s : Stages) → IsOf s → is_some s.inner.config.inner ≡ false → s.bits.batch.config.inner ≡ None
 none-in s of plain = ap (λ (c : Configuration). c.inner) of ∙ no-rate s.inner.config.inner plain
-
--- the taker failed before them
-pub plain-part : {T : Type 0} (took_phase broke_phase : T → ℕ → ℕ → T → Type 0)
-    (took broke : T → ItemValue → T → Type 0) (s : Stages) (filled : InnerDecoding) (now : Stages)
-    (taker taker_now : T) (octets : List ℕ) → IsOf s → is_some s.inner.config.inner ≡ false → Fills s.inner filled octets
-    → DecodedPart took_phase broke_phase took broke (record { inner = filled; bits = s.bits }) now taker taker_now
-    → HandsPrefix (on_handed took_phase took) (on_handed broke_phase broke) StagesFor
-    (FirstWith s.inner.config now.inner.chosen) s taker taker_now octets
-plain-part took_phase broke_phase took broke s filled now taker taker_now octets of plain fills d =
-    let found = found_in s.inner octets in
-    prefix-due took_phase broke_phase took broke s now.inner taker taker_now octets d.phase d.blocks
-    (bits_of_blocks d.blocks ++ found) d.tried of
-    (grows-plain s.inner filled now.inner octets d.phase d.blocks _ plain refl fills d.decodes) d.handed
-    (first-due-all s.bits.batch.config (BitReceiverStandsFor s.bits) (bits_of_blocks d.blocks) found d.tried d.first)
-    (stage-plain_first s now.inner octets d.blocks (bits_of_blocks d.blocks ++ found) d.tried plain of
-    (say-first-all s.bits (bits_of_blocks d.blocks) found d.tried (d.plain (none-in s of plain))))
-
--- it failed at one of them
-pub plain-prefix : {T : Type 0} (took_phase broke_phase : T → ℕ → ℕ → T → Type 0)
-    (took broke : T → ItemValue → T → Type 0) (s : Stages) (filled : InnerDecoding) (between : Stages)
-    (bits : BitReceiving) (taker middle taker_now : T) (octets : List ℕ) → IsOf s → is_some s.inner.config.inner ≡ false
-    → Fills s.inner filled octets
-    → Decoded took_phase took (record { inner = filled; bits = s.bits }) between taker middle
-    → ReceivedPartAt took broke between.bits bits middle taker_now (found_in s.inner octets)
-    → HandsPrefix (on_handed took_phase took) (on_handed broke_phase broke) StagesFor
-    (FirstWith s.inner.config between.inner.chosen) s taker taker_now octets
-unfolding part-then
-plain-prefix took_phase broke_phase took broke s filled between bits taker middle taker_now octets of plain fills d part =
-    let found = found_in s.inner octets in
-    let p = part-then took broke s.bits between.bits bits d.middle middle taker_now (bits_of_blocks d.blocks) found
-    d.received part.part in
-    prefix-due took_phase broke_phase took broke s between.inner taker taker_now octets d.phase d.blocks
-    (bits_of_blocks d.blocks ++ found) p.tried of
-    (grows-plain s.inner filled between.inner octets d.phase d.blocks _ plain refl fills d.decodes)
-    (HandedPart-after (on_handed took_phase took) (on_handed broke_phase broke) taker d.middle taker_now
-    (with_phase d.phase []) (map Item p.tried) d.phased
-    (HandedPart-items took_phase broke_phase took broke d.middle taker_now p.tried p.handed)) p.first
-    (stage-plain_first s between.inner octets d.blocks (bits_of_blocks d.blocks ++ found) p.tried plain of
-    (say-first-then s.bits between.bits (bits_of_blocks d.blocks) found d.received.items part.part.tried
-    d.received.stands (d.plain (none-in s of plain)) part.symbols))
 
 -- what is due with them was handed over
 pub plain-hands : {T : Type 0} (took_phase : T → ℕ → ℕ → T → Type 0) (took : T → ItemValue → T → Type 0)

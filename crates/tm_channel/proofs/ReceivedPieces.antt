@@ -3,8 +3,8 @@ use Rattle.std.proofs.Common.{◌≡◌, ◌==◌, ◌<◌, ◌≤◌, ◌^◌, 
 use Rattle.std.proofs.lemmas.List.{append-nil, map-append}
 use Rattle.std.proofs.Math.Seq.{drop-length}
 use Rattle.tm_base.specs.Pieces.{beyond}
-use Rattle.tm_base.specs.Takers.{HandedOver, HandedPart}
-use Rattle.tm_base.proofs.Handing.{HandedOver-append, HandedPart-after}
+use Rattle.tm_base.specs.Takers.{HandedOver}
+use Rattle.tm_base.proofs.Handing.{HandedOver-append}
 use Rattle.tm_config.specs.Configuration.{Configuration}
 use Rattle.tm_sync.specs.declared.found.Found.{Found}
 use Rattle.tm_viterbi.specs.WindowBlock.{WindowBlock}
@@ -12,10 +12,10 @@ use Rattle.tm_viterbi.specs.Clean.{kept_bits}
 use Rattle.tm_inner.proofs.DueBits.{kept-append}
 use Rattle.tm_channel.specs.Items.{ItemValue, AreItemsOf}
 use Rattle.tm_channel.specs.Due.{due, due_count}
-use Rattle.tm_channel.specs.Receiving.{AreDue, AreFirstDue, AreFirstFurther, AreFurther, GoesOn, Holds, HoldsMore}
-use Rattle.tm_channel.specs.OctetReceiving.{BitReceiving, BitReceiverStandsFor, HasSymbols, Notes, Received, ReceivedAt, ReceivedPart, ReceivedPartAt, SayFirstSymbols, SaySymbols, Settles, SettlesPart, SettlesSymbols, SettlesSymbolsPart}
+use Rattle.tm_channel.specs.Receiving.{AreDue, AreFurther, GoesOn, Holds, HoldsMore}
+use Rattle.tm_channel.specs.OctetReceiving.{BitReceiving, BitReceiverStandsFor, HasSymbols, Notes, Received, ReceivedAt, SaySymbols, Settles, SettlesSymbols}
 use Rattle.tm_channel.proofs.KeptSymbols.{stands-noted, symbols-then}
-use Rattle.tm_channel.proofs.Pieces.{goes-then, due-then, first-due-then, first-due-all}
+use Rattle.tm_channel.proofs.Pieces.{goes-then, due-then}
 
 -- no bits
 unfoldable pub received-none : {T : Type 0} (took : T → ItemValue → T → Type 0) (s : BitReceiving) (taker : T)
@@ -57,19 +57,6 @@ received-pushed took a b c taker now piece items config pushes same settles hand
       (settles bits piece few (held-then a b piece bits config pushes few stood)).1;
 }
 
--- at an item of which the taker failed
-pub part-pushed : {T : Type 0} (took broke : T → ItemValue → T → Type 0) (a b c : BitReceiving) (taker now : T)
-    (piece : List Bool) (tried : List ItemValue)
-    → b.batch.config ≡ a.batch.config → Pushes a b piece → c.batch.config ≡ b.batch.config
-    → SettlesPart b tried → HandedPart took broke taker tried now → ReceivedPart took broke a c taker now piece
-part-pushed took broke a b c taker now piece tried config pushes same settles handed = record {
-  config = same ∙ config;
-  tried = tried;
-  handed = handed;
-  first = λ bits few stood. subst (λ (k : Configuration). AreFirstFurther k bits piece tried) config
-      (settles bits piece few (held-then a b piece bits config pushes few stood));
-}
-
 -- bits, and then others
 unfoldable pub received-then : {T : Type 0} (took : T → ItemValue → T → Type 0) (a b c : BitReceiving)
     (taker middle now : T) (bits more : List Bool)
@@ -84,31 +71,6 @@ received-then took a b c taker middle now bits more p q = record {
   due = due-then a.batch.config (BitReceiverStandsFor a) (BitReceiverStandsFor b) bits more
       p.items q.items p.stands p.due
       (subst (λ (c : Configuration). AreDue c (BitReceiverStandsFor b) more q.items) p.config q.due);
-}
-
--- bits, and then others at which the taker fails
-unfoldable pub part-then : {T : Type 0} (took broke : T → ItemValue → T → Type 0) (a b c : BitReceiving)
-    (taker middle now : T) (bits more : List Bool)
-    → Received took a b taker middle bits → ReceivedPart took broke b c middle now more
-    → ReceivedPart took broke a c taker now (bits ++ more)
-part-then took broke a b c taker middle now bits more p q = record {
-  config = q.config ∙ p.config;
-  tried = p.items ++ q.tried;
-  handed = HandedPart-after took broke taker middle now p.items q.tried p.handed q.handed;
-  first = first-due-then a.batch.config (BitReceiverStandsFor a) (BitReceiverStandsFor b) bits more
-      p.items q.tried p.stands p.due
-      (subst (λ (c : Configuration). AreFirstDue c (BitReceiverStandsFor b) more q.tried) p.config q.first);
-}
-
--- bits at which the taker fails, with others after them
-unfoldable pub part-all : {T : Type 0} (took broke : T → ItemValue → T → Type 0) (a b : BitReceiving) (taker now : T)
-    (bits more : List Bool)
-    → ReceivedPart took broke a b taker now bits → ReceivedPart took broke a b taker now (bits ++ more)
-part-all took broke a b taker now bits more p = record {
-  config = p.config;
-  tried = p.tried;
-  handed = p.handed;
-  first = first-due-all a.batch.config (BitReceiverStandsFor a) bits more p.tried p.first;
 }
 
 -- the bits that blocks keep
@@ -144,19 +106,6 @@ received_at-pushed took a b c taker now piece items config pushes still same ori
       (held-then a b piece bits config pushes few stood) (still count at h);
 }
 
-pub part_at-pushed : {T : Type 0} (took broke : T → ItemValue → T → Type 0) (a b c : BitReceiving) (taker now : T)
-    (piece : List Bool) (tried : List ItemValue)
-    → b.batch.config ≡ a.batch.config → Pushes a b piece
-    → ((count : ℕ) (at : ℕ → ℕ) → HasSymbols a count at → HasSymbols b count at) → c.batch.config ≡ b.batch.config
-    → SettlesPart b tried → SettlesSymbolsPart b tried → HandedPart took broke taker tried now
-    → ReceivedPartAt took broke a c taker now piece
-unfolding part-pushed
-part_at-pushed took broke a b c taker now piece tried config pushes still same settles says handed = record {
-  part = part-pushed took broke a b c taker now piece tried config pushes same settles handed;
-  symbols = λ bits count at few le stood h. says bits piece count at few le
-      (held-then a b piece bits config pushes few stood) (still count at h);
-}
-
 -- fewer bits
 first-few : (bits piece more : List Bool) (n : ℕ) → length (bits ++ (piece ++ more)) ≤ n → length (bits ++ piece) ≤ n
 first-few bits piece more n most =
@@ -180,23 +129,6 @@ say-then a b c bits more items others stands p q = λ given count at few le stoo
     (stands given short stood) first.0 in
     (second.0, symbols-then at count items others first.1 second.1)
 
-pub say-first-then : (a b : BitReceiving) (bits more : List Bool) (items tried : List ItemValue)
-    → GoesOn (BitReceiverStandsFor a) (BitReceiverStandsFor b) bits
-    → SaySymbols a b bits items → SayFirstSymbols b more tried → SayFirstSymbols a (bits ++ more) (items ++ tried)
-say-first-then a b bits more items tried stands p q = λ given count at few le stood h.
-    let short : length (given ++ bits) < 2 ^ 63 = omega (
-      arith,
-      few,
-      first-few given bits more
-          (length (given ++ (bits ++ more))) (omega arith),
-    ) in
-    let all : length ((given ++ bits) ++ more) ≡ length (given ++ (bits ++ more)) =
-    ap length (append_assoc given bits more) in
-    let first = p given count at short (first-few given bits more count le) stood h in
-    let second = q (given ++ bits) count at (omega (arith, all, few)) (omega (arith, all, le))
-    (stands given short stood) first.0 in
-    symbols-then at count items tried first.1 second
-
 pub received_at-then : {T : Type 0} (took : T → ItemValue → T → Type 0) (a b c : BitReceiving) (taker middle now : T)
     (bits more : List Bool)
     → ReceivedAt took a b taker middle bits → ReceivedAt took b c middle now more
@@ -206,16 +138,6 @@ received_at-then took a b c taker middle now bits more p q = record {
   received = received-then took a b c taker middle now bits more p.received q.received;
   origins = q.origins ∙ p.origins;
   symbols = say-then a b c bits more p.received.items q.received.items p.received.stands p.symbols q.symbols;
-}
-
-pub part_at-then : {T : Type 0} (took broke : T → ItemValue → T → Type 0) (a b c : BitReceiving)
-    (taker middle now : T) (bits more : List Bool)
-    → ReceivedAt took a b taker middle bits → ReceivedPartAt took broke b c middle now more
-    → ReceivedPartAt took broke a c taker now (bits ++ more)
-unfolding part-then
-part_at-then took broke a b c taker middle now bits more p q = record {
-  part = part-then took broke a b c taker middle now bits more p.received q.part;
-  symbols = say-first-then a b bits more p.received.items q.part.tried p.received.stands p.symbols q.symbols;
 }
 
 -- an origin was noted before
@@ -231,35 +153,3 @@ received-noted took a b c taker now bits notes p =
       due = λ given few stood. subst (λ (k : Configuration). AreFurther k given bits p.items) same
           (p.due given few (stands-noted a b given notes stood));
     }
-
-unfoldable pub part-noted : {T : Type 0} (took broke : T → ItemValue → T → Type 0) (a b c : BitReceiving)
-    (taker now : T) (bits : List Bool) → Notes a b → ReceivedPart took broke b c taker now bits
-    → ReceivedPart took broke a c taker now bits
-part-noted took broke a b c taker now bits notes p =
-    let same : b.batch.config ≡ a.batch.config = ap (λ (v : BitReceiving). v.batch.config) notes in
-    record {
-      config = p.config ∙ same;
-      tried = p.tried;
-      handed = p.handed;
-      first = λ given few stood. subst (λ (k : Configuration). AreFirstFurther k given bits p.tried) same
-          (p.first given few (stands-noted a b given notes stood));
-    }
-
-pub say-first-all : (a : BitReceiving) (bits more : List Bool) (tried : List ItemValue) → SayFirstSymbols a bits tried
-    → SayFirstSymbols a (bits ++ more) tried
-say-first-all a bits more tried says = λ given count at few le stood h.
-    says given count at (omega (
-      arith,
-      few,
-      first-few given bits more
-          (length (given ++ (bits ++ more))) (omega arith),
-    )) (first-few given bits more count le) stood h
-
-pub part_at-all : {T : Type 0} (took broke : T → ItemValue → T → Type 0) (a b : BitReceiving) (taker now : T)
-    (bits more : List Bool)
-    → ReceivedPartAt took broke a b taker now bits → ReceivedPartAt took broke a b taker now (bits ++ more)
-unfolding part-all
-part_at-all took broke a b taker now bits more p = record {
-  part = part-all took broke a b taker now bits more p.part;
-  symbols = say-first-all a bits more p.part.tried p.symbols;
-}

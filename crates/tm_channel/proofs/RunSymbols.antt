@@ -13,7 +13,7 @@ use Rattle.tm_inner.specs.SymbolPlaces.{symbol_at}
 use Rattle.tm_inner.proofs.SymbolPlaces.{symbol-stays}
 use Rattle.tm_channel.specs.Items.{ItemValue}
 use Rattle.tm_channel.specs.Origins.{AreAt, AreSpaced, Noted, origin_at, place_symbol, symbol_by}
-use Rattle.tm_channel.specs.OctetReceiving.{AreKnown, BitReceiverStandsFor, BitReceiving, HasSymbols, Notes, NotesOrigin, SayFirstSymbols, SaySymbols, SymbolsFor, bits_of_blocks}
+use Rattle.tm_channel.specs.OctetReceiving.{AreKnown, BitReceiverStandsFor, BitReceiving, HasSymbols, Notes, NotesOrigin, SaySymbols, SymbolsFor, bits_of_blocks}
 use Rattle.tm_channel.proofs.KeptSymbols.{stands-noted}
 use Rattle.tm_channel.proofs.SymbolPlaces.{at-coded, at-plain, dropped-after, dropped-first, dropped-most, dropped-of_append}
 use Rattle.tm_channel.proofs.ReceivedPieces.{all_bits-append}
@@ -177,24 +177,6 @@ run-on c rate phase origin done ready r m now items same config origins run says
     } in
     subst (λ (v : Configuration). SymbolsFor v phase (done ++ ready) count now
     × AreAt (symbol_at v phase (done ++ ready)) count (map place_symbol items)) same (all, it.items_at)
-
--- the taker failed at one of the items
-pub run-part : (c : Configuration) (rate : Rate) (phase origin : ℕ) (done ready : List WindowBlock)
-    (r m : BitReceiving) (tried : List ItemValue) → r.batch.config ≡ c
-    → RunOf rate phase origin done ready r m → SayFirstSymbols m (bits_of_blocks ready) tried
-    → BitReceiverStandsFor r (bits_of_blocks done) → SymbolsFor c phase done (length (bits_of_blocks done)) r
-    → AreAt (symbol_at c phase (done ++ ready)) (length (bits_of_blocks (done ++ ready))) (map place_symbol tried)
-run-part c rate phase origin done ready r m tried same run says stood known =
-    let k = r.batch.config in
-    let count = length (bits_of_blocks (done ++ ready)) in
-    let here = subst (λ (v : Configuration). SymbolsFor v phase done (length (bits_of_blocks done)) r) (sym same) known in
-    let at = symbol_at k phase (done ++ ready) in
-    let has = subst (λ (v : BitReceiving). HasSymbols v count at) (sym run.notes)
-    (run-noted rate phase origin done ready r m run stood here).0 in
-    let size : length (bits_of_blocks done ++ bits_of_blocks ready) ≡ count = sym (ap length (all_bits-append done ready)) in
-    subst (λ (v : Configuration). AreAt (symbol_at v phase (done ++ ready)) count (map place_symbol tried)) same
-    (says (bits_of_blocks done) count at (omega (arith, size, run.few)) (omega (arith, size))
-    (stands-noted r m (bits_of_blocks done) run.notes stood) has)
 
 -- ---- the phase
 

@@ -1,15 +1,15 @@
 -- Codeblocks that are whole with the last bits, one after another.
-use Rattle.std.proofs.Common.{◌≡◌, ℕ, ◌^◌, ◌<◌, ◌≤◌, Bool, List, [], ◌++◌, length, take, drop, sym, ap, ◌∙◌, subst, arith, length-append}
+use Rattle.std.proofs.Common.{◌≡◌, ℕ, ◌^◌, ◌<◌, ◌≤◌, Bool, List, [], ◌++◌, length, drop, sym, ap, ◌∙◌, subst, arith, length-append}
 use Rattle.tm_config.specs.Configuration.{Configuration}
 use Rattle.tm_sync.specs.declared.found.Found.{Found}
 use Rattle.tm_sync.specs.Finding.{Finding, Recent}
 use Rattle.tm_codeblock.specs.ReceivedCodeblock.{places_in}
-use Rattle.tm_channel.specs.Items.{ItemValue, AreItemsOf, AreFirstItemsOf}
+use Rattle.tm_channel.specs.Items.{ItemValue, AreItemsOf}
 use Rattle.tm_channel.specs.Due.{in_batches, due_count_of, due_of, due_count, due}
-use Rattle.tm_channel.specs.Receiving.{AreFirstFurther, AreFurther, AreItemsFor, Holding, HoldsFound, HoldsMore, IsHanded}
+use Rattle.tm_channel.specs.Receiving.{AreFurther, Holding, HoldsFound, HoldsMore, IsHanded}
 use Rattle.tm_channel.specs.OctetReceiving.{BitReceiving, BitReceiverStandsFor}
 use Rattle.tm_channel.proofs.Batches.{batches-more}
-use Rattle.tm_channel.proofs.Streaming.{after-due, batch-broke, batch-items, batch-stands, due-none}
+use Rattle.tm_channel.proofs.Streaming.{after-due, batch-items, batch-stands, due-none}
 
 -- Of `all` bits, which follow others for which a receiver stood, these places were found by now, and these items were
 -- handed over.
@@ -86,24 +86,6 @@ settling-handed a b m n next others config_b config_m finder recent config_n kee
           batch-items c m.finder m.recent.bits m.batch.stored n.batch.stored s.found next all (due_count c bits) items
           others held is s.least s.are_items;
     }
-
--- or the taker fails at an item of it
-pub settling-broke : (a b m : BitReceiving) (next : List Found) (number : ℕ) (others : List ItemValue)
-    → b.batch.config ≡ a.batch.config → m.batch.config ≡ b.batch.config
-    → KeepsPlaces b m next → length m.batch.stored ≡ m.batch.config.batch
-    → AreItemsFor m.batch.config (take number m.batch.stored) others
-    → (bits more : List Bool) (items : List ItemValue) → length (bits ++ more) < 2 ^ 63
-    → Settling a b bits (bits ++ more) items
-    → AreFirstFurther a.batch.config bits more (items ++ others)
-settling-broke a b m next number others config_b config_m keeps many are bits more items few s =
-    let c = a.batch.config in
-    let config : m.batch.config ≡ c = config_m ∙ config_b in
-    let held = held-next a b m next bits (bits ++ more) items config keeps few s in
-    subst (λ (fs : List Found). AreFirstItemsOf c (bits ++ more) fs (items ++ others))
-    (sym (after-due c bits (due c (bits ++ more))))
-    (batch-broke c m.finder m.recent.bits m.batch.stored s.found next (bits ++ more) (due_count c bits) number items
-    others held (many ∙ ap (λ (k : Configuration). k.batch) config)
-    (subst (λ (k : Configuration). AreItemsFor k (take number m.batch.stored) others) config are) s.least s.are_items)
 
 -- all places were found
 pub settling-all : (a b n : BitReceiving) → b.batch.config ≡ a.batch.config → n.batch.config ≡ b.batch.config

@@ -1,5 +1,5 @@
 -- The symbols of what both stages of a receiver hand over.
-use Rattle.std.proofs.Common.{◌≡◌, ◌<◌, ◌+◌, ◌-◌, ◌^◌, ◌==◌, ◌⊎◌, inl, inr, ℕ, Bool, true, false, if◌then◌else◌, List, [], ◌++◌, length, map, drop, refl, sym, ap, ◌∙◌, subst, arith, length-append, length-drop, Option, Some, None}
+use Rattle.std.proofs.Common.{◌≡◌, ◌<◌, ◌+◌, ◌^◌, ◌==◌, ◌⊎◌, inl, inr, ℕ, Bool, true, false, if◌then◌else◌, List, [], ◌++◌, length, map, drop, refl, sym, ap, ◌∙◌, subst, arith, length-append, length-drop, Option, Some, None}
 use Rattle.std.specs.Option.{is_some}
 use Rattle.std.proofs.lemmas.List.{length-map}
 use Rattle.tm_base.specs.Handed.{Handed, items_of}
@@ -18,7 +18,7 @@ use Rattle.tm_inner.proofs.PlainBits.{plain-few}
 use Rattle.tm_inner.proofs.SymbolPlaces.{symbol-stays}
 use Rattle.tm_channel.specs.Items.{ItemValue}
 use Rattle.tm_channel.specs.Origins.{AreAt, place_symbol}
-use Rattle.tm_channel.specs.OctetReceiving.{AreKnown, BitReceiverStandsFor, DecodesFirstSymbols, DecodesSymbols, HasSymbols, SayFirstSymbols, SaySymbols, Stages, SymbolsFor, bits_of_blocks}
+use Rattle.tm_channel.specs.OctetReceiving.{AreKnown, BitReceiverStandsFor, DecodesSymbols, HasSymbols, SaySymbols, Stages, SymbolsFor, bits_of_blocks}
 use Rattle.tm_channel.proofs.FirstStage.{Fills, Stays, phase-stays}
 use Rattle.tm_channel.proofs.FurtherBits.{phased-items}
 use Rattle.tm_channel.proofs.RunSymbols.{no-rate, some-rate, symbols-plain}
@@ -80,16 +80,6 @@ StageSymbols s now octets blocks piece items = (given : List ℕ) (done : List W
     × AreAt (symbol_at s.inner.config (skip_of now.inner.chosen) (done ++ blocks))
     (length (inner_bits s.inner.config (given ++ octets) (done ++ blocks))) (map place_symbol items)
 
-abbrev pub StageFirstSymbols : Stages → InnerDecoding → List ℕ → List WindowBlock → List Bool → List ItemValue → Type 0
-StageFirstSymbols s now octets blocks piece tried = (given : List ℕ) (done : List WindowBlock)
-    → InnerDecoderStandsFor s.inner given done → s.inner.has_ended ≡ false
-    → length given + length octets < 2 ^ 60 → BitReceiverStandsFor s.bits (inner_bits s.inner.config given done)
-    → length (inner_bits s.inner.config given done ++ piece) < 2 ^ 63
-    → inner_bits s.inner.config (given ++ octets) (done ++ blocks) ≡ inner_bits s.inner.config given done ++ piece
-    → SymbolsFor s.inner.config (skip_of s.inner.chosen) done (length (inner_bits s.inner.config given done)) s.bits
-    → AreAt (symbol_at s.inner.config (skip_of now.chosen) (done ++ blocks))
-    (length (inner_bits s.inner.config (given ++ octets) (done ++ blocks))) (map place_symbol tried)
-
 -- with an inner code
 pub stage-coded : (s : Stages) (filled : InnerDecoding) (now : Stages) (octets : List ℕ) (blocks : List WindowBlock)
     (items : List ItemValue) → is_some s.inner.config.inner ≡ true → s.bits.batch.config ≡ s.inner.config
@@ -116,31 +106,6 @@ stage-coded s filled now octets blocks items coded of fills decodes =
     subst (λ (l : List Bool). SymbolsFor c (skip_of now.inner.chosen) (done ++ blocks) (length l) now.bits
     × AreAt (symbol_at c (skip_of now.inner.chosen) (done ++ blocks)) (length l) (map place_symbol items)) (sym after)
     back
-
-pub stage-coded_first : (s : Stages) (filled : InnerDecoding) (now : Stages) (octets : List ℕ)
-    (blocks : List WindowBlock) (tried : List ItemValue) → is_some s.inner.config.inner ≡ true
-    → s.bits.batch.config ≡ s.inner.config → Fills s.inner filled octets
-    → DecodesFirstSymbols (record { inner = filled; bits = s.bits }) now blocks tried
-    → StageFirstSymbols s now.inner octets blocks (bits_of_blocks blocks) tried
-stage-coded_first s filled now octets blocks tried coded of fills decodes =
-    λ given done stands going few stood short is known.
-    let c = s.inner.config in
-    let all = given ++ octets in
-    let same = fills.on.config in
-    let before = coded-bits c given done coded in
-    let after = coded-bits c all (done ++ blocks) coded in
-    let known_now = subst (λ (k : Configuration). SymbolsFor k (skip_of filled.chosen) done (length (bits_of_blocks done))
-    s.bits) (sym same)
-    (subst (λ (o : Option Chosen). SymbolsFor c (skip_of o) done (length (bits_of_blocks done)) s.bits)
-    (sym (fills.coded coded))
-    (subst (λ (l : List Bool). SymbolsFor c (skip_of s.inner.chosen) done (length l) s.bits) before known)) in
-    let it = decodes all done (fills.stands given done going few stands)
-    (ap (λ (k : Configuration). is_some k.inner) same ∙ coded) (of ∙ sym same)
-    (subst (BitReceiverStandsFor s.bits) before stood) known_now in
-    subst (λ (l : List Bool). AreAt (symbol_at c (skip_of now.inner.chosen) (done ++ blocks)) (length l)
-    (map place_symbol tried)) (sym after)
-    (subst (λ (k : Configuration). AreAt (symbol_at k (skip_of now.inner.chosen) (done ++ blocks))
-    (length (bits_of_blocks (done ++ blocks))) (map place_symbol tried)) same it)
 
 -- with none
 plain-fit : (c : Configuration) (given : List ℕ) (blocks : List WindowBlock) → c.inner ≡ None → length given < 2 ^ 60
@@ -191,18 +156,6 @@ stage-plain s now octets blocks piece items plain of says = λ given done stands
       it.1,
     )
 
-pub stage-plain_first : (s : Stages) (now : InnerDecoding) (octets : List ℕ) (blocks : List WindowBlock)
-    (piece : List Bool) (tried : List ItemValue) → is_some s.inner.config.inner ≡ false
-    → s.bits.batch.config ≡ s.inner.config → SayFirstSymbols s.bits piece tried
-    → StageFirstSymbols s now octets blocks piece tried
-stage-plain_first s now octets blocks piece tried plain of says = λ given done stands going few stood short is known.
-    let c = s.inner.config in
-    let none = no-rate c.inner plain in
-    says (inner_bits c given done) (length (inner_bits c (given ++ octets) (done ++ blocks)))
-    (symbol_at c (skip_of now.chosen) (done ++ blocks)) short (omega (arith, ap length is)) stood
-    (plain-has s now.chosen (given ++ octets) blocks piece given done none of
-    (omega (arith, few, length-append given octets)) is known)
-
 -- ---- of what was read
 
 pub stands-items : (d : InnerDecoding) (given : List ℕ) (handed : List (Handed WindowBlock)) → HasRead d given handed
@@ -230,25 +183,6 @@ stage-said s now octets blocks piece items says given handed read all are going 
     subst (λ (l : List WindowBlock). SymbolsFor c (skip_of now.inner.chosen) l
     (length (inner_bits c (given ++ octets) l)) now.bits × AreAt (symbol_at c (skip_of now.inner.chosen) l)
     (length (inner_bits c (given ++ octets) l)) (map place_symbol items)) (sym are)
-    (says given (items_of handed) (stands-items s.inner given handed read) going few stood short
-    (ap (inner_bits c (given ++ octets)) (sym are) ∙ is) known)
-
-pub stage-first-said : (s : Stages) (now : InnerDecoding) (octets : List ℕ) (blocks : List WindowBlock)
-    (piece : List Bool) (tried : List ItemValue) → StageFirstSymbols s now octets blocks piece tried
-    → (given : List ℕ) (handed : List (Handed WindowBlock)) → HasRead s.inner given handed
-    → (all : List (Handed WindowBlock)) → items_of all ≡ items_of handed ++ blocks → s.inner.has_ended ≡ false
-    → length given + length octets < 2 ^ 60
-    → BitReceiverStandsFor s.bits (inner_bits s.inner.config given (items_of handed))
-    → length (inner_bits s.inner.config given (items_of handed) ++ piece) < 2 ^ 63
-    → inner_bits s.inner.config (given ++ octets) (items_of all) ≡ inner_bits s.inner.config given (items_of handed) ++ piece
-    → SymbolsFor s.inner.config (skip_of s.inner.chosen) (items_of handed)
-    (length (inner_bits s.inner.config given (items_of handed))) s.bits
-    → AreAt (symbol_at s.inner.config (skip_of now.chosen) (items_of all))
-    (length (inner_bits s.inner.config (given ++ octets) (items_of all))) (map place_symbol tried)
-stage-first-said s now octets blocks piece tried says given handed read all are going few stood short is known =
-    let c = s.inner.config in
-    subst (λ (l : List WindowBlock). AreAt (symbol_at c (skip_of now.chosen) l)
-    (length (inner_bits c (given ++ octets) l)) (map place_symbol tried)) (sym are)
     (says given (items_of handed) (stands-items s.inner given handed read) going few stood short
     (ap (inner_bits c (given ++ octets)) (sym are) ∙ is) known)
 

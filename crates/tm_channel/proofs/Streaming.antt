@@ -58,14 +58,6 @@ found-parts : (c : Configuration) (s : Finding) (recent : List Bool) (stored : L
     → places_in c bits ≡ found ++ places_left s (sound_in c (bits ++ [])) (recent ++ [])
 found-parts c s recent stored handed bits found h = ap (places_in c) (sym (append-nil bits)) ∙ h.places []
 
-pub found-first : (c : Configuration) (s : Finding) (recent : List Bool) (stored : List StoredCodeblock) (handed : ℕ)
-    (bits : List Bool) (found : List Found) → Holding c s recent stored handed bits found
-    → take (length found) (places_in c bits) ≡ found
-found-first c s recent stored handed bits found h =
-    ap (take (length found)) (found-parts c s recent stored handed bits found h)
-    ∙ take-append-le (length found) found (places_left s (sound_in c (bits ++ [])) (recent ++ [])) (omega arith)
-    ∙ take-length found
-
 -- their codeblocks are whole
 all-first : (P : Found → Type 0) (xs ys : List Found) → AllByRecursion P (xs ++ ys) → AllByRecursion P xs
 all-first P [] ys all = tt
@@ -89,11 +81,6 @@ first-of c bits (suc count) [] (item ∷ items) are = absurd are
 first-of c bits (suc count) (f ∷ fs) (item ∷ items) are = (are.0, first-of c bits count fs items are.1)
 
 -- ---- items of a prefix of the places
-pub first-longer : (c : Configuration) (bits : List Bool) (fs gs : List Found) (items : List ItemValue)
-    → AreFirstItemsOf c bits fs items → AreFirstItemsOf c bits (fs ++ gs) items
-first-longer c bits fs gs [] are = tt
-first-longer c bits [] gs (item ∷ items) are = absurd are
-first-longer c bits (f ∷ fs) gs (item ∷ items) are = (are.0, first-longer c bits fs gs items are.1)
 
 pub items-append : (c : Configuration) (bits : List Bool) (fs gs : List Found) (items others : List ItemValue)
     → AreItemsOf c bits fs items → AreItemsOf c bits gs others
@@ -103,15 +90,6 @@ items-append c bits [] gs (item ∷ items) others are also = absurd are
 items-append c bits (f ∷ fs) gs [] others are also = absurd are
 items-append c bits (f ∷ fs) gs (item ∷ items) others are also =
     (are.0, items-append c bits fs gs items others are.1 also)
-
-pub first-append : (c : Configuration) (bits : List Bool) (fs gs : List Found) (items others : List ItemValue)
-    → AreItemsOf c bits fs items → AreFirstItemsOf c bits gs others
-    → AreFirstItemsOf c bits (fs ++ gs) (items ++ others)
-first-append c bits [] gs [] others are also = also
-first-append c bits [] gs (item ∷ items) others are also = absurd are
-first-append c bits (f ∷ fs) gs [] others are also = absurd are
-first-append c bits (f ∷ fs) gs (item ∷ items) others are also =
-    (are.0, first-append c bits fs gs items others are.1 also)
 
 -- ---- a batch that is full, or not
 
@@ -205,49 +183,6 @@ take-take (suc a) zero xs le = absurd (omega arith)
 take-take (suc a) (suc c) [] le = refl
 take-take (suc a) (suc c) (x ∷ xs) le = ap (λ l. x ∷ l) (take-take a c xs (omega arith))
 
--- places reported that are whole batches are first ones of all that are due
-due-first : (c : Configuration) (bits : List Bool) (reported : List Found)
-    → take (length reported) (places_in c bits) ≡ reported → due_count_of c reported ≡ length reported
-    → due c bits ≡ reported ++ drop (length reported) (due c bits)
-due-first c bits reported first whole =
-    let all : List Found = places_in c bits in
-    let rest : List Found = drop (length reported) all in
-    let parts : all ≡ reported ++ rest = sym (take-append-drop (length reported) all) ∙ ap (λ l. l ++ rest) first in
-    let size : length all ≡ length reported + length rest = ap length parts ∙ length-append reported rest in
-    let more : due_count_of c reported ≤ due_count c bits =
-    subst (λ n. due_count_of c reported ≤ in_batches c.batch n) (sym size)
-    (batches-more c.batch (length reported) (length rest)) in
-    let prefix : take (length reported) (due c bits) ≡ reported =
-    take-take (length reported) (due_count c bits) all (omega (arith, whole, more)) ∙ first in
-    sym (take-append-drop (length reported) (due c bits)) ∙ ap (λ l. l ++ drop (length reported) (due c bits)) prefix
-
--- the taker failed at an item of a full batch
-pub batch-broke : (c : Configuration) (s : Finding) (recent : List Bool)
-    (stored : List StoredCodeblock)
-    (reported fs : List Found) (bits : List Bool) (count number : ℕ) (items others : List ItemValue)
-    → Holding c s recent stored (due_count_of c reported) bits (reported ++ fs) → length stored ≡ c.batch
-    → AreItemsFor c (take number stored) others
-    → count ≤ due_count_of c reported → AreItemsOf c bits (drop count (due_of c reported)) items
-    → AreFirstItemsOf c bits (drop count (due c bits)) (items ++ others)
-batch-broke c s recent stored reported fs bits count number items others h many are least were =
-    let now : List Found = reported ++ fs in
-    let wait = waiting-count c s recent stored (due_count_of c reported) bits now h in
-    let whole = full c.batch (length reported) (length now) h.within (sym wait ∙ many) in
-    let waiting : List Found = drop (due_count_of c reported) now in
-    let within = h.within in
-    let rest : List Found = drop (length now) (due c bits) in
-    let split : drop count (due c bits) ≡ (drop count (due_of c reported) ++ waiting) ++ rest =
-    ap (drop count) (due-first c bits now (found-first c s recent stored (due_count_of c reported) bits now h) whole)
-    ∙ drop-append-le count now rest (omega (arith, least, within))
-    ∙ ap (λ l. l ++ rest) (due-split c reported fs count least) in
-    let last : AreFirstItemsOf c bits waiting others =
-    first-of c bits number waiting others (items-of c bits (take number waiting) others
-    (subst (λ (ks : List StoredCodeblock). AreItemsFor c ks others)
-    (ap (take number) h.waiting ∙ take-map' (stored_at c bits) number waiting) are)) in
-    subst (λ (fs : List Found). AreFirstItemsOf c bits fs (items ++ others)) (sym split)
-    (first-longer c bits (drop count (due_of c reported) ++ waiting) rest (items ++ others)
-    (first-append c bits (drop count (due_of c reported)) waiting items others were last))
-
 -- ---- items stay as the bits go on
 item-more : (c : Configuration) (bits more : List Bool) (f : Found) (item : ItemValue)
     → f.place + 32 + (rules_of c).block_bits ≤ length bits
@@ -262,14 +197,6 @@ items-more c bits more [] (item ∷ items) ends are = absurd are
 items-more c bits more (f ∷ fs) [] ends are = absurd are
 items-more c bits more (f ∷ fs) (item ∷ items) ends are =
     (item-more c bits more f item ends.0 are.0, items-more c bits more fs items ends.1 are.1)
-
-pub first-more : (c : Configuration) (bits more : List Bool) (fs : List Found) (items : List ItemValue)
-    → EndBefore (rules_of c) (length bits) fs → AreFirstItemsOf c bits fs items
-    → AreFirstItemsOf c (bits ++ more) fs items
-first-more c bits more fs [] ends are = tt
-first-more c bits more [] (item ∷ items) ends are = absurd are
-first-more c bits more (f ∷ fs) (item ∷ items) ends are =
-    (item-more c bits more f item ends.0 are.0, first-more c bits more fs items ends.1 are.1)
 
 -- ---- what is due goes on
 take-all : {A : Type 0} (P : A → Type 0) (count : ℕ) (xs : List A) → AllByRecursion P xs
@@ -328,30 +255,6 @@ items-then c bits more rest items others are also =
     (items-append c ((bits ++ more) ++ rest) first second items others
     (items-more c (bits ++ more) rest first items (due-end c (bits ++ more) (length (due c bits))) are) also)
 
-pub first-then : (c : Configuration) (bits more rest : List Bool) (items others : List ItemValue)
-    → AreItemsOf c (bits ++ more) (beyond (due c bits) (due c (bits ++ more))) items
-    → AreFirstItemsOf c ((bits ++ more) ++ rest) (beyond (due c (bits ++ more)) (due c ((bits ++ more) ++ rest))) others
-    → AreFirstItemsOf c ((bits ++ more) ++ rest) (beyond (due c bits) (due c ((bits ++ more) ++ rest)))
-    (items ++ others)
-first-then c bits more rest items others are also =
-    let first : List Found = beyond (due c bits) (due c (bits ++ more)) in
-    let second : List Found = beyond (due c (bits ++ more)) (due c ((bits ++ more) ++ rest)) in
-    subst (λ (fs : List Found). AreFirstItemsOf c ((bits ++ more) ++ rest) fs (items ++ others))
-    (sym (due-twice c bits more rest))
-    (first-append c ((bits ++ more) ++ rest) first second items others
-    (items-more c (bits ++ more) rest first items (due-end c (bits ++ more) (length (due c bits))) are) also)
-
--- what was due of a prefix is first of what is due of all
-pub first-of-all : (c : Configuration) (bits more rest : List Bool) (items : List ItemValue)
-    → AreFirstItemsOf c (bits ++ more) (beyond (due c bits) (due c (bits ++ more))) items
-    → AreFirstItemsOf c ((bits ++ more) ++ rest) (beyond (due c bits) (due c ((bits ++ more) ++ rest))) items
-first-of-all c bits more rest items are =
-    let first : List Found = beyond (due c bits) (due c (bits ++ more)) in
-    let second : List Found = beyond (due c (bits ++ more)) (due c ((bits ++ more) ++ rest)) in
-    subst (λ (fs : List Found). AreFirstItemsOf c ((bits ++ more) ++ rest) fs items) (sym (due-twice c bits more rest))
-    (first-longer c ((bits ++ more) ++ rest) first second items
-    (first-more c (bits ++ more) rest first items (due-end c (bits ++ more) (length (due c bits))) are))
-
 -- ---- the end
 pub items-last : (c : Configuration) (s : Finding) (recent : List Bool)
     (stored : List StoredCodeblock) (bits : List Bool) (items : List ItemValue)
@@ -361,18 +264,6 @@ items-last c s recent stored bits items h are =
     let waiting : List Found = drop (due_count c bits) (places_in c bits) in
     subst (λ (fs : List Found). AreItemsOf c bits fs items) (sym (after-due c bits (places_in c bits)))
     (items-of c bits waiting items (subst (λ (ks : List StoredCodeblock). AreItemsFor c ks items) h.waiting are))
-
-pub first-last : (c : Configuration) (s : Finding) (recent : List Bool)
-    (stored : List StoredCodeblock) (bits : List Bool) (count : ℕ) (items : List ItemValue)
-    → Holding c s recent stored (due_count c bits) bits (places_in c bits)
-    → AreItemsFor c (take count stored) items
-    → AreFirstItemsOf c bits (beyond (due c bits) (places_in c bits)) items
-first-last c s recent stored bits count items h are =
-    let waiting : List Found = drop (due_count c bits) (places_in c bits) in
-    subst (λ (fs : List Found). AreFirstItemsOf c bits fs items) (sym (after-due c bits (places_in c bits)))
-    (first-of c bits count waiting items (items-of c bits (take count waiting) items
-    (subst (λ (ks : List StoredCodeblock). AreItemsFor c ks items)
-    (ap (take count) h.waiting ∙ take-map' (stored_at c bits) count waiting) are)))
 
 -- no bits
 pub stands-new : (c : Configuration) (s : Finding) (recent : List Bool) (stored : List StoredCodeblock)

@@ -102,11 +102,6 @@ whole-by stand (Some rate) c phase octets first blocks left is are all n below =
     ∙ symbol-stays c phase n first split.0
     (omega (arith, below, bits-kept first, length-map (kept_bits first) (λ bit. bit == 1))))
 
-pub symbols-whole : StandFirst → (c : Configuration) (phase : ℕ) (octets : List ℕ) (first blocks : List WindowBlock)
-    (left : ℕ) → AreInnerFirst c phase octets first → AreInnerBlocks c phase octets blocks left
-    → (n : ℕ) → n < length (inner_bits c octets first) → symbol_at c phase first n ≡ symbol_at c phase blocks n
-symbols-whole stand c phase octets first blocks left = whole-by stand c.inner c phase octets first blocks left refl
-
 -- they stay, whatever octets come
 first-by : StayClosed → StandFirst → (rate : Option Rate) (c : Configuration) (phase : ℕ)
     (octets more : List ℕ) (first blocks : List WindowBlock) (left : ℕ) → c.inner ≡ rate

@@ -1,5 +1,5 @@
 -- The symbols that items say.
-use Rattle.std.proofs.Common.{◌≡◌, ◌<◌, ◌≤◌, ◌+◌, ◌*◌, ℕ, zero, suc, Bool, List, [], ◌∷◌, ◌++◌, take, map, refl, sym, ap, ◌∙◌, arith}
+use Rattle.std.proofs.Common.{◌≡◌, ◌<◌, ◌≤◌, ◌+◌, ◌*◌, ℕ, Bool, List, [], ◌∷◌, ◌++◌, map, refl, sym, ap, ◌∙◌, arith}
 use Rattle.std.specs.List.{AllByRecursion}
 use Rattle.tm_config.specs.Configuration.{Configuration, codeblock_length}
 use Rattle.tm_sync.specs.declared.found.Found.{Found}
@@ -14,11 +14,6 @@ pub at-append : (at : ℕ → ℕ) (count : ℕ) (xs ys : List PlaceSymbol) → 
     → AreAt at count (xs ++ ys)
 at-append at count [] ys are also = also
 at-append at count (x ∷ xs) ys are also = (are.0, at-append at count xs ys are.1 also)
-
-pub at-take : (at : ℕ → ℕ) (count k : ℕ) (xs : List PlaceSymbol) → AreAt at count xs → AreAt at count (take k xs)
-at-take at count zero xs are = tt
-at-take at count (suc k) [] are = tt
-at-take at count (suc k) (x ∷ xs) are = (are.0, at-take at count k xs are.1)
 
 -- by symbols that are the same up to there, among more bits
 pub at-longer : (at then : ℕ → ℕ) (count more : ℕ) (xs : List PlaceSymbol) → count ≤ more

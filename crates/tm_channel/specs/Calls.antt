@@ -1,41 +1,12 @@
--- What the calls of a receiver, and of its second stage, promise.
-use Rattle.std.specs.Prelude.{◌≡◌, ◌↔◌, ℕ, Bool, true, List, Result, IfOk, OnErr, OnOk, IsErrOf, IsTrue}
+-- What the calls of a receiver promise.
+use Rattle.std.specs.Prelude.{◌≡◌, ◌↔◌, ℕ, true, List, Result, IfOk, OnOk, IsErrOf, IsTrue}
 use Rattle.tm_base.specs.Calls.{CallAnswers}
 use Rattle.tm_base.specs.Handed.{Handed}
-use Rattle.tm_base.specs.Outside.{HasCause}
-use Rattle.tm_inner.specs.Receiving.{HandsPrefix}
 use Rattle.tm_channel.specs.declared.totals.Totals.{Totals}
 use Rattle.tm_channel.specs.declared.receiver.RecvError.{RecvError}
 use Rattle.tm_channel.specs.declared.receiver.RecvError.TheVariants.{Stopped, Taker}
 use Rattle.tm_channel.specs.Items.{ItemValue}
-use Rattle.tm_channel.specs.OctetReceiving.{BitReceiving, FeedBreaks, FeedChooses, FeedHands, FinishBreaks, FinishChooses, FinishHands, FirstWith, OctetReceiving, ReceivedAt, ReceivedPartAt, Stages, StagesFor, StagesHand}
-
--- ---- of the second stage
-
--- the items that are due with these bits were handed over, or the first of them until the taker
--- failed
-pub record TakesBits {T R E : Type 0} (took broke : T → ItemValue → T → Type 0) (faults : T → ℕ)
-    (is_last : T → Type 0) (before now : BitReceiving) (taker taker_now : T) (bits : List Bool)
-    (result : Result R E) : Type 0 where
-  pub config : now.batch.config ≡ before.batch.config
-  pub handed : OnOk result (ReceivedAt took before now taker taker_now bits)
-  pub part : OnErr result (ReceivedPartAt took broke before now taker taker_now bits)
-  pub cause : HasCause (faults taker) (faults taker_now) (is_last taker_now) result
-
--- ---- of both stages
-
--- with these octets what is due was handed over, or the first of it until the taker failed
-pub record TakesOctets {T R E : Type 0} (took broke : T → Handed ItemValue → T → Type 0)
-    (faults : T → ℕ) (is_last : T → Type 0) (before now : Stages) (taker taker_now : T)
-    (octets : List ℕ) (result : Result R E) : Type 0 where
-  pub inner : now.inner.config ≡ before.inner.config
-  pub stream : now.bits.batch.config ≡ before.bits.batch.config
-  pub handed : OnOk result (StagesHand took before now taker taker_now octets)
-  pub prefix : OnErr result (HandsPrefix took broke StagesFor
-      (FirstWith before.inner.config now.inner.chosen) before taker taker_now octets)
-  pub cause : HasCause (faults taker) (faults taker_now) (is_last taker_now) result
-
--- ---- of the receiver
+use Rattle.tm_channel.specs.OctetReceiving.{FeedBreaks, FeedChooses, FeedHands, FinishBreaks, FinishChooses, FinishHands, OctetReceiving}
 
 -- it is refused once the receiver has stopped, and fails only where the taker does
 abbrev pub Calls : {T R : Type 0} → (faults : T → ℕ) → (is_last : T → Type 0)

@@ -16,3 +16,4 @@ pub mod Sending
 pub mod Steps
 pub mod Calls
 pub mod Crew
+pub mod UntilFault

@@ -28,7 +28,7 @@ use Rattle.tm_channel.specs.declared.totals.Totals.{Totals}
 use Rattle.tm_channel.specs.Handing.{phase_of, AreReceived, AreReceivedDue, AreReceivedFirst, AreReceivedPrefix}
 use Rattle.tm_channel.specs.Most.{AreFew}
 use Rattle.tm_channel.specs.Origins.{AreAt, AreSpaced, Noted, origin_at, place_symbol, symbol_by}
-use Rattle.tm_channel.specs.Receiving.{Batching, Stands, HoldsFound, HoldsMore, waiting_bits, GoesOn, AreDue, AreFirstDue, AreFurther, AreFirstFurther, AreLast, AreFirstLast}
+use Rattle.tm_channel.specs.Receiving.{Batching, Stands, HoldsFound, HoldsMore, waiting_bits, GoesOn, AreDue, AreFurther, AreLast}
 
 -- what contracts see of a receiver of bits
 pub record BitReceiving : Type 0 where
@@ -119,11 +119,6 @@ pub record StagesHand {T : Type 0} (took : T → Handed ItemValue → T → Type
       → length given + length octets < stream_bound
       → (stood : StagesFor before given done)
       → StagesOn now (given ++ octets) (done ++ more) stood.handed
-
--- the first of what is handed over of these octets, whatever octets come, and the phase that is
--- chosen of them
-abbrev pub FirstWith : Configuration → Option Chosen → List ℕ → List (Handed ItemValue) → Type 0
-FirstWith c chosen octets handed = AreReceivedFirst c octets handed × IsChosenSoFar c octets chosen
 
 -- what contracts see of a receiver
 pub record OctetReceiving : Type 0 where
@@ -230,20 +225,6 @@ SettlesSymbols before now items = (bits more : List Bool) (count : ℕ) (at : �
     → HasSymbols before count at
     → HasSymbols now count at × AreAt at count (map place_symbol items)
 
-abbrev pub SettlesSymbolsPart : BitReceiving → List ItemValue → Type 0
-SettlesSymbolsPart before tried = (bits more : List Bool) (count : ℕ) (at : ℕ → ℕ)
-    → length (bits ++ more) < bits_bound → length (bits ++ more) ≤ count
-    → HoldsMore before.finder before.recent before.batch (due_count before.batch.config bits) bits
-    more
-    → HasSymbols before count at → AreAt at count (map place_symbol tried)
-
--- these are first ones of the items that are due with the last ones
-abbrev pub SettlesPart : BitReceiving → List ItemValue → Type 0
-SettlesPart before tried = (bits more : List Bool) → length (bits ++ more) < bits_bound
-    → HoldsMore before.finder before.recent before.batch (due_count before.batch.config bits) bits
-    more
-    → AreFirstFurther before.batch.config bits more tried
-
 -- ---- bits that are received
 
 -- these bits were received, and the items that are due with them were handed over
@@ -255,15 +236,6 @@ pub record Received {T : Type 0} (took : T → ItemValue → T → Type 0) (befo
   pub handed : HandedOver took taker items taker_now
   pub due : AreDue before.batch.config (BitReceiverStandsFor before) bits items
 
--- first items of those that are due with these bits were handed over, until the taker failed at one
--- of them
-pub record ReceivedPart {T : Type 0} (took broke : T → ItemValue → T → Type 0)
-    (before now : BitReceiving) (taker taker_now : T) (bits : List Bool) : Type 0 where
-  pub config : now.batch.config ≡ before.batch.config
-  pub tried : List ItemValue
-  pub handed : HandedPart took broke taker tried taker_now
-  pub first : AreFirstDue before.batch.config (BitReceiverStandsFor before) bits tried
-
 -- whatever bits were given before: whichever symbols all have, these items say theirs
 abbrev pub SaySymbols : BitReceiving → BitReceiving → List Bool → List ItemValue → Type 0
 SaySymbols before now bits items = (given : List Bool) (count : ℕ) (at : ℕ → ℕ)
@@ -271,23 +243,12 @@ SaySymbols before now bits items = (given : List Bool) (count : ℕ) (at : ℕ �
     → BitReceiverStandsFor before given → HasSymbols before count at
     → HasSymbols now count at × AreAt at count (map place_symbol items)
 
-abbrev pub SayFirstSymbols : BitReceiving → List Bool → List ItemValue → Type 0
-SayFirstSymbols before bits tried = (given : List Bool) (count : ℕ) (at : ℕ → ℕ)
-    → length (given ++ bits) < bits_bound → length (given ++ bits) ≤ count
-    → BitReceiverStandsFor before given → HasSymbols before count at
-    → AreAt at count (map place_symbol tried)
-
 -- bits were received, no origin was noted, and the items say their symbols
 pub record ReceivedAt {T : Type 0} (took : T → ItemValue → T → Type 0) (before now : BitReceiving)
     (taker taker_now : T) (bits : List Bool) : Type 0 where
   pub received : Received took before now taker taker_now bits
   pub origins : now.origins ≡ before.origins
   pub symbols : SaySymbols before now bits received.items
-
-pub record ReceivedPartAt {T : Type 0} (took broke : T → ItemValue → T → Type 0)
-    (before now : BitReceiving) (taker taker_now : T) (bits : List Bool) : Type 0 where
-  pub part : ReceivedPart took broke before now taker taker_now bits
-  pub symbols : SayFirstSymbols before bits part.tried
 
 -- an origin was noted, and nothing else is changed
 abbrev pub Notes : BitReceiving → BitReceiving → Type 0
@@ -314,15 +275,6 @@ pub record ReceivedLast {T : Type 0} (took : T → ItemValue → T → Type 0) (
   pub last : AreLast before.batch.config (BitReceiverStandsFor before) items
   pub symbols : (count : ℕ) (at : ℕ → ℕ) → AreAt at count before.batch.symbols
       → AreAt at count (map place_symbol items)
-
--- first ones of these were handed over, until the taker failed at one of them
-pub record ReceivedLastPart {T : Type 0} (took broke : T → ItemValue → T → Type 0)
-    (before : BitReceiving) (taker taker_now : T) : Type 0 where
-  pub tried : List ItemValue
-  pub handed : HandedPart took broke taker tried taker_now
-  pub first : AreFirstLast before.batch.config (BitReceiverStandsFor before) tried
-  pub symbols : (count : ℕ) (at : ℕ → ℕ) → AreAt at count before.batch.symbols
-      → AreAt at count (map place_symbol tried)
 
 -- ---- octets that are taken
 
@@ -376,16 +328,6 @@ DecodesSymbols before now blocks items = (given : List ℕ) (done : List WindowB
     × AreAt (symbol_at before.inner.config (skip_of now.inner.chosen) (done ++ blocks))
     (length (bits_of_blocks (done ++ blocks))) (map place_symbol items)
 
-abbrev pub DecodesFirstSymbols : Stages → Stages → List WindowBlock → List ItemValue → Type 0
-DecodesFirstSymbols before now blocks tried = (given : List ℕ) (done : List WindowBlock)
-    → InnerDecoderStandsFor before.inner given done → is_some before.inner.config.inner ≡ true
-    → before.bits.batch.config ≡ before.inner.config
-    → BitReceiverStandsFor before.bits (bits_of_blocks done)
-    → SymbolsFor before.inner.config (skip_of before.inner.chosen) done
-    (length (bits_of_blocks done)) before.bits
-    → AreAt (symbol_at before.inner.config (skip_of now.inner.chosen) (done ++ blocks))
-    (length (bits_of_blocks (done ++ blocks))) (map place_symbol tried)
-
 -- the phase that it has read went to the taker, and the bits of the blocks to the search
 pub record Decoded {T : Type 0} (took_phase : T → ℕ → ℕ → T → Type 0)
     (took : T → ItemValue → T → Type 0) (before now : Stages) (taker taker_now : T)
@@ -400,19 +342,3 @@ pub record Decoded {T : Type 0} (took_phase : T → ℕ → ℕ → T → Type 0
   pub symbols : DecodesSymbols before now blocks received.items
   pub plain : before.bits.batch.config.inner ≡ None
       → SaySymbols before.bits now.bits (bits_of_blocks blocks) received.items
-
--- the taker failed at the phase, or at one of the first items that are due with these bits
-pub record DecodedPart {T : Type 0} (took_phase broke_phase : T → ℕ → ℕ → T → Type 0)
-    (took broke : T → ItemValue → T → Type 0) (before now : Stages) (taker taker_now : T)
-    : Type 0 where
-  pub phase : Option Chosen
-  pub blocks : List WindowBlock
-  pub decodes : Decodes before.inner now.inner (with_phase phase [] ++ map Item blocks)
-  pub tried : List ItemValue
-  pub handed : HandedPart (on_handed took_phase took) (on_handed broke_phase broke) taker
-      (with_phase phase [] ++ map Item tried) taker_now
-  pub first : AreFirstDue before.bits.batch.config (BitReceiverStandsFor before.bits)
-      (bits_of_blocks blocks) tried
-  pub symbols : DecodesFirstSymbols before now blocks tried
-  pub plain : before.bits.batch.config.inner ≡ None
-      → SayFirstSymbols before.bits (bits_of_blocks blocks) tried

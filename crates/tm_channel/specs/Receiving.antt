@@ -11,7 +11,7 @@ use Rattle.tm_sync.specs.Rescan.{reach}
 use Rattle.tm_sync.specs.Finding.{Finding, Recent, IsWhole, places_left}
 use Rattle.tm_sync.specs.Bits.{bits_bound}
 use Rattle.tm_codeblock.specs.ReceivedCodeblock.{rules_of, codeblock_in, columns_of, places_in, sound_in}
-use Rattle.tm_channel.specs.Items.{ItemValue, IsItem, AreItemsOf, AreFirstItemsOf}
+use Rattle.tm_channel.specs.Items.{ItemValue, IsItem, AreItemsOf}
 use Rattle.tm_channel.specs.Due.{due_count, due}
 use Rattle.tm_channel.specs.Origins.{PlaceSymbol}
 
@@ -22,33 +22,17 @@ abbrev pub AreFurther : Configuration → List Bool → List Bool → List ItemV
 AreFurther c bits piece items = AreItemsOf c (bits ++ piece)
     (beyond (due c bits) (due c (bits ++ piece))) items
 
--- the same of the first ones
-abbrev pub AreFirstFurther : Configuration → List Bool → List Bool → List ItemValue → Type 0
-AreFirstFurther c bits piece items = AreFirstItemsOf c (bits ++ piece)
-    (beyond (due c bits) (due c (bits ++ piece))) items
-
 -- whatever bits the receiver stood for, these are the items that are due with the piece and were
 -- not due before
 abbrev pub AreDue : Configuration → (List Bool → Type 0) → List Bool → List ItemValue → Type 0
 AreDue c Stood piece items = (bits : List Bool) → length (bits ++ piece) < bits_bound → Stood bits
     → AreFurther c bits piece items
 
--- the same of the first ones
-abbrev pub AreFirstDue : Configuration → (List Bool → Type 0) → List Bool → List ItemValue → Type 0
-AreFirstDue c Stood piece items = (bits : List Bool) → length (bits ++ piece) < bits_bound
-    → Stood bits
-    → AreFirstFurther c bits piece items
-
 -- whatever bits the receiver stood for, these are the items that were not due before the end of the
 -- bits was known
 abbrev pub AreLast : Configuration → (List Bool → Type 0) → List ItemValue → Type 0
 AreLast c Stood items = (bits : List Bool) → Stood bits
     → AreItemsOf c bits (beyond (due c bits) (places_in c bits)) items
-
--- the same of the first ones
-abbrev pub AreFirstLast : Configuration → (List Bool → Type 0) → List ItemValue → Type 0
-AreFirstLast c Stood items = (bits : List Bool) → Stood bits
-    → AreFirstItemsOf c bits (beyond (due c bits) (places_in c bits)) items
 
 -- whatever bits the receiver stood for, it stands for these and the piece
 abbrev pub GoesOn : (List Bool → Type 0) → (List Bool → Type 0) → List Bool → Type 0

@@ -1,42 +1,31 @@
 // Bits in, items out.
-ghost use Rattle.std.specs.Prelude.{◌≡◌, ◌<◌, ◌≤◌, ◌*◌, ℕ, Bool, false, List, [], ◌++◌, length, map, take, drop, OnOk, OnErr, IsTrue};
+ghost use Rattle.std.specs.Prelude.{◌≡◌, ◌<◌, ◌≤◌, ◌*◌, ℕ, Bool, false, List, [], ◌++◌, length, map, drop, IsTrue};
 ghost use Rattle.tm_base.specs.Bits.{bits_of};
-ghost use Rattle.tm_base.specs.Outside.{HasCause};
-ghost use Rattle.tm_base.specs.Takers.{HandedOver, HandedPart};
+ghost use Rattle.tm_base.specs.Takers.{HandedOver};
 ghost use Rattle.tm_sync.specs.declared.found.Found.{Found};
 ghost use Rattle.tm_sync.specs.Bits.{bits_bound};
 ghost use Rattle.tm_codeblock.specs.ReceivedCodeblock.{places_in};
 ghost use Rattle.tm_channel.specs.Items.{ItemValue};
 ghost use Rattle.tm_channel.specs.Origins.{AreHandedSymbols, place_symbol};
 ghost use Rattle.tm_channel.specs.Receiving.{Agree, AreItemsFor, AreWritten, HoldsFound, IsHanded, IsReady, Stands};
-ghost use Rattle.tm_channel.specs.OctetReceiving.{KeepsSymbols, ReceivedAt, ReceivedPartAt, Settles, SettlesPart, SettlesSymbols, SettlesSymbolsPart, receiving};
+ghost use Rattle.tm_channel.specs.OctetReceiving.{KeepsSymbols, ReceivedAt, Settles, SettlesSymbols, receiving};
 
 use crate::crew::ReceiverCrew;
-use crate::item::ItemTaker;
+use crate::item::ItemWatch;
 use crate::origins::Origins;
 use crate::store::Codeblocks;
-use tm_base::Failed;
 use tm_sync::{Finder, RecentBits};
 
 // Hands over the items of the codeblocks that are stored.
-fn hand_over<T: ItemTaker>(batch: &Codeblocks, taker: &mut T) -> Result<(), Failed>
+fn hand_over<T: ItemWatch>(batch: &Codeblocks, taker: &mut T)
     requires { AreItemsFor batch.now.config batch.now.stored batch.now.items }
-    ensures all { OnOk result ((items : List ItemValue) × AreItemsFor batch.now.config batch.now.stored items
-        × HandedOver T.took taker.old items taker.new × (map place_symbol items ≡ batch.now.symbols)) }
-    ensures part { OnErr result ((count : ℕ) × (items : List ItemValue)
-        × AreItemsFor batch.now.config (take count batch.now.stored) items
-        × HandedPart T.took T.broke taker.old items taker.new
-        × (map place_symbol items ≡ take count batch.now.symbols)) }
-    ensures cause { HasCause (T.faults taker.old) (T.faults taker.new) (T.is_last taker.new) result }
+    ensures { (items : List ItemValue) × AreItemsFor batch.now.config batch.now.stored items
+        × HandedOver T.took taker.old items taker.new × (map place_symbol items ≡ batch.now.symbols) }
 {
     for i in 0..batch.count() {
         let item = batch.item(i);
-        match taker.item(&item) {
-            Ok(()) => {}
-            Err(Failed) => return Err(Failed),
-        }
+        taker.item(&item);
     }
-    Ok(())
 }
 
 /// Searches the markers in a stream of bits, and keeps the codeblocks after them until a batch of them is full. The
@@ -52,38 +41,31 @@ pub struct BitReceiver {
 impl BitReceiver {
     /// Takes the bits of octets after the first `from` ones, has each batch that is full with them repaired, and hands
     /// over its items.
-    pub fn receive<C: ReceiverCrew, T: ItemTaker>(
+    pub fn receive<C: ReceiverCrew, T: ItemWatch>(
         &mut self,
         crew: &C,
         origins: &Origins,
         octets: &[u8],
         from: usize,
         taker: &mut T,
-    ) -> Result<(), Failed>
+    )
         requires crew { C.can_decode crew.now }
         requires from { from ≤ 8 * length octets.now }
         requires ready { IsReady self.old.finder self.old.recent self.old.batch }
         ensures ready { IsReady self.new.finder self.new.recent self.new.batch }
         ensures config { self.new.batch.config ≡ self.old.batch.config }
-        ensures handed { OnOk result (ReceivedAt T.took (receiving self.old origins.now)
-            (receiving self.new origins.now) taker.old taker.new (drop from (bits_of octets.now))) }
-        ensures part { OnErr result (ReceivedPartAt T.took T.broke (receiving self.old origins.now)
-            (receiving self.new origins.now) taker.old taker.new (drop from (bits_of octets.now))) }
-        ensures cause { HasCause (T.faults taker.old) (T.faults taker.new) (T.is_last taker.new) result }
+        ensures handed { ReceivedAt T.took (receiving self.old origins.now)
+            (receiving self.new origins.now) taker.old taker.new (drop from (bits_of octets.now)) }
     {
         let mut first = from / 8;
         let mut begun = from % 8;
         while first < octets.len() {
             let end = first + self.recent.free().min(octets.len() - first);
             self.recent.push(&octets[first..end], begun);
-            match self.keep_all(crew, origins, taker) {
-                Ok(()) => {}
-                Err(Failed) => return Err(Failed),
-            }
+            self.keep_all(crew, origins, taker);
             first = end;
             begun = 0;
         }
-        Ok(())
     }
 
     /// How many bits it was given.
@@ -97,46 +79,23 @@ impl BitReceiver {
     }
 
     // Keeps the codeblocks that are whole with the last bits, and hands over each batch that is full with them.
-    fn keep_all<C: ReceiverCrew, T: ItemTaker>(
+    fn keep_all<C: ReceiverCrew, T: ItemWatch>(
         &mut self,
         crew: &C,
         origins: &Origins,
         taker: &mut T,
-    ) -> Result<(), Failed>
+    )
         requires crew { C.can_decode crew.now }
         requires agree { Agree self.old.finder self.old.recent self.old.batch }
         requires few { length self.old.batch.stored < self.old.batch.config.batch }
         ensures ready { IsReady self.new.finder self.new.recent self.new.batch }
         ensures config { self.new.batch.config ≡ self.old.batch.config }
-        ensures all { OnOk result ((items : List ItemValue) × HandedOver T.took taker.old items taker.new
+        ensures all { (items : List ItemValue) × HandedOver T.took taker.old items taker.new
             × Settles (receiving self.old origins.now) (receiving self.new origins.now) items
-            × SettlesSymbols (receiving self.old origins.now) (receiving self.new origins.now) items) }
-        ensures broke { OnErr result ((tried : List ItemValue) × HandedPart T.took T.broke taker.old tried taker.new
-            × SettlesPart (receiving self.old origins.now) tried
-            × SettlesSymbolsPart (receiving self.old origins.now) tried) }
-        ensures cause { HasCause (T.faults taker.old) (T.faults taker.new) (T.is_last taker.new) result }
+            × SettlesSymbols (receiving self.old origins.now) (receiving self.new origins.now) items }
     {
         while self.keep_next(origins) {
-            match self.hand_full(crew, taker) {
-                Ok(()) => {}
-                Err(Failed) => {
-                    self.skip_whole(origins);
-                    return Err(Failed);
-                }
-            }
-        }
-        Ok(())
-    }
-
-    // Passes over the codeblocks that are whole, and keeps none.
-    fn skip_whole(&mut self, origins: &Origins)
-        requires agree { Agree self.old.finder self.old.recent self.old.batch }
-        requires few { length self.old.batch.stored < self.old.batch.config.batch }
-        ensures ready { IsReady self.new.finder self.new.recent self.new.batch }
-        ensures config { self.new.batch.config ≡ self.old.batch.config }
-    {
-        while self.keep_next(origins) {
-            self.batch.clear();
+            self.hand_full(crew, taker);
         }
     }
 
@@ -174,11 +133,7 @@ impl BitReceiver {
     }
 
     // Hands over the items of a batch that is full, and keeps none of its codeblocks.
-    fn hand_full<C: ReceiverCrew, T: ItemTaker>(
-        &mut self,
-        crew: &C,
-        taker: &mut T,
-    ) -> Result<(), Failed>
+    fn hand_full<C: ReceiverCrew, T: ItemWatch>(&mut self, crew: &C, taker: &mut T)
         requires crew { C.can_decode crew.now }
         requires written { AreWritten self.old.batch }
         requires most { length self.old.batch.stored ≤ self.old.batch.config.batch }
@@ -187,32 +142,19 @@ impl BitReceiver {
         ensures config { self.new.batch.config ≡ self.old.batch.config }
         ensures written { AreWritten self.new.batch }
         ensures few { length self.new.batch.stored < self.new.batch.config.batch }
-        ensures all { OnOk result ((items : List ItemValue)
+        ensures all { (items : List ItemValue)
             × IsHanded self.old.batch.config self.old.batch.stored self.new.batch.stored items
             × HandedOver T.took taker.old items taker.new
-            × AreHandedSymbols self.old.batch.symbols self.new.batch.symbols items) }
-        ensures broke { OnErr result ((count : ℕ) × (items : List ItemValue)
-            × AreItemsFor self.old.batch.config (take count self.old.batch.stored) items
-            × (length self.old.batch.stored ≡ self.old.batch.config.batch)
-            × HandedPart T.took T.broke taker.old items taker.new
-            × (map place_symbol items ≡ take count self.old.batch.symbols)) }
-        ensures cause { HasCause (T.faults taker.old) (T.faults taker.new) (T.is_last taker.new) result }
+            × AreHandedSymbols self.old.batch.symbols self.new.batch.symbols items }
     {
         if self.batch.count() < self.batch.room() {
-            return Ok(());
+            return;
         }
-        match self.hand_all(crew, taker) {
-            Ok(()) => Ok(()),
-            Err(Failed) => Err(Failed),
-        }
+        self.hand_all(crew, taker);
     }
 
     /// Hands over the items of all codeblocks that are stored, and keeps none.
-    pub fn hand_all<C: ReceiverCrew, T: ItemTaker>(
-        &mut self,
-        crew: &C,
-        taker: &mut T,
-    ) -> Result<(), Failed>
+    pub fn hand_all<C: ReceiverCrew, T: ItemWatch>(&mut self, crew: &C, taker: &mut T)
         requires crew { C.can_decode crew.now }
         requires written { AreWritten self.old.batch }
         ensures finder { self.new.finder ≡ self.old.finder }
@@ -221,19 +163,13 @@ impl BitReceiver {
         ensures written { AreWritten self.new.batch }
         ensures stored { self.new.batch.stored ≡ [] }
         ensures symbols { self.new.batch.symbols ≡ [] }
-        ensures all { OnOk result ((items : List ItemValue)
+        ensures all { (items : List ItemValue)
             × AreItemsFor self.old.batch.config self.old.batch.stored items
             × HandedOver T.took taker.old items taker.new
-            × (map place_symbol items ≡ self.old.batch.symbols)) }
-        ensures broke { OnErr result ((count : ℕ) × (items : List ItemValue)
-            × AreItemsFor self.old.batch.config (take count self.old.batch.stored) items
-            × HandedPart T.took T.broke taker.old items taker.new
-            × (map place_symbol items ≡ take count self.old.batch.symbols)) }
-        ensures cause { HasCause (T.faults taker.old) (T.faults taker.new) (T.is_last taker.new) result }
+            × (map place_symbol items ≡ self.old.batch.symbols) }
     {
         self.batch.repair(crew);
-        let result = hand_over(&self.batch, taker);
+        hand_over(&self.batch, taker);
         self.batch.clear();
-        result
     }
 }

@@ -1,22 +1,20 @@
 // Bits in, items out, with no codeblock whole between two calls.
-ghost use Rattle.std.specs.Prelude.{◌≡◌, ◌+◌, ◌*◌, ◌<◌, ◌≤◌, [], drop, length, None, OnOk, OnErr};
+ghost use Rattle.std.specs.Prelude.{◌≡◌, ◌+◌, ◌*◌, ◌<◌, ◌≤◌, [], drop, length, None};
 ghost use Rattle.tm_base.specs.Bits.{bits_of};
-ghost use Rattle.tm_base.specs.Outside.{HasCause};
 ghost use Rattle.tm_conv.specs.declared.rates.Rate.{Rate};
 ghost use Rattle.tm_sync.specs.Bits.{bits_bound};
 ghost use Rattle.tm_sync.specs.Places.{settled_by};
 ghost use Rattle.tm_codeblock.specs.ReceivedCodeblock.{columns_of, rules_of};
 ghost use Rattle.tm_channel.specs.Origins.{ReachesBack};
 ghost use Rattle.tm_channel.specs.Receiving.{waiting_bits};
-ghost use Rattle.tm_channel.specs.OctetReceiving.{AreSpare, BitReceiverStandsFor, Notes, NotesOrigin, ReceivedAt, ReceivedPartAt, ReceivedLast, ReceivedLastPart, spare_bits};
+ghost use Rattle.tm_channel.specs.OctetReceiving.{AreSpare, BitReceiverStandsFor, Notes, NotesOrigin, ReceivedAt, ReceivedLast, spare_bits};
 
 use crate::bit_receiver::BitReceiver;
 use crate::crew::ReceiverCrew;
-use crate::item::ItemTaker;
+use crate::item::ItemWatch;
 use crate::origins::Origins;
 use crate::store::Codeblocks;
 use std::marker::Model;
-use tm_base::Failed;
 use tm_sync::{Finder, RecentBits};
 
 /// A receiver of bits between two calls.
@@ -86,30 +84,21 @@ impl BitStream {
 
     /// Takes the next bits, those of octets after the first `from` ones, and hands over the items that are due with
     /// them. Each full batch is repaired by these workers.
-    pub fn receive<C: ReceiverCrew, T: ItemTaker>(
+    pub fn receive<C: ReceiverCrew, T: ItemWatch>(
         &mut self,
         crew: &C,
         octets: &[u8],
         from: usize,
         taker: &mut T,
-    ) -> Result<(), Failed>
+    )
         requires crew { C.can_decode crew.now }
         requires from { from ≤ 8 * length octets.now }
         requires most { 8 * length octets.now < bits_bound }
         ensures config { self.new.batch.config ≡ self.old.batch.config }
-        ensures handed { OnOk result
-            (ReceivedAt T.took self.old self.new taker.old taker.new (drop from (bits_of octets.now))) }
-        ensures part { OnErr result
-            (ReceivedPartAt T.took T.broke self.old self.new taker.old taker.new (drop from (bits_of octets.now))) }
-        ensures cause { HasCause (T.faults taker.old) (T.faults taker.new) (T.is_last taker.new) result }
+        ensures handed { ReceivedAt T.took self.old self.new taker.old taker.new (drop from (bits_of octets.now)) }
     {
-        match self
-            .receiver
-            .receive(crew, &self.origins, octets, from, taker)
-        {
-            Ok(()) => Ok(()),
-            Err(Failed) => Err(Failed),
-        }
+        self.receiver
+            .receive(crew, &self.origins, octets, from, taker);
     }
 
     /// How many further bits make no item due, whatever they are: one fewer than the codeblocks that the batch lacks
@@ -124,20 +113,11 @@ impl BitStream {
     }
 
     /// Hands over the items that were not due before the end of the bits was known.
-    pub fn hand_last<C: ReceiverCrew, T: ItemTaker>(
-        &mut self,
-        crew: &C,
-        taker: &mut T,
-    ) -> Result<(), Failed>
+    pub fn hand_last<C: ReceiverCrew, T: ItemWatch>(&mut self, crew: &C, taker: &mut T)
         requires crew { C.can_decode crew.now }
         ensures config { self.new.batch.config ≡ self.old.batch.config }
-        ensures handed { OnOk result (ReceivedLast T.took self.old taker.old taker.new) }
-        ensures part { OnErr result (ReceivedLastPart T.took T.broke self.old taker.old taker.new) }
-        ensures cause { HasCause (T.faults taker.old) (T.faults taker.new) (T.is_last taker.new) result }
+        ensures handed { ReceivedLast T.took self.old taker.old taker.new }
     {
-        match self.receiver.hand_all(crew, taker) {
-            Ok(()) => Ok(()),
-            Err(Failed) => Err(Failed),
-        }
+        self.receiver.hand_all(crew, taker);
     }
 }

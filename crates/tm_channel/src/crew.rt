@@ -1,5 +1,5 @@
 // A crew that decodes codewords too.
-ghost use Rattle.std.specs.Prelude.{◌≡◌, ◌<◌, ◌≤◌, length};
+ghost use Rattle.std.specs.Prelude.{◌<◌, ◌≤◌, length};
 ghost use Rattle.tm_base.specs.Limits.{most_workers};
 ghost use Rattle.tm_workers.specs.Batch.{EachBecomes, words_bound};
 ghost use Rattle.tm_workers.specs.Words.{Decodes};

@@ -82,6 +82,23 @@ pub trait ItemTaker {
         ensures cause { HasCause (faults self.old) (faults self.new) (is_last self.new) result };
 }
 
+/// What is handed the symbol phase, where it is to be found, and then items, one after another. It never fails.
+pub trait ItemWatch {
+    /// What an item does to it.
+    ghost took: { Self → ItemValue → Self → Type 0 };
+
+    /// What the symbol phase does: how many octets are skipped, and what the best path after them costs.
+    ghost took_phase: { Self → ℕ → ℕ → Self → Type 0 };
+
+    /// Takes the next item.
+    fn item(&mut self, item: &Item<'_>)
+        ensures { took self.old item.now self.new };
+
+    /// Takes the symbol phase that was chosen: `skip` octets, after which the best path costs `cost`.
+    fn phase(&mut self, skip: u8, cost: u64)
+        ensures { took_phase self.old skip cost self.new };
+}
+
 /// Whether no answer is `Beyond`.
 pub fn are_fixed(answers: &[Answer]) -> bool
     ensures { result ≡ are_fixed answers.now }

@@ -18,6 +18,7 @@ mod sender;
 mod slot;
 mod store;
 mod totals;
+mod until_fault;
 
 pub use crew::ReceiverCrew;
 pub use item::{Item, ItemTaker, are_fixed};

@@ -1,58 +1,47 @@
 // Bits that are octets 0 and 1, packed to octets for the search.
-ghost use Rattle.std.specs.Prelude.{◌≡◌, ◌<◌, ◌≤◌, ◌⊎◌, ◌*◌, ◌%◌, ◌==◌, length, map, OnOk, OnErr};
-ghost use Rattle.tm_base.specs.Outside.{HasCause};
-ghost use Rattle.tm_channel.specs.Calls.{TakesBits};
-ghost use Rattle.tm_channel.specs.OctetReceiving.{ReceivedAt, ReceivedPartAt};
+ghost use Rattle.std.specs.Prelude.{◌≡◌, ◌<◌, ◌≤◌, ◌⊎◌, ◌*◌, ◌%◌, ◌==◌, length, map};
+ghost use Rattle.tm_channel.specs.OctetReceiving.{ReceivedAt};
 ghost use Rattle.tm_channel.specs.Receiving.{run_size};
 
 use crate::bit_stream::BitStream;
 use crate::crew::ReceiverCrew;
-use crate::item::ItemTaker;
-use tm_base::Failed;
+use crate::item::ItemWatch;
 use tm_codeblock::{pack, run_length};
 
 // How many octets bits are packed to at a time.
 const RUN: usize = 256;
 
 /// Gives bits, each 0 or 1, to the second stage, and hands over the items that are due with them.
-pub fn take_bits<C: ReceiverCrew, T: ItemTaker>(
+pub fn take_bits<C: ReceiverCrew, T: ItemWatch>(
     stream: &mut BitStream,
     crew: &C,
     bits: &[u8],
     taker: &mut T,
-) -> Result<(), Failed>
+)
     requires crew { C.can_decode crew.now }
     ensures config { stream.new.batch.config ≡ stream.old.batch.config }
-    ensures handed { OnOk result
-        (ReceivedAt T.took stream.old stream.new taker.old taker.new (map (λ bit. bit == 1) bits.now)) }
-    ensures part { OnErr result
-        (ReceivedPartAt T.took T.broke stream.old stream.new taker.old taker.new (map (λ bit. bit == 1) bits.now)) }
-    ensures cause { HasCause (T.faults taker.old) (T.faults taker.new) (T.is_last taker.new) result }
+    ensures handed { ReceivedAt T.took stream.old stream.new taker.old taker.new (map (λ bit. bit == 1) bits.now) }
 {
     let mut done = 0;
     while done < bits.len() {
         let count = run_length(bits.len() - done, RUN);
-        match take_run(stream, crew, &bits[done..done + count], taker) {
-            Ok(()) => {}
-            Err(Failed) => return Err(Failed),
-        }
+        take_run(stream, crew, &bits[done..done + count], taker);
         done += count;
     }
-    Ok(())
 }
 
 // Gives fewer than eight bits to it, or those of up to `RUN` octets.
-fn take_run<C: ReceiverCrew, T: ItemTaker>(
+fn take_run<C: ReceiverCrew, T: ItemWatch>(
     stream: &mut BitStream,
     crew: &C,
     bits: &[u8],
     taker: &mut T,
-) -> Result<(), Failed>
+)
     requires crew { C.can_decode crew.now }
     requires whole { (length bits.now < 8) ⊎ (length bits.now % 8 ≡ 0) }
     requires most { length bits.now ≤ 8 * run_size }
-    ensures { TakesBits T.took T.broke T.faults T.is_last stream.old stream.new taker.old taker.new
-        (map (λ bit. bit == 1) bits.now) result }
+    ensures config { stream.new.batch.config ≡ stream.old.batch.config }
+    ensures handed { ReceivedAt T.took stream.old stream.new taker.old taker.new (map (λ bit. bit == 1) bits.now) }
 {
     if bits.len() < 8 {
         // They follow others in an octet, which are left out.
@@ -61,10 +50,11 @@ fn take_run<C: ReceiverCrew, T: ItemTaker>(
         eight[from..].copy_from_slice(bits);
         let mut octet = [0; 1];
         pack(&eight, &mut octet);
-        return stream.receive(crew, &octet, from, taker);
+        stream.receive(crew, &octet, from, taker);
+        return;
     }
     let mut octets = [0; RUN];
     let octets = &mut octets[..bits.len() / 8];
     pack(bits, octets);
-    stream.receive(crew, octets, 0, taker)
+    stream.receive(crew, octets, 0, taker);
 }

@@ -1,9 +1,8 @@
 // Octets through both stages of a receiver: the inner code, and the search for codeblocks in its bits.
-ghost use Rattle.std.specs.Prelude.{◌≡◌, ◌⊎◌, ◌<◌, ◌≤◌, ◌+◌, ◌*◌, ◌++◌, ℕ, nat_lt, if◌then◌else◌, List, [], true, false, drop, length, map, IfOk, OnOk, OnErr, None};
+ghost use Rattle.std.specs.Prelude.{◌≡◌, ◌⊎◌, ◌<◌, ◌≤◌, ◌+◌, ◌*◌, ◌++◌, ℕ, nat_lt, if◌then◌else◌, List, [], true, false, drop, length, map};
 ghost use Rattle.std.specs.Option.{is_some};
 ghost use Rattle.tm_base.specs.Handed.{Handed, items_of, on_handed};
-ghost use Rattle.tm_base.specs.Outside.{HasCause};
-ghost use Rattle.tm_base.specs.Takers.{HandedOver, HandedPart};
+ghost use Rattle.tm_base.specs.Takers.{HandedOver};
 ghost use Rattle.tm_config.specs.Accepted.{IsAccepted};
 ghost use Rattle.tm_inner.specs.Inner.{nearest_bit, plain_bits};
 ghost use Rattle.tm_inner.specs.InnerDecoding.{IsDrained, IsSettledQueue, has_phase_now, ready_in, unread};
@@ -11,22 +10,19 @@ ghost use Rattle.tm_inner.specs.InnerWindows.{AreDecoded, AreTold, AreWindows};
 ghost use Rattle.tm_inner.specs.Phase.{IsChosen, with_phase};
 ghost use Rattle.tm_inner.specs.Receiving.{Hands};
 ghost use Rattle.tm_inner.specs.declared.window.Window.{Window};
-ghost use Rattle.tm_viterbi.specs.Clean.{kept_bits};
-ghost use Rattle.tm_channel.specs.Calls.{TakesBits, TakesOctets};
 ghost use Rattle.tm_channel.specs.Items.{ItemValue};
-ghost use Rattle.tm_channel.specs.Handing.{AreReceived, AreReceivedPrefix};
+ghost use Rattle.tm_channel.specs.Handing.{AreReceived};
 ghost use Rattle.tm_channel.specs.Most.{AreFew};
 ghost use Rattle.tm_channel.specs.Receiving.{piece_size, waiting_bits};
-ghost use Rattle.tm_channel.specs.OctetReceiving.{AreSpare, Decoded, DecodedPart, MayNotWait, ReceivedAt, ReceivedPartAt, StagesFor, bits_of_blocks, spare_bits};
+ghost use Rattle.tm_channel.specs.OctetReceiving.{AreSpare, Decoded, MayNotWait, ReceivedAt, StagesFor, StagesHand, bits_of_blocks, spare_bits};
 
 use crate::bit_stream::BitStream;
 use crate::crew::ReceiverCrew;
-use crate::item::ItemTaker;
+use crate::item::ItemWatch;
 use crate::packed::take_bits;
 use crate::totals::Totals;
-use tm_base::Failed;
 use tm_inner::{InnerDecoder, WindowWatch, inner_law, watch_ready};
-use tm_windows::{closed_prefix_law, due_windows_law, whole_window_law};
+use tm_windows::due_windows_law;
 
 /// How many octets that hold the bits themselves are taken at a time.
 pub const PIECE: usize = 4096;
@@ -34,47 +30,41 @@ pub const PIECE: usize = 4096;
 /// Takes the next octets, and hands over what is due with them: the symbol phase, where it is chosen with them, and
 /// items. Octets may wait in the first stage while the blocks that wait make no batch whole, so that more windows are
 /// decoded side by side; what is due does not depend on the crew.
-pub fn take<C: ReceiverCrew, W: WindowWatch, T: ItemTaker>(
+pub fn take<C: ReceiverCrew, W: WindowWatch, T: ItemWatch>(
     inner: &mut InnerDecoder,
     stream: &mut BitStream,
     crew: &C,
     octets: &[u8],
     watch: &mut W,
     taker: &mut T,
-) -> Result<(), Failed>
+)
     requires crew { C.is_ready crew.now × C.can_decode crew.now }
     requires of { stream.old.batch.config ≡ inner.old.config }
     requires accepted { IsAccepted inner.old.config }
-    ensures takes { TakesOctets (on_handed T.took_phase T.took) (on_handed T.broke_phase T.broke) T.faults T.is_last
-        (record { inner = inner.old; bits = stream.old }) (record { inner = inner.new; bits = stream.new })
-        taker.old taker.new octets.now result }
+    ensures inner { inner.new.config ≡ inner.old.config }
+    ensures stream { stream.new.batch.config ≡ stream.old.batch.config }
+    ensures handed { StagesHand (on_handed T.took_phase T.took) (record { inner = inner.old; bits = stream.old })
+        (record { inner = inner.new; bits = stream.new }) taker.old taker.new octets.now }
     ensures watched { inner.old.has_ended ≡ false
-        → OnOk result (Hands W.took AreTold inner.old inner.new watch.old watch.new octets.now) }
-    ensures all { C.share crew.now 2 ≤ 1 → OnOk result (AreDecoded inner.new) }
-    ensures waits { is_some inner.old.config.inner ≡ true → OnOk result
-        (((stream.new ≡ stream.old) × (taker.new ≡ taker.old)) ⊎ MayNotWait inner.old octets.now
-        (if nat_lt 1 (C.share crew.now 2) then spare_bits stream.old else 0)) }
+        → Hands W.took AreTold inner.old inner.new watch.old watch.new octets.now }
+    ensures all { C.share crew.now 2 ≤ 1 → AreDecoded inner.new }
+    ensures waits { is_some inner.old.config.inner ≡ true
+        → ((stream.new ≡ stream.old) × (taker.new ≡ taker.old)) ⊎ MayNotWait inner.old octets.now
+        (if nat_lt 1 (C.share crew.now 2) then spare_bits stream.old else 0) }
 {
-    closed_prefix_law();
-    whole_window_law();
     if !inner.has_inner_code() {
-        return take_plain(inner, stream, crew, octets, watch, taker);
+        take_plain(inner, stream, crew, octets, watch, taker);
+        return;
     }
     let mut done = inner.fill(octets);
     while done < octets.len() {
-        match take_decoded(inner, stream, crew, watch, taker) {
-            Ok(()) => {}
-            Err(Failed) => return Err(Failed),
-        }
+        take_decoded(inner, stream, crew, watch, taker);
         done += inner.fill(&octets[done..]);
     }
     if inner.may_wait(spare_bits(stream, crew)) {
-        return Ok(());
+        return;
     }
-    match take_decoded(inner, stream, crew, watch, taker) {
-        Ok(()) => Ok(()),
-        Err(Failed) => Err(Failed),
-    }
+    take_decoded(inner, stream, crew, watch, taker);
 }
 
 // How many bits may wait: none where the caller is alone, since none has to.
@@ -87,240 +77,194 @@ fn spare_bits<C: ReceiverCrew>(stream: &BitStream, crew: &C) -> u64
 }
 
 // Hands over the symbol phase, where it was chosen since.
-fn hand_phase<T: ItemTaker>(inner: &mut InnerDecoder, taker: &mut T) -> Result<(), Failed>
+fn hand_phase<T: ItemWatch>(inner: &mut InnerDecoder, taker: &mut T)
     ensures read { inner.new ≡ record inner.old { has_phase = has_phase_now inner.old } }
-    ensures ok { OnOk result (HandedOver (on_handed T.took_phase T.took) taker.old
-        (with_phase (unread inner.old) []) taker.new) }
-    ensures err { OnErr result (HandedPart (on_handed T.took_phase T.took) (on_handed T.broke_phase T.broke) taker.old
-        (with_phase (unread inner.old) []) taker.new) }
-    ensures cause { HasCause (T.faults taker.old) (T.faults taker.new) (T.is_last taker.new) result }
+    ensures handed { HandedOver (on_handed T.took_phase T.took) taker.old
+        (with_phase (unread inner.old) []) taker.new }
 {
-    match inner.new_phase() {
-        Some(chosen) => taker.phase(chosen.skip, chosen.cost),
-        None => Ok(()),
+    if let Some(chosen) = inner.new_phase() {
+        taker.phase(chosen.skip, chosen.cost);
     }
 }
 
 // Decodes what is due in the first stage, and gives its bits to the second.
-fn take_decoded<C: ReceiverCrew, W: WindowWatch, T: ItemTaker>(
+fn take_decoded<C: ReceiverCrew, W: WindowWatch, T: ItemWatch>(
     inner: &mut InnerDecoder,
     stream: &mut BitStream,
     crew: &C,
     watch: &mut W,
     taker: &mut T,
-) -> Result<(), Failed>
+)
     requires crew { C.is_ready crew.now × C.can_decode crew.now }
     ensures of { (inner.new.config ≡ inner.old.config) × (stream.new.batch.config ≡ stream.old.batch.config) }
     ensures settled { IsSettledQueue inner.old.queue → IsSettledQueue inner.new.queue }
-    ensures drained { OnOk result (IsDrained inner.new.queue) }
-    ensures watched { OnOk result (Hands W.took AreTold inner.old inner.new watch.old watch.new []) }
-    ensures decoded { OnOk result (Decoded T.took_phase T.took (record { inner = inner.old; bits = stream.old })
-        (record { inner = inner.new; bits = stream.new }) taker.old taker.new) }
-    ensures part { OnErr result (DecodedPart T.took_phase T.broke_phase T.took T.broke
-        (record { inner = inner.old; bits = stream.old }) (record { inner = inner.new; bits = stream.new })
-        taker.old taker.new) }
-    ensures cause { HasCause (T.faults taker.old) (T.faults taker.new) (T.is_last taker.new) result }
+    ensures drained { IsDrained inner.new.queue }
+    ensures watched { Hands W.took AreTold inner.old inner.new watch.old watch.new [] }
+    ensures decoded { Decoded T.took_phase T.took (record { inner = inner.old; bits = stream.old })
+        (record { inner = inner.new; bits = stream.new }) taker.old taker.new }
 {
     let mut count = inner.decode(crew);
-    match hand_phase(inner, taker) {
-        Ok(()) => {}
-        Err(Failed) => return Err(Failed),
-    }
+    hand_phase(inner, taker);
     while count > 0 {
         watch_ready(inner, watch);
         stream.note(inner.origin());
-        match take_ready(inner, stream, crew, taker) {
-            Ok(()) => count = inner.decode(crew),
-            Err(Failed) => return Err(Failed),
-        }
+        take_ready(inner, stream, crew, taker);
+        count = inner.decode(crew);
     }
-    Ok(())
 }
 
 // Gives the bits of the blocks that are ready to the second stage.
-fn take_ready<C: ReceiverCrew, T: ItemTaker>(
+fn take_ready<C: ReceiverCrew, T: ItemWatch>(
     inner: &InnerDecoder,
     stream: &mut BitStream,
     crew: &C,
     taker: &mut T,
-) -> Result<(), Failed>
+)
     requires crew { C.is_ready crew.now × C.can_decode crew.now }
     ensures config { stream.new.batch.config ≡ stream.old.batch.config }
-    ensures handed { OnOk result (ReceivedAt T.took stream.old stream.new taker.old taker.new
-        (bits_of_blocks (ready_in inner.now.queue))) }
-    ensures part { OnErr result (ReceivedPartAt T.took T.broke stream.old stream.new taker.old taker.new
-        (bits_of_blocks (ready_in inner.now.queue))) }
-    ensures cause { HasCause (T.faults taker.old) (T.faults taker.new) (T.is_last taker.new) result }
+    ensures handed { ReceivedAt T.took stream.old stream.new taker.old taker.new
+        (bits_of_blocks (ready_in inner.now.queue)) }
 {
     for index in 0..inner.ready() {
-        match take_bits(stream, crew, inner.kept_bits(index), taker) {
-            Ok(()) => {}
-            Err(Failed) => return Err(Failed),
-        }
+        take_bits(stream, crew, inner.kept_bits(index), taker);
     }
-    Ok(())
 }
 
 /// Ends both stages, hands over what is left, and returns what all octets came to.
-pub fn end<C: ReceiverCrew, W: WindowWatch, T: ItemTaker>(
+pub fn end<C: ReceiverCrew, W: WindowWatch, T: ItemWatch>(
     inner: &mut InnerDecoder,
     stream: &mut BitStream,
     crew: &C,
     watch: &mut W,
     taker: &mut T,
-) -> Result<Totals, Failed>
+) -> Totals
     requires crew { C.is_ready crew.now × C.can_decode crew.now }
     requires of { stream.old.batch.config ≡ inner.old.config }
     requires accepted { IsAccepted inner.old.config }
     ensures of { (inner.new.config ≡ inner.old.config) × (stream.new.batch.config ≡ stream.old.batch.config) }
-    ensures handed { IfOk result (λ totals. (last : List (Handed ItemValue))
+    ensures handed { (last : List (Handed ItemValue))
         × HandedOver (on_handed T.took_phase T.took) taker.old last taker.new
         × ((given : List ℕ) (done : List (Handed ItemValue))
         → StagesFor (record { inner = inner.old; bits = stream.old }) given done
-        → AreReceived inner.old.config given (done ++ last) totals
-        × (IsAccepted inner.old.config → AreFew inner.old.config 0 (items_of last)))) }
-    ensures prefix { OnErr result ((tried : List (Handed ItemValue))
-        × HandedPart (on_handed T.took_phase T.took) (on_handed T.broke_phase T.broke) taker.old tried taker.new
-        × ((given : List ℕ) (done : List (Handed ItemValue))
-        → StagesFor (record { inner = inner.old; bits = stream.old }) given done
-        → AreReceivedPrefix inner.old.config given (done ++ tried))) }
+        → AreReceived inner.old.config given (done ++ last) result
+        × (IsAccepted inner.old.config → AreFew inner.old.config 0 (items_of last))) }
     ensures chosen { (given : List ℕ) (done : List (Handed ItemValue))
         → StagesFor (record { inner = inner.old; bits = stream.old }) given done
         → IsChosen inner.old.config given inner.new.chosen }
-    ensures watched { OnOk result ((last : List Window) × HandedOver W.took watch.old last watch.new
+    ensures watched { (last : List Window) × HandedOver W.took watch.old last watch.new
         × ((given : List ℕ) (done : List Window) → AreTold inner.old given done
-        → AreWindows inner.old.config given (done ++ last))) }
-    ensures cause { HasCause (T.faults taker.old) (T.faults taker.new) (T.is_last taker.new) result }
+        → AreWindows inner.old.config given (done ++ last)) }
 {
-    closed_prefix_law();
     due_windows_law();
     inner_law();
     inner.settle();
-    match take_decoded(inner, stream, crew, watch, taker) {
-        Ok(()) => {}
-        Err(Failed) => return Err(Failed),
-    }
+    take_decoded(inner, stream, crew, watch, taker);
     let end = inner.last();
     watch_ready(inner, watch);
     stream.note(inner.origin());
-    match take_ready(inner, stream, crew, taker) {
-        Ok(()) => {}
-        Err(Failed) => return Err(Failed),
-    }
-    match stream.hand_last(crew, taker) {
-        Ok(()) => Ok(Totals {
-            bits: end.bits,
-            slips: end.slips,
-        }),
-        Err(Failed) => Err(Failed),
+    take_ready(inner, stream, crew, taker);
+    stream.hand_last(crew, taker);
+    Totals {
+        bits: end.bits,
+        slips: end.slips,
     }
 }
 
 // Takes octets that hold the bits themselves.
-fn take_plain<C: ReceiverCrew, W: WindowWatch, T: ItemTaker>(
+fn take_plain<C: ReceiverCrew, W: WindowWatch, T: ItemWatch>(
     inner: &mut InnerDecoder,
     stream: &mut BitStream,
     crew: &C,
     octets: &[u8],
     watch: &mut W,
     taker: &mut T,
-) -> Result<(), Failed>
+)
     requires crew { C.is_ready crew.now × C.can_decode crew.now }
     requires of { stream.old.batch.config ≡ inner.old.config }
     requires plain { is_some inner.old.config.inner ≡ false }
-    ensures takes { TakesOctets (on_handed T.took_phase T.took) (on_handed T.broke_phase T.broke) T.faults T.is_last
-        (record { inner = inner.old; bits = stream.old }) (record { inner = inner.new; bits = stream.new })
-        taker.old taker.new octets.now result }
+    ensures inner { inner.new.config ≡ inner.old.config }
+    ensures stream { stream.new.batch.config ≡ stream.old.batch.config }
+    ensures handed { StagesHand (on_handed T.took_phase T.took) (record { inner = inner.old; bits = stream.old })
+        (record { inner = inner.new; bits = stream.new }) taker.old taker.new octets.now }
     ensures watched { inner.old.has_ended ≡ false
-        → OnOk result (Hands W.took AreTold inner.old inner.new watch.old watch.new octets.now) }
+        → Hands W.took AreTold inner.old inner.new watch.old watch.new octets.now }
 {
-    closed_prefix_law();
-    whole_window_law();
     let mut done = 0;
     while done < octets.len() {
         let end = done + PIECE.min(octets.len() - done);
-        match take_piece(inner, stream, crew, &octets[done..end], watch, taker) {
-            Ok(()) => {}
-            Err(Failed) => return Err(Failed),
-        }
+        take_piece(inner, stream, crew, &octets[done..end], watch, taker);
         done = end;
     }
-    Ok(())
 }
 
 // Takes a piece of them, at most `PIECE` octets, and gives its bits to the second stage.
-fn take_piece<C: ReceiverCrew, W: WindowWatch, T: ItemTaker>(
+fn take_piece<C: ReceiverCrew, W: WindowWatch, T: ItemWatch>(
     inner: &mut InnerDecoder,
     stream: &mut BitStream,
     crew: &C,
     octets: &[u8],
     watch: &mut W,
     taker: &mut T,
-) -> Result<(), Failed>
+)
     requires crew { C.is_ready crew.now × C.can_decode crew.now }
     requires of { stream.old.batch.config ≡ inner.old.config }
     requires plain { is_some inner.old.config.inner ≡ false }
     requires most { length octets.now ≤ piece_size }
-    ensures takes { TakesOctets (on_handed T.took_phase T.took) (on_handed T.broke_phase T.broke) T.faults T.is_last
-        (record { inner = inner.old; bits = stream.old }) (record { inner = inner.new; bits = stream.new })
-        taker.old taker.new octets.now result }
-    ensures ended { OnOk result (inner.new.has_ended ≡ inner.old.has_ended) }
+    ensures inner { inner.new.config ≡ inner.old.config }
+    ensures stream { stream.new.batch.config ≡ stream.old.batch.config }
+    ensures handed { StagesHand (on_handed T.took_phase T.took) (record { inner = inner.old; bits = stream.old })
+        (record { inner = inner.new; bits = stream.new }) taker.old taker.new octets.now }
+    ensures ended { inner.new.has_ended ≡ inner.old.has_ended }
     ensures watched { inner.old.has_ended ≡ false
-        → OnOk result (Hands W.took AreTold inner.old inner.new watch.old watch.new octets.now) }
+        → Hands W.took AreTold inner.old inner.new watch.old watch.new octets.now }
 {
     let skip = inner.bits_to_skip();
     inner.fill(octets);
-    match take_decoded(inner, stream, crew, watch, taker) {
-        Ok(()) => {}
-        Err(Failed) => return Err(Failed),
-    }
-    match take_after(inner, stream, skip, crew, octets, taker) {
-        Ok(()) => Ok(()),
-        Err(Failed) => Err(Failed),
-    }
+    take_decoded(inner, stream, crew, watch, taker);
+    take_after(inner, stream, skip, crew, octets, taker);
 }
 
 // Gives the bits that octets hold to the second stage, after the first `skip` ones.
-fn take_after<C: ReceiverCrew, T: ItemTaker>(
+fn take_after<C: ReceiverCrew, T: ItemWatch>(
     inner: &InnerDecoder,
     stream: &mut BitStream,
     skip: u64,
     crew: &C,
     octets: &[u8],
     taker: &mut T,
-) -> Result<(), Failed>
+)
     requires crew { C.is_ready crew.now × C.can_decode crew.now }
     requires most { length octets.now ≤ piece_size }
-    ensures { TakesBits T.took T.broke T.faults T.is_last stream.old stream.new taker.old taker.new
-        (drop skip (plain_bits inner.now.config octets.now)) result }
+    ensures config { stream.new.batch.config ≡ stream.old.batch.config }
+    ensures handed { ReceivedAt T.took stream.old stream.new taker.old taker.new
+        (drop skip (plain_bits inner.now.config octets.now)) }
 {
     if !inner.is_packed() {
-        return take_nearest(inner, stream, skip, crew, octets, taker);
+        take_nearest(inner, stream, skip, crew, octets, taker);
+        return;
     }
     let from = skip.min(8 * octets.len() as u64) as usize;
-    match stream.receive(crew, octets, from, taker) {
-        Ok(()) => Ok(()),
-        Err(Failed) => Err(Failed),
-    }
+    stream.receive(crew, octets, from, taker);
 }
 
 // Gives the bits that octets are nearest to to the second stage, after the first `skip` ones.
-fn take_nearest<C: ReceiverCrew, T: ItemTaker>(
+fn take_nearest<C: ReceiverCrew, T: ItemWatch>(
     inner: &InnerDecoder,
     stream: &mut BitStream,
     skip: u64,
     crew: &C,
     octets: &[u8],
     taker: &mut T,
-) -> Result<(), Failed>
+)
     requires crew { C.is_ready crew.now × C.can_decode crew.now }
     requires most { length octets.now ≤ piece_size }
-    ensures { TakesBits T.took T.broke T.faults T.is_last stream.old stream.new taker.old taker.new
-        (drop skip (map (nearest_bit inner.now.config) octets.now)) result }
+    ensures config { stream.new.batch.config ≡ stream.old.batch.config }
+    ensures handed { ReceivedAt T.took stream.old stream.new taker.old taker.new
+        (drop skip (map (nearest_bit inner.now.config) octets.now)) }
 {
     let from = skip.min(octets.len() as u64) as usize;
     let mut room = [0; PIECE];
     let bits = &mut room[..octets.len() - from];
     inner.nearest_bits(&octets[from..], bits);
-    take_bits(stream, crew, bits, taker)
+    take_bits(stream, crew, bits, taker);
 }

@@ -29,11 +29,12 @@ use crate::origins::Origins;
 use crate::pipeline::{PIECE, end, take};
 use crate::store::{Codeblocks, waiting_bits};
 use crate::totals::Totals;
+use crate::until_fault::UntilFault;
 use std::alloc::Global;
 use std::marker::Model;
 use std::thread::Threads;
 use thiserror::Error;
-use tm_base::{Failed, NoMemory};
+use tm_base::NoMemory;
 use tm_codeblock::{codeblock_size, columns_of, finds_polarity};
 use tm_config::Config;
 use tm_inner::{InnerDecoder, NoWatch, WindowWatch};
@@ -183,20 +184,24 @@ impl Receiver {
             return Err(RecvError::Stopped);
         }
         self.by = workers_by(&self.config, crew);
-        match take(
+        let mut until = UntilFault {
+            taker,
+            has_failed: false,
+        };
+        take(
             &mut self.inner,
             &mut self.stream,
             crew,
             octets,
             watch,
-            taker,
-        ) {
-            Ok(()) => Ok(()),
-            Err(Failed) => {
-                self.has_stopped = true;
-                Err(RecvError::Taker)
-            }
+            &mut until,
+        );
+        let UntilFault { has_failed, .. } = until;
+        self.has_stopped = has_failed;
+        if has_failed {
+            return Err(RecvError::Taker);
         }
+        Ok(())
     }
 
     /// Hands over what is left: the symbol phase, where it is to be found and was not chosen yet, and the last items.
@@ -242,9 +247,15 @@ impl Receiver {
         }
         self.has_stopped = true;
         self.by = workers_by(&self.config, crew);
-        let Ok(totals) = end(&mut self.inner, &mut self.stream, crew, watch, taker) else {
-            return Err(RecvError::Taker);
+        let mut until = UntilFault {
+            taker,
+            has_failed: false,
         };
+        let totals = end(&mut self.inner, &mut self.stream, crew, watch, &mut until);
+        let UntilFault { has_failed, .. } = until;
+        if has_failed {
+            return Err(RecvError::Taker);
+        }
         Ok(totals)
     }
 

@@ -7,8 +7,7 @@ use Rattle.tm_channel.proofs.bit_receiver.hand_over.Given as goal
 
 abbrev pub invariant-loop-i : goal.invariant-loop-i
 invariant-loop-i g l = record {
-  faults : g.T.ItemTaker.faults l.taker ≡ g.T.ItemTaker.faults l.initial.taker;
   handed : (items : List ItemValue) × AreItemsFor l.batch.config (take l.i l.batch.stored) items
-      × HandedOver g.T.ItemTaker.took l.initial.taker items l.taker
+      × HandedOver g.T.ItemWatch.took l.initial.taker items l.taker
       × (map place_symbol items ≡ take l.i l.batch.symbols);
 }

@@ -1,6 +1,5 @@
-use Rattle.std.proofs.Common.{◌≡◌, ◌==◌, ◌<◌, ◌∙◌, length, sym, ap, arith}
+use Rattle.std.proofs.Common.{◌∙◌, sym, arith}
 use Rattle.std.proofs.lemmas.Bool.Decides.{nat_tests}
-use Rattle.tm_channel.specs.declared.origins.Origin.{Origin}
 use Rattle.tm_channel.proofs.OriginRoom.{newest-is, newest-none}
 use Rattle.tm_channel.proofs.origins.is_newest.Goals as goal
 

@@ -1,16 +1,15 @@
-use Rattle.std.proofs.Common.{◌++◌, ◌+◌, ◌∙◌, List, ℕ, take, drop, sym, refl, arith, subst}
+use Rattle.std.proofs.Common.{◌∙◌, List, ℕ, take, sym, refl, arith, subst}
 use Rattle.std.proofs.lemmas.List.{take_all}
-use Rattle.tm_channel.specs.OctetReceiving.{ReceivedAt, ReceivedPartAt}
-use Rattle.tm_channel.proofs.ReceivedPieces.{part_at-all, part_at-then, received_at-none, received_at-then}
-use Rattle.tm_channel.proofs.Ones.{all-ones, next-ones, next_octets, ones}
+use Rattle.tm_channel.specs.OctetReceiving.{ReceivedAt}
+use Rattle.tm_channel.proofs.ReceivedPieces.{received_at-none, received_at-then}
+use Rattle.tm_channel.proofs.Ones.{next-ones, next_octets, ones}
 use Rattle.tm_channel.proofs.packed.take_bits.Goals as goal
 
 pub loop-done-init : goal.loop-done-init
 loop-done-init g c = record {
   within = omega arith;
   config = refl;
-  faults = refl;
-  received = received_at-none g.T.ItemTaker.took c.args.stream.now c.args.taker.now;
+  received = received_at-none g.T.ItemWatch.took c.args.stream.now c.args.taker.now;
 }
 
 pub loop-done-preserved : goal.loop-done-preserved
@@ -20,35 +19,18 @@ loop-done-preserved g c =
     let done = c.loop-done.done in
     let count = c.run_length-count.result in
     let now = c.take_run.new in
-    let took = g.T.ItemTaker.took in record {
+    let took = g.T.ItemWatch.took in record {
       within = omega (arith, c.run_length-count.ensures.within);
       config = c.take_run.ensures.config ∙ i.config;
-      faults = c.in-Ok.ensures.cause.same ∙ i.faults;
       received = subst (ReceivedAt took c.args.stream.now now.stream c.args.taker.now now.taker)
           (sym (next-ones bits done count))
           (received_at-then took c.args.stream.now c.loop-done.stream now.stream c.args.taker.now c.loop-done.taker
           now.taker
-          (ones (take done bits)) (ones (next_octets done count bits)) i.received c.in-Ok.ensures.handed);
+          (ones (take done bits)) (ones (next_octets done count bits)) i.received c.take_run.ensures.handed);
     }
-
-pub returns-in-Err-clause-part : goal.returns-in-Err-clause-part
-returns-in-Err-clause-part g c =
-    let i = c.loop-done.invariant in
-    let bits = c.args.bits.now in
-    let done = c.loop-done.done in
-    let count = c.run_length-count.result in
-    let now = c.take_run.new in
-    let took = g.T.ItemTaker.took in
-    let broke = g.T.ItemTaker.broke in
-    let piece = ones (next_octets done count bits) in
-    subst (ReceivedPartAt took broke c.args.stream.now now.stream c.args.taker.now now.taker) (all-ones bits done count)
-    (part_at-all took broke c.args.stream.now now.stream c.args.taker.now now.taker (ones (take done bits) ++ piece)
-    (ones (drop (done + count) bits))
-    (part_at-then took broke c.args.stream.now c.loop-done.stream now.stream c.args.taker.now c.loop-done.taker now.taker
-    (ones (take done bits)) piece i.received c.in-Err.ensures.part))
 
 pub returns-clause-handed : goal.returns-clause-handed
 returns-clause-handed g c =
-    subst (λ (l : List ℕ). ReceivedAt g.T.ItemTaker.took c.args.stream.now c.loop-done.stream c.args.taker.now
+    subst (λ (l : List ℕ). ReceivedAt g.T.ItemWatch.took c.args.stream.now c.loop-done.stream c.args.taker.now
     c.loop-done.taker (ones l))
     (take_all c.loop-done.done c.args.bits.now c.loop-done-test.false) c.loop-done.invariant.received

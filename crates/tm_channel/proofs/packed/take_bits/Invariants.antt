@@ -6,8 +6,7 @@ abbrev pub invariant-loop-done : goal.invariant-loop-done
 invariant-loop-done g l = record {
   within : l.done ≤ length l.bits;
   config : l.stream.batch.config ≡ l.initial.stream.batch.config;
-  faults : g.T.ItemTaker.faults l.taker ≡ g.T.ItemTaker.faults l.initial.taker;
-  received : ReceivedAt g.T.ItemTaker.took l.initial.stream l.stream l.initial.taker l.taker
+  received : ReceivedAt g.T.ItemWatch.took l.initial.stream l.stream l.initial.taker l.taker
       (map (λ bit. bit == 1) (take l.done l.bits));
 }
 

@@ -1,4 +1,4 @@
-use Rattle.std.proofs.Common.{rules, ◌≡◌, ◌⊎◌, ◌<◌, ◌-◌, ◌∙◌, ℕ, nat_lt, if◌then◌else◌, inl, inr, List, [], length, take, drop, true, false, OnOk, Result, Ok, Err, arith, refl, ap, sym, subst, take-append-drop}
+use Rattle.std.proofs.Common.{◌≡◌, ◌⊎◌, ◌<◌, ◌-◌, ◌∙◌, ℕ, nat_lt, if◌then◌else◌, inl, inr, List, [], length, take, drop, true, false, arith, refl, ap, sym, subst}
 use Rattle.std.proofs.lemmas.List.{take_all, take_rest}
 use Rattle.std.proofs.Math.Seq.{take-add}
 use Rattle.std.specs.Option.{is_some}
@@ -7,12 +7,12 @@ use Rattle.tm_base.specs.Handed.{on_handed}
 use Rattle.tm_config.specs.Configuration.{Configuration}
 use Rattle.tm_inner.specs.InnerDecoding.{HoldsMore, InnerDecoding}
 use Rattle.tm_inner.specs.InnerWindows.{AreTold}
-use Rattle.tm_inner.specs.Receiving.{Hands, HandsPrefix}
+use Rattle.tm_inner.specs.Receiving.{Hands}
 use Rattle.tm_inner.proofs.DecodedWindows.{decoded-drained}
 use Rattle.tm_inner.proofs.GivenPieces.{hands-more}
-use Rattle.tm_channel.specs.OctetReceiving.{BitReceiving, FirstWith, MayNotWait, Stages, StagesFor, StagesHand, spare_bits}
+use Rattle.tm_channel.specs.OctetReceiving.{BitReceiving, MayNotWait, Stages, StagesHand, spare_bits}
 use Rattle.tm_channel.proofs.FirstStage.{Fills, fills-of}
-use Rattle.tm_channel.proofs.GivenOctets.{holds-due, holds-part, holds-wait, stages-none}
+use Rattle.tm_channel.proofs.GivenOctets.{holds-due, holds-wait, stages-none}
 use Rattle.tm_channel.proofs.WatchedStages.{decoded-plain, decoded-waits, watched-filled, watched-then}
 use Rattle.tm_channel.proofs.pipeline.take.Goals as goal
 
@@ -29,13 +29,12 @@ loop-done-init g c =
       within = e.most;
       inner = e.config;
       stream = refl;
-      faults = refl;
       holds = record {
         inner = inner;
         config = refl;
         of = c.requires.of;
         first = [];
-        hands = stages-none (on_handed g.T.ItemTaker.took_phase g.T.ItemTaker.took)
+        hands = stages-none (on_handed g.T.ItemWatch.took_phase g.T.ItemWatch.took)
             (record { inner = inner; bits = c.args.stream.now }) c.args.taker.now;
         piece = take c.fill-done.result octets;
         fills = fills;
@@ -48,7 +47,7 @@ loop-done-init g c =
 
 pub loop-done-preserved : goal.loop-done-preserved
 loop-done-preserved g c =
-    let t = g.T.ItemTaker in
+    let t = g.T.ItemWatch in
     let i = c.loop-done.invariant in
     let done = c.loop-done.done in
     let octets = c.args.octets.now in
@@ -63,7 +62,7 @@ loop-done-preserved g c =
     let fills = subst (λ (l : List ℕ). Fills d.new.inner f.new.self (take f.result l)) rest
     (fills-of d.new.inner f.new.self (take (length octets - done) (drop done octets)) f.result
     (record { config = e.config; phase = e.phase.0; stays = e.settled }) e.phase.1 e.coded e.most e.stands) in
-    let ended = c.in-Ok.ensures.decoded.decodes.ended ∙ i.ended in
+    let ended = d.ensures.decoded.decodes.ended ∙ i.ended in
     let watched = g.W.WindowWatch.took in
     record {
       grows = omega (arith, i.grows);
@@ -71,15 +70,14 @@ loop-done-preserved g c =
       within = omega (arith, e.most, i.within);
       inner = e.config ∙ d.ensures.of.0 ∙ i.inner;
       stream = d.ensures.of.1 ∙ i.stream;
-      faults = c.in-Ok.ensures.cause.same ∙ i.faults;
       holds = record {
         inner = d.new.inner;
         config = d.ensures.of.0 ∙ i.inner;
         of = d.ensures.of.1 ∙ i.stream ∙ c.requires.of ∙ sym (d.ensures.of.0 ∙ i.inner);
         first = take done octets;
         hands = holds-due t.took_phase t.took start c.loop-done.inner c.loop-done.stream next c.args.taker.now
-            c.loop-done.taker d.new.taker (take done octets) coded i.holds c.in-Ok.ensures.decoded
-            c.in-Ok.ensures.drained;
+            c.loop-done.taker d.new.taker (take done octets) coded i.holds d.ensures.decoded
+            d.ensures.drained;
         piece = take f.result (drop done octets);
         fills = fills;
         all = sym (take-add done f.result octets);
@@ -91,55 +89,22 @@ loop-done-preserved g c =
           (hands-more watched AreTold c.args.inner.now d.new.inner f.new.self c.args.watch.now d.new.watch d.new.watch
           (take done octets) (take f.result (drop done octets))
           (watched-then watched c.args.inner.now c.loop-done.inner d.new.inner c.args.watch.now c.loop-done.watch
-          d.new.watch (take done octets) (i.told going) c.in-Ok.ensures.watched)
+          d.new.watch (take done octets) (i.told going) d.ensures.watched)
           (watched-filled watched d.new.inner f.new.self d.new.watch (take f.result (drop done octets)) fills
           (ended ∙ going)));
     }
 
-pub returns-in-Err-clause-takes : goal.returns-in-Err-clause-takes
-returns-in-Err-clause-takes g c =
-    let t = g.T.ItemTaker in
-    let i = c.loop-done.invariant in
-    let done = c.loop-done.done in
-    let octets = c.args.octets.now in
-    let d = c.take_decoded in
-    let start : Stages = record { inner = c.args.inner.now; bits = c.args.stream.now } in
-    let next : Stages = record { inner = d.new.inner; bits = d.new.stream } in
-    let coded : is_some c.args.inner.now.config.inner ≡ true =
-    sym c.has_inner_code.ensures ∙ c.if-not-has_inner_code.false in
-    record {
-      inner = d.ensures.of.0 ∙ i.inner;
-      stream = d.ensures.of.1 ∙ i.stream;
-      handed = search rules;
-      prefix = subst (HandsPrefix (on_handed t.took_phase t.took) (on_handed t.broke_phase t.broke) StagesFor
-          (FirstWith c.args.inner.now.config d.new.inner.chosen) start c.args.taker.now d.new.taker)
-          (take-append-drop done octets)
-          (holds-part t.took_phase t.broke_phase t.took t.broke start c.loop-done.inner c.loop-done.stream next
-          c.args.taker.now c.loop-done.taker d.new.taker (take done octets) (drop done octets)
-          c.whole_window_law.ensures.prefix c.closed_prefix_law.ensures coded i.holds c.in-Err.ensures.part);
-      cause = search rules;
-    }
-
-pub returns-then-may_wait-clause-takes : goal.returns-then-may_wait-clause-takes
-returns-then-may_wait-clause-takes g c =
-    let t = g.T.ItemTaker in
-    let i = c.loop-done.invariant in
+pub returns-then-may_wait-clause-handed : goal.returns-then-may_wait-clause-handed
+returns-then-may_wait-clause-handed g c =
+    let took = on_handed g.T.ItemWatch.took_phase g.T.ItemWatch.took in
     let start : Stages = record { inner = c.args.inner.now; bits = c.args.stream.now } in
     let now : Stages = record { inner = c.loop-done.inner; bits = c.loop-done.stream } in
-    let coded : is_some c.args.inner.now.config.inner ≡ true =
-    sym c.has_inner_code.ensures ∙ c.if-not-has_inner_code.false in
-    record {
-      inner = i.inner;
-      stream = i.stream;
-      handed =
-          subst (StagesHand (on_handed t.took_phase t.took) start now c.args.taker.now c.loop-done.taker)
-          (take_all c.loop-done.done c.args.octets.now c.loop-done-test.false)
-          (holds-wait (on_handed t.took_phase t.took) start c.loop-done.inner c.loop-done.stream c.args.taker.now
-          c.loop-done.taker (take c.loop-done.done c.args.octets.now) c.spare_bits.result coded i.holds
-          c.spare_bits.ensures.value c.spare_bits.ensures.most (c.may_wait.ensures.waits c.if-may_wait.true));
-      prefix = search rules;
-      cause = search rules;
-    }
+    subst (StagesHand took start now c.args.taker.now c.loop-done.taker)
+    (take_all c.loop-done.done c.args.octets.now c.loop-done-test.false)
+    (holds-wait took start c.loop-done.inner c.loop-done.stream c.args.taker.now c.loop-done.taker
+    (take c.loop-done.done c.args.octets.now) c.spare_bits.result
+    (sym c.has_inner_code.ensures ∙ c.if-not-has_inner_code.false) c.loop-done.invariant.holds
+    c.spare_bits.ensures.value c.spare_bits.ensures.most (c.may_wait.ensures.waits c.if-may_wait.true))
 
 -- nothing was decoded, or not all octets were put in at first
 pub returns-then-may_wait-clause-waits : goal.returns-then-may_wait-clause-waits
@@ -152,8 +117,8 @@ returns-then-may_wait-clause-waits g c = λ _.
       | inr same ↦ inl (same.1, same.2)
     ]
 
-pub returns-in-Ok-take_decoded-clause-waits : goal.returns-in-Ok-take_decoded-clause-waits
-returns-in-Ok-take_decoded-clause-waits g c = λ _.
+pub returns-clause-waits : goal.returns-clause-waits
+returns-clause-waits g c = λ _.
     let f = c.fill-done in
     let spare : ℕ = if nat_lt 1 (g.C.Crew.share c.args.crew.now 2) then spare_bits c.args.stream.now else 0 in
     let more = c.may_wait.ensures.lets c.if-may_wait.false in
@@ -172,53 +137,18 @@ returns-in-Ok-take_decoded-clause-waits g c = λ _.
           ],
     )
 
-pub returns-in-Ok-take_decoded-clause-takes : goal.returns-in-Ok-take_decoded-clause-takes
-returns-in-Ok-take_decoded-clause-takes g c =
-    let t = g.T.ItemTaker in
-    let i = c.loop-done.invariant in
-    let d = c.take_decoded-2 in
-    let done = c.loop-done.done in
-    let start : Stages = record { inner = c.args.inner.now; bits = c.args.stream.now } in
-    let next : Stages = record { inner = d.new.inner; bits = d.new.stream } in
-    let coded : is_some c.args.inner.now.config.inner ≡ true =
-    sym c.has_inner_code.ensures ∙ c.if-not-has_inner_code.false in
-    record {
-      inner = d.ensures.of.0 ∙ i.inner;
-      stream = d.ensures.of.1 ∙ i.stream;
-      handed =
-          subst (StagesHand (on_handed t.took_phase t.took) start next c.args.taker.now d.new.taker)
-          (take_all done c.args.octets.now c.loop-done-test.false)
-          (holds-due t.took_phase t.took start c.loop-done.inner c.loop-done.stream next c.args.taker.now
-          c.loop-done.taker d.new.taker (take done c.args.octets.now) coded i.holds
-          c.in-Ok-take_decoded.ensures.decoded c.in-Ok-take_decoded.ensures.drained);
-      prefix = search rules;
-      cause = search rules;
-    }
-
-pub returns-in-Err-take_decoded-clause-takes : goal.returns-in-Err-take_decoded-clause-takes
-returns-in-Err-take_decoded-clause-takes g c =
-    let t = g.T.ItemTaker in
-    let i = c.loop-done.invariant in
-    let done = c.loop-done.done in
-    let octets = c.args.octets.now in
+pub returns-clause-handed : goal.returns-clause-handed
+returns-clause-handed g c =
+    let t = g.T.ItemWatch in
     let d = c.take_decoded-2 in
     let start : Stages = record { inner = c.args.inner.now; bits = c.args.stream.now } in
     let next : Stages = record { inner = d.new.inner; bits = d.new.stream } in
-    let coded : is_some c.args.inner.now.config.inner ≡ true =
-    sym c.has_inner_code.ensures ∙ c.if-not-has_inner_code.false in
-    record {
-      inner = d.ensures.of.0 ∙ i.inner;
-      stream = d.ensures.of.1 ∙ i.stream;
-      handed = search rules;
-      prefix = subst (HandsPrefix (on_handed t.took_phase t.took) (on_handed t.broke_phase t.broke) StagesFor
-          (FirstWith c.args.inner.now.config d.new.inner.chosen) start c.args.taker.now d.new.taker)
-          (take-append-drop done octets)
-          (holds-part t.took_phase t.broke_phase t.took t.broke start c.loop-done.inner c.loop-done.stream next
-          c.args.taker.now c.loop-done.taker d.new.taker (take done octets) (drop done octets)
-          c.whole_window_law.ensures.prefix c.closed_prefix_law.ensures coded i.holds
-          c.in-Err-take_decoded.ensures.part);
-      cause = search rules;
-    }
+    subst (StagesHand (on_handed t.took_phase t.took) start next c.args.taker.now d.new.taker)
+    (take_all c.loop-done.done c.args.octets.now c.loop-done-test.false)
+    (holds-due t.took_phase t.took start c.loop-done.inner c.loop-done.stream next c.args.taker.now
+    c.loop-done.taker d.new.taker (take c.loop-done.done c.args.octets.now)
+    (sym c.has_inner_code.ensures ∙ c.if-not-has_inner_code.false) c.loop-done.invariant.holds d.ensures.decoded
+    d.ensures.drained)
 
 -- ---- what the watch was told
 
@@ -227,27 +157,23 @@ returns-then-may_wait-clause-watched g c = λ going.
     subst (Hands g.W.WindowWatch.took AreTold c.args.inner.now c.loop-done.inner c.args.watch.now c.loop-done.watch)
     (take_all c.loop-done.done c.args.octets.now c.loop-done-test.false) (c.loop-done.invariant.told going)
 
-pub returns-in-Ok-take_decoded-clause-watched : goal.returns-in-Ok-take_decoded-clause-watched
-returns-in-Ok-take_decoded-clause-watched g c = λ going.
+pub returns-clause-watched : goal.returns-clause-watched
+returns-clause-watched g c = λ going.
     let d = c.take_decoded-2 in
     let done = c.loop-done.done in
     subst (Hands g.W.WindowWatch.took AreTold c.args.inner.now d.new.inner c.args.watch.now d.new.watch)
     (take_all done c.args.octets.now c.loop-done-test.false)
     (watched-then g.W.WindowWatch.took c.args.inner.now c.loop-done.inner d.new.inner c.args.watch.now
     c.loop-done.watch d.new.watch (take done c.args.octets.now) (c.loop-done.invariant.told going)
-    c.in-Ok-take_decoded.ensures.watched)
+    c.take_decoded-2.ensures.watched)
 
 -- ---- all that is due was decoded
 
-on_ok : {T E P : Type 0} (r : Result T E) → P → OnOk r P
-on_ok (Ok x) p = p
-on_ok (Err e) p = tt
-
 pub returns-then-not-has_inner_code-clause-all : goal.returns-then-not-has_inner_code-clause-all
 returns-then-not-has_inner_code-clause-all g c = λ alone.
-    on_ok c.take_plain.result (decoded-plain c.take_plain.new.inner
-    (ap (λ (k : Configuration). is_some k.inner) c.take_plain.ensures.takes.inner
-    ∙ sym c.has_inner_code.ensures ∙ c.if-not-has_inner_code.true))
+    decoded-plain c.take_plain.new.inner
+    (ap (λ (k : Configuration). is_some k.inner) c.take_plain.ensures.inner
+    ∙ sym c.has_inner_code.ensures ∙ c.if-not-has_inner_code.true)
 
 pub returns-then-may_wait-clause-all : goal.returns-then-may_wait-clause-all
 returns-then-may_wait-clause-all g c = λ alone.
@@ -262,6 +188,6 @@ returns-then-may_wait-clause-all g c = λ alone.
     (c.spare_bits.ensures.exact ∙ ap (λ b. if b then spare_bits c.loop-done.stream else 0) one)
     (c.may_wait.ensures.waits c.if-may_wait.true)
 
-pub returns-in-Ok-take_decoded-clause-all : goal.returns-in-Ok-take_decoded-clause-all
-returns-in-Ok-take_decoded-clause-all g c = λ alone.
-    decoded-drained c.take_decoded-2.new.inner c.in-Ok-take_decoded.ensures.drained
+pub returns-clause-all : goal.returns-clause-all
+returns-clause-all g c = λ alone.
+    decoded-drained c.take_decoded-2.new.inner c.take_decoded-2.ensures.drained

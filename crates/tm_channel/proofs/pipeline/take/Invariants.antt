@@ -13,8 +13,7 @@ invariant-loop-done g l = record {
   within : l.done ≤ length l.octets;
   inner : l.inner.config ≡ l.fn.inner.config;
   stream : l.stream.batch.config ≡ l.fn.stream.batch.config;
-  faults : g.T.ItemTaker.faults l.taker ≡ g.T.ItemTaker.faults l.fn.taker;
-  holds : Holds (on_handed g.T.ItemTaker.took_phase g.T.ItemTaker.took)
+  holds : Holds (on_handed g.T.ItemWatch.took_phase g.T.ItemWatch.took)
       (record { inner = l.fn.inner; bits = l.fn.stream }) l.inner l.stream l.fn.taker l.taker
       (take l.done l.octets);
   ended : l.inner.has_ended ≡ l.fn.inner.has_ended;

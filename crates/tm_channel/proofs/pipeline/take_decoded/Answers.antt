@@ -1,42 +1,14 @@
 use Rattle.std.proofs.Common.{◌∙◌, ◌++◌, [], length, arith, refl, ap, sym, subst}
-use Rattle.std.proofs.lemmas.List.{append-nil}
-use Rattle.tm_base.specs.Handed.{on_handed}
-use Rattle.tm_base.specs.Takers.{HandedPart}
-use Rattle.tm_inner.specs.InnerDecoding.{InnerDecoding, IsDrained, IsSettledQueue, held_in, ready_in, unread}
+use Rattle.tm_inner.specs.InnerDecoding.{InnerDecoding, IsDrained, IsSettledQueue, held_in, ready_in}
 use Rattle.tm_inner.specs.InnerWindows.{AreThere, windows_in}
-use Rattle.tm_inner.specs.Phase.{with_phase}
 use Rattle.tm_inner.proofs.ToldWindows.{ToldBut, told-all, told-next, told-read, told-run}
 use Rattle.tm_channel.specs.OctetReceiving.{BitReceiving, Stages}
-use Rattle.tm_channel.proofs.FirstStage.{Running, Runs, running-start, left-falls, decodes-first, running-more, running-none, running-part}
+use Rattle.tm_channel.proofs.FirstStage.{Running, Runs, running-start, left-falls, running-more, running-none}
 use Rattle.tm_channel.proofs.pipeline.take_decoded.Goals as goal
-
-pub returns-in-Err-clause-part : goal.returns-in-Err-clause-part
-returns-in-Err-clause-part g c =
-    let t = g.T.ItemTaker in
-    let d = c.decode-count in
-    let ready = ready_in d.new.self.queue in
-    let phase = unread d.new.self in
-    let e = d.ensures in
-    let run : Runs c.args.inner.now d.new.self ready = record {
-      on = record { config = e.config; phase = e.phase.0; stays = e.settled };
-      ended = e.phase.1;
-      stands = e.stands;
-    } in
-    record {
-      phase = phase;
-      blocks = ready;
-      decodes = decodes-first c.args.inner.now d.new.self c.hand_phase.new.inner ready run c.hand_phase.ensures.read;
-      tried = [];
-      handed = subst (λ l. HandedPart (on_handed t.took_phase t.took) (on_handed t.broke_phase t.broke)
-          c.args.taker.now l c.hand_phase.new.taker) (sym (append-nil (with_phase phase []))) c.in-Err.ensures.err;
-      first = λ bits few stood. tt;
-      symbols = λ given done stood coded of stands known. tt;
-      plain = λ none bits count at few le stood h. tt;
-    }
 
 pub loop-count-init : goal.loop-count-init
 loop-count-init g c =
-    let t = g.T.ItemTaker in
+    let t = g.T.ItemWatch in
     let d = c.decode-count in
     let now = d.new.self in
     let ready = ready_in now.queue in
@@ -56,7 +28,6 @@ loop-count-init g c =
           λ settled. subst (λ (k : InnerDecoding). IsSettledQueue k.queue) (sym read) (e.still settled);
       count = e.count ∙ ap (λ (k : InnerDecoding). length (ready_in k.queue)) (sym read);
       drained = λ none. subst (λ (k : InnerDecoding). IsDrained k.queue) (sym read) (e.drained none);
-      faults = c.in-Ok.ensures.cause.same;
       there = subst (λ (k : InnerDecoding). AreThere k.queue) (sym read) e.there;
       told = subst (λ (k : InnerDecoding). ToldBut g.W.WindowWatch.took c.args.inner.now k c.args.watch.now c.args.watch.now)
           (sym read) (record {
@@ -71,20 +42,20 @@ loop-count-init g c =
           (record { inner = after; bits = c.args.stream.now }) c.args.taker.now c.hand_phase.new.taker
           (ready_in k.queue)) (sym read)
           (running-start t.took_phase t.took c.args.inner.now now after c.args.stream.now c.args.taker.now
-          c.hand_phase.new.taker ready run read e.later c.in-Ok.ensures.ok);
+          c.hand_phase.new.taker ready run read e.later c.hand_phase.ensures.handed);
     }
 
 pub loop-count-smaller : goal.loop-count-smaller
 loop-count-smaller g c =
-    left-falls c.loop-count.count c.decode-count-in-Ok-take_ready.result
-    (length (held_in c.decode-count-in-Ok-take_ready.new.self.queue))
-    (length (held_in c.loop-count.inner.queue)) c.loop-count-test.true c.decode-count-in-Ok-take_ready.ensures.shorter
+    left-falls c.loop-count.count c.decode-count-in-loop-count.result
+    (length (held_in c.decode-count-in-loop-count.new.self.queue))
+    (length (held_in c.loop-count.inner.queue)) c.loop-count-test.true c.decode-count-in-loop-count.ensures.shorter
 
 pub loop-count-preserved : goal.loop-count-preserved
 loop-count-preserved g c =
-    let t = g.T.ItemTaker in
+    let t = g.T.ItemWatch in
     let i = c.loop-count.invariant in
-    let d = c.decode-count-in-Ok-take_ready in
+    let d = c.decode-count-in-loop-count in
     let e = d.ensures in
     let before = c.loop-count.inner in
     let ready = ready_in before.queue in
@@ -100,7 +71,6 @@ loop-count-preserved g c =
       settled = λ settled. e.still (i.settled settled);
       count = e.count;
       drained = e.drained;
-      faults = c.in-Ok-take_ready.ensures.cause.same ∙ i.faults;
       there = e.there;
       told = told-next g.W.WindowWatch.took c.args.inner.now before d.new.self c.args.watch.now c.loop-count.watch
           c.watch_ready.new.watch i.told c.watch_ready.ensures
@@ -110,22 +80,8 @@ loop-count-preserved g c =
           c.origin.result c.args.taker.now c.loop-count.taker c.take_ready.new.taker ready next i.runs
           (omega (arith, c.loop-count-test.true, i.count))
           (c.note.ensures.same, c.note.ensures.noted, c.origin.ensures.value, c.origin.ensures.few)
-          c.in-Ok-take_ready.ensures.handed run e.later;
+          c.take_ready.ensures.handed run e.later;
     }
-
-pub returns-in-Err-take_ready-clause-of : goal.returns-in-Err-take_ready-clause-of
-returns-in-Err-take_ready-clause-of g c = let i = c.loop-count.invariant in (i.config, c.take_ready.ensures.config ∙ ap (λ (v : BitReceiving). v.batch.config) c.note.ensures.same ∙ i.stream)
-
-pub returns-in-Err-take_ready-clause-part : goal.returns-in-Err-take_ready-clause-part
-returns-in-Err-take_ready-clause-part g c =
-    let t = g.T.ItemTaker in
-    let start : Stages = record { inner = c.args.inner.now; bits = c.args.stream.now } in
-    let now : Stages = record { inner = c.loop-count.inner; bits = c.loop-count.stream } in
-    running-part t.took_phase t.broke_phase t.took t.broke start now c.note.new.self c.take_ready.new.stream
-    c.origin.result c.args.taker.now c.loop-count.taker c.take_ready.new.taker (ready_in c.loop-count.inner.queue)
-    c.loop-count.invariant.runs
-    (c.note.ensures.same, c.note.ensures.noted, c.origin.ensures.value, c.origin.ensures.few)
-    c.in-Err-take_ready.ensures.part
 
 pub returns-clause-of : goal.returns-clause-of
 returns-clause-of g c = (c.loop-count.invariant.config, c.loop-count.invariant.stream)
@@ -135,7 +91,7 @@ returns-clause-drained g c = c.loop-count.invariant.drained (omega (arith, c.loo
 
 pub returns-clause-decoded : goal.returns-clause-decoded
 returns-clause-decoded g c =
-    let t = g.T.ItemTaker in
+    let t = g.T.ItemWatch in
     let start : Stages = record { inner = c.args.inner.now; bits = c.args.stream.now } in
     let now : Stages = record { inner = c.loop-count.inner; bits = c.loop-count.stream } in
     running-none t.took_phase t.took start now c.args.taker.now c.loop-count.taker

@@ -12,10 +12,9 @@ invariant-loop-count g l = record {
   settled : IsSettledQueue l.fn.inner.queue → IsSettledQueue l.inner.queue;
   count : l.count ≡ length (ready_in l.inner.queue);
   drained : l.count ≡ 0 → IsDrained l.inner.queue;
-  faults : g.T.ItemTaker.faults l.taker ≡ g.T.ItemTaker.faults l.fn.taker;
   there : AreThere l.inner.queue;
   told : ToldBut g.W.WindowWatch.took l.fn.inner l.inner l.fn.watch l.watch;
-  runs : Running g.T.ItemTaker.took_phase g.T.ItemTaker.took
+  runs : Running g.T.ItemWatch.took_phase g.T.ItemWatch.took
       (record { inner = l.fn.inner; bits = l.fn.stream }) (record { inner = l.inner; bits = l.stream })
       l.fn.taker l.taker (ready_in l.inner.queue);
 }

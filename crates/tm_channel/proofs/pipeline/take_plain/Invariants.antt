@@ -10,8 +10,7 @@ invariant-loop-done g l = record {
   within : l.done ≤ length l.octets;
   inner : l.inner.config ≡ l.initial.inner.config;
   stream : l.stream.batch.config ≡ l.initial.stream.batch.config;
-  faults : g.T.ItemTaker.faults l.taker ≡ g.T.ItemTaker.faults l.initial.taker;
-  handed : StagesHand (on_handed g.T.ItemTaker.took_phase g.T.ItemTaker.took)
+  handed : StagesHand (on_handed g.T.ItemWatch.took_phase g.T.ItemWatch.took)
       (record { inner = l.initial.inner; bits = l.initial.stream }) (record { inner = l.inner; bits = l.stream })
       l.initial.taker l.taker (take l.done l.octets);
   ended : l.inner.has_ended ≡ l.initial.inner.has_ended;

@@ -1,10 +1,10 @@
-use Rattle.std.proofs.Common.{◌≡◌, ◌==◌, ◌++◌, ◌+◌, ◌<◌, ◌∙◌, ℕ, zero, suc, List, [], ◌∷◌, length, take, drop, map, arith, refl, ap, sym, subst, append_assoc, slice_index_or, take-append-drop}
+use Rattle.std.proofs.Common.{◌≡◌, ◌==◌, ◌++◌, ◌+◌, ◌<◌, ◌∙◌, ℕ, zero, suc, List, [], ◌∷◌, length, take, map, arith, refl, ap, sym, subst, append_assoc, slice_index_or}
 use Rattle.std.proofs.lemmas.List.{append-nil, map-append, take_all}
 use Rattle.tm_viterbi.specs.Clean.{kept_bits}
 use Rattle.tm_viterbi.specs.WindowBlock.{WindowBlock}
 use Rattle.tm_inner.specs.InnerDecoding.{ready_in}
-use Rattle.tm_channel.specs.OctetReceiving.{ReceivedAt, ReceivedPartAt, bits_of_blocks}
-use Rattle.tm_channel.proofs.ReceivedPieces.{all_bits-append, part_at-all, part_at-then, received_at-none, received_at-then}
+use Rattle.tm_channel.specs.OctetReceiving.{ReceivedAt, bits_of_blocks}
+use Rattle.tm_channel.proofs.ReceivedPieces.{received_at-none, received_at-then}
 use Rattle.tm_channel.proofs.pipeline.take_ready.Goals as goal
 
 -- the bits of one block more
@@ -31,8 +31,7 @@ bits-next blocks index bits below is =
 pub loop-index-init : goal.loop-index-init
 loop-index-init g c = record {
   config = refl;
-  faults = refl;
-  received = received_at-none g.T.ItemTaker.took c.args.stream.now c.args.taker.now;
+  received = received_at-none g.T.ItemWatch.took c.args.stream.now c.args.taker.now;
 }
 
 pub loop-index-preserved : goal.loop-index-preserved
@@ -42,43 +41,21 @@ loop-index-preserved g c =
     let blocks = ready_in c.args.inner.now.queue in
     let now = c.take_bits.new in
     let bits = c.kept_bits.result.now in
-    let took = g.T.ItemTaker.took in
+    let took = g.T.ItemWatch.took in
     record {
       config = c.take_bits.ensures.config ∙ i.config;
-      faults = c.in-Ok.ensures.cause.same ∙ i.faults;
       received = subst (ReceivedAt took c.args.stream.now now.stream c.args.taker.now now.taker)
           (sym (bits-next blocks index bits (omega (arith, c.loop-index-test.true, c.ready-index-end.ensures))
           c.kept_bits.ensures))
           (received_at-then took c.args.stream.now c.loop-index.stream now.stream c.args.taker.now c.loop-index.taker
           now.taker (bits_of_blocks (take index blocks)) (map (λ bit. bit == 1) bits) i.received
-          c.in-Ok.ensures.handed);
+          c.take_bits.ensures.handed);
     }
-
-pub returns-in-Err-clause-part : goal.returns-in-Err-clause-part
-returns-in-Err-clause-part g c =
-    let i = c.loop-index.invariant in
-    let index = c.loop-index.index in
-    let blocks = ready_in c.args.inner.now.queue in
-    let now = c.take_bits.new in
-    let bits = c.kept_bits.result.now in
-    let took = g.T.ItemTaker.took in
-    let broke = g.T.ItemTaker.broke in
-    let rest = drop (index + 1) blocks in
-    let first = bits_of_blocks (take index blocks) ++ map (λ bit. bit == 1) bits in
-    let whole : first ++ bits_of_blocks rest ≡ bits_of_blocks blocks =
-    ap (λ l. l ++ bits_of_blocks rest)
-    (sym (bits-next blocks index bits (omega (arith, c.loop-index-test.true, c.ready-index-end.ensures)) c.kept_bits.ensures))
-    ∙ sym (all_bits-append (take (index + 1) blocks) rest)
-    ∙ ap (λ (l : List WindowBlock). bits_of_blocks l) (take-append-drop (index + 1) blocks) in
-    subst (ReceivedPartAt took broke c.args.stream.now now.stream c.args.taker.now now.taker) whole
-    (part_at-all took broke c.args.stream.now now.stream c.args.taker.now now.taker first (bits_of_blocks rest)
-    (part_at-then took broke c.args.stream.now c.loop-index.stream now.stream c.args.taker.now c.loop-index.taker
-    now.taker (bits_of_blocks (take index blocks)) (map (λ bit. bit == 1) bits) i.received c.in-Err.ensures.part))
 
 pub returns-clause-handed : goal.returns-clause-handed
 returns-clause-handed g c =
     let blocks = ready_in c.args.inner.now.queue in
-    subst (λ (l : List WindowBlock). ReceivedAt g.T.ItemTaker.took c.args.stream.now c.loop-index.stream
+    subst (λ (l : List WindowBlock). ReceivedAt g.T.ItemWatch.took c.args.stream.now c.loop-index.stream
     c.args.taker.now c.loop-index.taker (bits_of_blocks l))
     (take_all c.loop-index.index blocks (omega (arith, c.loop-index-test.false, c.ready-index-end.ensures)))
     c.loop-index.invariant.received

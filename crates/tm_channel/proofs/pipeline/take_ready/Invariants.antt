@@ -6,7 +6,6 @@ use Rattle.tm_channel.proofs.pipeline.take_ready.Given as goal
 abbrev pub invariant-loop-index : goal.invariant-loop-index
 invariant-loop-index g l = record {
   config : l.stream.batch.config ≡ l.initial.stream.batch.config;
-  faults : g.T.ItemTaker.faults l.taker ≡ g.T.ItemTaker.faults l.initial.taker;
-  received : ReceivedAt g.T.ItemTaker.took l.initial.stream l.stream l.initial.taker l.taker
+  received : ReceivedAt g.T.ItemWatch.took l.initial.stream l.stream l.initial.taker l.taker
       (bits_of_blocks (take l.index (ready_in l.inner.queue)));
 }

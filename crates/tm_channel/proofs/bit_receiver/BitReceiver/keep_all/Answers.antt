@@ -1,10 +1,10 @@
 use Rattle.std.proofs.Common.{◌∙◌, ◌++◌, [], refl}
-use Rattle.tm_base.proofs.Handing.{HandedOver-append, HandedPart-after}
+use Rattle.tm_base.proofs.Handing.{HandedOver-append}
 use Rattle.tm_channel.specs.OctetReceiving.{receiving}
 use Rattle.tm_channel.specs.Due.{due_count_of}
 use Rattle.tm_channel.proofs.Holding.{agree-batch}
-use Rattle.tm_channel.proofs.KeptSymbols.{symbols-handed, symbols-some, symbols-then}
-use Rattle.tm_channel.proofs.Settling.{settling-all, settling-broke, settling-handed, settling-start}
+use Rattle.tm_channel.proofs.KeptSymbols.{symbols-handed, symbols-then}
+use Rattle.tm_channel.proofs.Settling.{settling-all, settling-handed, settling-start}
 use Rattle.tm_channel.proofs.bit_receiver.BitReceiver.keep_all.Goals as goal
 
 pub loop-self-init : goal.loop-self-init
@@ -13,7 +13,6 @@ loop-self-init g c =
       agree = c.requires.agree;
       few = c.requires.few;
       config = refl;
-      faults = refl;
       settling = (
         [],
         refl,
@@ -25,20 +24,19 @@ loop-self-init g c =
 pub loop-self-preserved : goal.loop-self-preserved
 loop-self-preserved g c =
     let i = c.loop-self.invariant in
-    let took = g.T.ItemTaker.took in
+    let took = g.T.ItemWatch.took in
     let start = receiving c.args.self.now c.args.origins.now in
     let before = receiving c.loop-self.self c.args.origins.now in
     let middle = receiving c.keep_next.new.self c.args.origins.now in
     let now = receiving c.hand_full.new.self c.args.origins.now in
     let stored = c.keep_next.ensures.kept c.loop-self-test.true in
-    let some = c.in-Ok.ensures.all in record {
+    let some = c.hand_full.ensures.all in record {
       agree =
           agree-batch middle.finder now.finder middle.recent now.recent middle.batch now.batch
           c.hand_full.ensures.finder c.hand_full.ensures.recent c.hand_full.ensures.config
           c.hand_full.ensures.written c.keep_next.ensures.agree;
       few = c.hand_full.ensures.few;
       config = c.hand_full.ensures.config ∙ c.keep_next.ensures.config ∙ i.config;
-      faults = c.in-Ok.ensures.cause.same ∙ i.faults;
       settling = (
         i.settling.0 ++ some.0,
         HandedOver-append took c.args.taker.now c.loop-self.taker c.hand_full.new.taker i.settling.0 some.0
@@ -57,29 +55,6 @@ loop-self-preserved g c =
             (now_at.0, symbols-then at count i.settling.0 some.0 was.1 now_at.1),
       );
     }
-
-pub returns-in-Err-clause-broke : goal.returns-in-Err-clause-broke
-returns-in-Err-clause-broke g c =
-    let i = c.loop-self.invariant in
-    let start = receiving c.args.self.now c.args.origins.now in
-    let before = receiving c.loop-self.self c.args.origins.now in
-    let middle = receiving c.keep_next.new.self c.args.origins.now in
-    let stored = c.keep_next.ensures.kept c.loop-self-test.true in
-    let some = c.in-Err.ensures.broke in (
-      i.settling.0 ++ some.1,
-      HandedPart-after g.T.ItemTaker.took g.T.ItemTaker.broke c.args.taker.now c.loop-self.taker c.hand_full.new.taker
-          i.settling.0 some.1 i.settling.1 some.4,
-      λ bits more short h. settling-broke start before middle stored.0 some.0 some.1 i.config
-          c.keep_next.ensures.config stored.1 some.3 some.2 bits more i.settling.0 short
-          (i.settling.2 bits more short h),
-      λ bits more count at few le h s.
-          let was = i.settling.3 bits more count at few le h s in
-          let held = i.settling.2 bits more few h in
-          let kept = c.keep_next.ensures.symbols (due_count_of start.batch.config held.found) (bits ++ more) held.found
-          count at few le held.holds was.0 in
-          symbols-then at count i.settling.0 some.1 was.1
-          (symbols-some at count some.0 middle.batch.symbols some.1 some.5 kept.stored),
-    )
 
 pub returns-clause-all : goal.returns-clause-all
 returns-clause-all g c =

@@ -12,8 +12,7 @@ invariant-loop-self g l = record {
   agree : Agree l.self.finder l.self.recent l.self.batch;
   few : length l.self.batch.stored < l.self.batch.config.batch;
   config : l.self.batch.config ≡ l.initial.self.batch.config;
-  faults : g.T.ItemTaker.faults l.taker ≡ g.T.ItemTaker.faults l.initial.taker;
-  settling : (items : List ItemValue) × HandedOver g.T.ItemTaker.took l.initial.taker items l.taker
+  settling : (items : List ItemValue) × HandedOver g.T.ItemWatch.took l.initial.taker items l.taker
       × ((bits more : List Bool) → length (bits ++ more) < 2 ^ 63
       → HoldsMore l.initial.self.finder l.initial.self.recent l.initial.self.batch
       (due_count l.initial.self.batch.config bits) bits more

@@ -1,12 +1,12 @@
-use Rattle.std.proofs.Common.{◌≡◌, ◌+◌, ◌-◌, ◌*◌, ◌/◌, ◌%◌, ◌<◌, ◌≤◌, ℕ, Bool, List, ◌∙◌, drop, take, length, arith, ap, refl, subst, length-take-le, length-drop}
+use Rattle.std.proofs.Common.{◌≡◌, ◌+◌, ◌-◌, ◌*◌, ◌/◌, ◌%◌, ◌<◌, ◌≤◌, ℕ, Bool, List, drop, take, length, arith, ap, refl, subst, length-take-le, length-drop}
 use Rattle.tm_base.specs.Bits.{bits_of}
 use Rattle.tm_sync.specs.Finding.{Recent}
-use Rattle.tm_channel.specs.OctetReceiving.{BitReceiving, ReceivedAt, ReceivedPartAt, receiving}
+use Rattle.tm_channel.specs.OctetReceiving.{BitReceiving, ReceivedAt, receiving}
 use Rattle.tm_channel.specs.Receiving.{bits_between}
-use Rattle.tm_channel.proofs.Between.{between-all, between-joined, between-none, between-octets, between-rest}
+use Rattle.tm_channel.proofs.Between.{between-all, between-joined, between-none, between-octets}
 use Rattle.tm_channel.proofs.Holding.{agree-more, holds-more}
 use Rattle.tm_channel.proofs.KeptSymbols.{symbols-stored}
-use Rattle.tm_channel.proofs.ReceivedPieces.{part_at-all, part_at-pushed, part_at-then, received_at-none, received_at-pushed, received_at-then}
+use Rattle.tm_channel.proofs.ReceivedPieces.{received_at-none, received_at-pushed, received_at-then}
 use Rattle.tm_channel.proofs.bit_receiver.BitReceiver.receive.Goals as goal
 
 -- the bits of whole octets after the first ones
@@ -25,12 +25,11 @@ loop-first-init g c =
       begun = omega arith;
       within = omega (arith, from, c.requires.from);
       ready = c.requires.ready;
-      faults = refl;
-      received = subst (λ to. ReceivedAt g.T.ItemTaker.took start start c.args.taker.now c.args.taker.now
+      received = subst (λ to. ReceivedAt g.T.ItemWatch.took start start c.args.taker.now c.args.taker.now
           (bits_between c.args.from to c.args.octets.now)) from
-          (subst (ReceivedAt g.T.ItemTaker.took start start c.args.taker.now c.args.taker.now)
+          (subst (ReceivedAt g.T.ItemWatch.took start start c.args.taker.now c.args.taker.now)
           (between-none c.args.from c.args.octets.now)
-          (received_at-none g.T.ItemTaker.took start c.args.taker.now));
+          (received_at-none g.T.ItemWatch.took start c.args.taker.now));
     }
 
 pub push-requires-clause-from : goal.push-requires-clause-from
@@ -76,7 +75,7 @@ loop-first-preserved g c =
     let first = c.loop-first.first in
     let begun = c.loop-first.begun in
     let end = first + c.min.result in
-    let took = g.T.ItemTaker.took in
+    let took = g.T.ItemWatch.took in
     let start = receiving c.args.self.now c.args.origins.now in
     let before = receiving c.loop-first.self c.args.origins.now in
     let middle : BitReceiving = record {
@@ -86,7 +85,7 @@ loop-first-preserved g c =
       origins = c.args.origins.now;
     } in
     let now = receiving c.keep_all.new.self c.args.origins.now in
-    let some = c.in-Ok.ensures.all in
+    let some = c.keep_all.ensures.all in
     let room = room-left before.recent.size (length before.recent.bits) _ i.ready.short i.ready.agree.sized in
     let rises : 0 < c.min.result = omega (arith, room, c.free.ensures, c.min.ensures, c.loop-first-test.true) in
     let from = i.first in
@@ -101,7 +100,6 @@ loop-first-preserved g c =
       begun = omega arith;
       within = omega (arith, c.min.ensures, c.loop-first-test.true);
       ready = c.keep_all.ensures.ready;
-      faults = c.in-Ok.ensures.cause.same ∙ i.faults;
       received = subst (ReceivedAt took start now c.args.taker.now c.keep_all.new.taker)
           (between-joined c.args.from (8 * first + begun) (8 * end + 0) octets from (omega (arith, odd, rises)))
           (received_at-then took start before now c.args.taker.now c.loop-first.taker c.keep_all.new.taker
@@ -118,52 +116,11 @@ loop-first-smaller g c =
     let room = room-left r.recent.size (length r.recent.bits) _ i.ready.short i.ready.agree.sized in
     omega (arith, room, c.free.ensures, c.min.ensures, c.loop-first-test.true)
 
-pub returns-in-Err-clause-part : goal.returns-in-Err-clause-part
-returns-in-Err-clause-part g c =
-    let i = c.loop-first.invariant in
-    let octets = c.args.octets.now in
-    let first = c.loop-first.first in
-    let begun = c.loop-first.begun in
-    let end = first + c.min.result in
-    let took = g.T.ItemTaker.took in
-    let broke = g.T.ItemTaker.broke in
-    let start = receiving c.args.self.now c.args.origins.now in
-    let before = receiving c.loop-first.self c.args.origins.now in
-    let middle : BitReceiving = record {
-      finder = before.finder;
-      recent = c.push.new.self;
-      batch = before.batch;
-      origins = c.args.origins.now;
-    } in
-    let now = receiving c.keep_all.new.self c.args.origins.now in
-    let some = c.in-Err.ensures.broke in
-    let room = room-left before.recent.size (length before.recent.bits) _ i.ready.short i.ready.agree.sized in
-    let rises : 0 < c.min.result = omega (arith, room, c.free.ensures, c.min.ensures, c.loop-first-test.true) in
-    let from = i.first in
-    let odd = i.begun in
-    let pushed = part_at-pushed took broke before middle now c.loop-first.taker c.keep_all.new.taker
-    (piece_of first c.min.result begun octets) some.0 refl
-    (λ handed bits few h. holds-more before.finder before.recent c.push.new.self before.batch
-    (piece_of first c.min.result begun octets) (ap (λ (l : Recent). l.bits) c.push.ensures) handed bits h)
-    (λ count at h. symbols-stored before middle count at (omega arith) refl refl h.stored h)
-    c.keep_all.ensures.config some.2 some.3 some.1 in
-    let part = subst (ReceivedPartAt took broke start now c.args.taker.now c.keep_all.new.taker)
-    (between-joined c.args.from (8 * first + begun) (8 * end + 0) octets from (omega (arith, odd, rises)))
-    (part_at-then took broke start before now c.args.taker.now c.loop-first.taker c.keep_all.new.taker
-    (bits_between c.args.from (8 * first + begun) octets) (bits_between (8 * first + begun) (8 * end + 0) octets)
-    i.received
-    (subst (ReceivedPartAt took broke before now c.loop-first.taker c.keep_all.new.taker)
-    (between-octets first end begun octets (omega arith) (omega (arith, odd, rises))) pushed)) in
-    subst (ReceivedPartAt took broke start now c.args.taker.now c.keep_all.new.taker)
-    (between-rest c.args.from (8 * end + 0) octets (omega (arith, from, odd, rises)))
-    (part_at-all took broke start now c.args.taker.now c.keep_all.new.taker (bits_between c.args.from (8 * end + 0) octets)
-    _ part)
-
 pub returns-clause-handed : goal.returns-clause-handed
 returns-clause-handed g c =
     let start = receiving c.args.self.now c.args.origins.now in
     let now = receiving c.loop-first.self c.args.origins.now in
-    subst (ReceivedAt g.T.ItemTaker.took start now c.args.taker.now c.loop-first.taker)
+    subst (ReceivedAt g.T.ItemWatch.took start now c.args.taker.now c.loop-first.taker)
     (between-all c.args.from (8 * c.loop-first.first + c.loop-first.begun) c.args.octets.now
     (omega (arith, c.loop-first-test.false)))
     c.loop-first.invariant.received

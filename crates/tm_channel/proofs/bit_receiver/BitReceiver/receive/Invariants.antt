@@ -1,4 +1,4 @@
-use Rattle.std.proofs.Common.{◌≡◌, ◌+◌, ◌-◌, ◌*◌, ◌<◌, ◌≤◌, length}
+use Rattle.std.proofs.Common.{◌+◌, ◌-◌, ◌*◌, ◌<◌, ◌≤◌, length}
 use Rattle.tm_channel.specs.OctetReceiving.{ReceivedAt, receiving}
 use Rattle.tm_channel.specs.Receiving.{IsReady, bits_between}
 use Rattle.tm_channel.proofs.bit_receiver.BitReceiver.receive.Given as goal
@@ -9,8 +9,7 @@ invariant-loop-first g l = record {
   begun : l.begun < 8;
   within : 8 * l.first + l.begun ≤ 8 * length l.octets;
   ready : IsReady l.self.finder l.self.recent l.self.batch;
-  faults : g.T.ItemTaker.faults l.taker ≡ g.T.ItemTaker.faults l.initial.taker;
-  received : ReceivedAt g.T.ItemTaker.took (receiving l.initial.self l.origins)
+  received : ReceivedAt g.T.ItemWatch.took (receiving l.initial.self l.origins)
       (receiving l.self l.origins) l.initial.taker l.taker
       (bits_between l.from (8 * l.first + l.begun) l.octets);
 }

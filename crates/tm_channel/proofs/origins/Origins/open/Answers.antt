@@ -1,4 +1,4 @@
-use Rattle.std.proofs.Common.{◌≡◌, ◌≤◌, ◌+◌, ◌*◌, ◌/◌, ◌∙◌, ℕ, zero, suc, sym, subst, arith, add-mul}
+use Rattle.std.proofs.Common.{◌≤◌, ◌+◌, ◌*◌, ◌/◌, ◌∙◌, ℕ, zero, suc, sym, subst, arith, add-mul}
 use Rattle.std.proofs.Math.Nat.{lt-div-mul-add}
 use Rattle.tm_config.specs.Configuration.{codeblock_length}
 use Rattle.tm_sync.specs.Places.{settled_by}

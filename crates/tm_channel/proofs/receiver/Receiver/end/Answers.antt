@@ -1,4 +1,4 @@
-use Rattle.std.proofs.Common.{rules, ◌≡◌, ℕ, List, ◌++◌, true, refl, sym, subst, Ok, Err}
+use Rattle.std.proofs.Common.{rules, ◌≡◌, ℕ, List, ◌++◌, true, false, refl, sym, subst, Ok, Err}
 use Rattle.tm_base.specs.Handed.{items_of, on_handed}
 use Rattle.tm_config.specs.Configuration.{Configuration}
 use Rattle.tm_config.specs.Accepted.{IsAccepted}
@@ -11,54 +11,72 @@ use Rattle.tm_channel.specs.Handing.{AreReceived, AreReceivedPrefix}
 use Rattle.tm_channel.specs.Most.{AreFew}
 use Rattle.tm_channel.specs.OctetReceiving.{OctetReceiving}
 use Rattle.tm_channel.specs.declared.receiver.RecvError.TheVariants.{Taker}
+use Rattle.tm_channel.proofs.FirstItems.{handed-prefix}
+use Rattle.tm_channel.proofs.Until.{PassesAll, passes-all}
 use Rattle.tm_channel.proofs.receiver.Receiver.end.Goals as goal
 
 pub returns-clause-finishes : goal.returns-clause-finishes
 returns-clause-finishes g c =
+    let t = g.T.ItemTaker in
     let s = c.self.inside in
     let now : OctetReceiving = record {
       config = s.config;
       has_stopped = true;
-      stages = record { inner = c.end.new.inner; bits = c.end.new.stream };
+      stages = record { inner = c.end-totals.new.inner; bits = c.end-totals.new.stream };
       by = c.workers_by-self-inside.result;
     } in
-    let took = on_handed g.T.ItemTaker.took_phase g.T.ItemTaker.took in
-    let broke = on_handed g.T.ItemTaker.broke_phase g.T.ItemTaker.broke in
+    let took = on_handed t.took_phase t.took in
+    let broke = on_handed t.broke_phase t.broke in
+    let until = c.end-totals.new.taker in
+    let p = c.end-totals.ensures.handed in
+    let all = passes-all t.took_phase t.broke_phase t.took t.broke t.faults t.is_last _ until p.0 p.1 in
+    let passed = subst (λ f. PassesAll took broke t.faults t.is_last p.0 false c.args.taker.now f until.taker.now)
+    c.if-has_failed.false all.1 in
     let ok = subst IsAccepted (sym c.self.invariant.0) c.self.invariant.2 in
-    let p = c.in-Ok.ensures.handed in
-    subst (λ (r : OctetReceiving). Finishes took broke g.T.ItemTaker.faults g.T.ItemTaker.is_last r now
-    c.args.taker.now c.end.new.taker (Ok c.in-Ok.totals)) c.self.view_is (record {
+    let loan : until.taker.ghost_name ≡ _ = all.0 in
+    let finished : Finishes took broke t.faults t.is_last c.args.self.now now c.args.taker.now until.taker.now (Ok c.end-totals.result) =
+    subst (λ (r : OctetReceiving). Finishes took broke t.faults t.is_last r now c.args.taker.now until.taker.now
+    (Ok c.end-totals.result)) c.self.view_is (record {
       call = search rules;
       stops = refl;
       config = refl;
       handed = (
         p.0,
-        p.1,
-        λ given done stood. subst (λ (k : Configuration). AreReceived k given (done ++ p.0) c.in-Ok.totals)
+        passed.0,
+        λ given done stood. subst (λ (k : Configuration). AreReceived k given (done ++ p.0) c.end-totals.result)
             c.self.invariant.0 (p.2 given done stood).0,
         λ given done stood. subst (λ (k : Configuration). AreFew k 0 (items_of p.0)) c.self.invariant.0
             ((p.2 given done stood).1 ok),
       );
       prefix = search rules;
       chosen =
-          λ given done stood _. subst (λ (k : Configuration). IsChosen k given c.end.new.inner.chosen)
-          c.self.invariant.0 (c.end.ensures.chosen given done stood);
-    })
+          λ given done stood _. subst (λ (k : Configuration). IsChosen k given c.end-totals.new.inner.chosen)
+          c.self.invariant.0 (c.end-totals.ensures.chosen given done stood);
+    }) in
+    search rules
 
-pub returns-in_default-clause-finishes : goal.returns-in_default-clause-finishes
-returns-in_default-clause-finishes g c =
+-- all that is left counts as tried
+pub returns-then-has_failed-clause-finishes : goal.returns-then-has_failed-clause-finishes
+returns-then-has_failed-clause-finishes g c =
+    let t = g.T.ItemTaker in
     let s = c.self.inside in
     let now : OctetReceiving = record {
       config = s.config;
       has_stopped = true;
-      stages = record { inner = c.end.new.inner; bits = c.end.new.stream };
+      stages = record { inner = c.end-totals.new.inner; bits = c.end-totals.new.stream };
       by = c.workers_by-self-inside.result;
     } in
-    let took = on_handed g.T.ItemTaker.took_phase g.T.ItemTaker.took in
-    let broke = on_handed g.T.ItemTaker.broke_phase g.T.ItemTaker.broke in
-    let p = c.in_default.ensures.prefix in
-    subst (λ (r : OctetReceiving). Finishes took broke g.T.ItemTaker.faults g.T.ItemTaker.is_last r now
-    c.args.taker.now c.end.new.taker (Err Taker)) c.self.view_is (record {
+    let took = on_handed t.took_phase t.took in
+    let broke = on_handed t.broke_phase t.broke in
+    let until = c.end-totals.new.taker in
+    let p = c.end-totals.ensures.handed in
+    let all = passes-all t.took_phase t.broke_phase t.took t.broke t.faults t.is_last _ until p.0 p.1 in
+    let passed = subst (λ f. PassesAll took broke t.faults t.is_last p.0 false c.args.taker.now f until.taker.now)
+    c.if-has_failed.true all.1 in
+    let loan : until.taker.ghost_name ≡ _ = all.0 in
+    let finished : Finishes took broke t.faults t.is_last c.args.self.now now c.args.taker.now until.taker.now (Err Taker) =
+    subst (λ (r : OctetReceiving). Finishes took broke t.faults t.is_last r now c.args.taker.now until.taker.now
+    (Err Taker)) c.self.view_is (record {
       call = search rules;
       stops = refl;
       config = refl;
@@ -66,20 +84,22 @@ returns-in_default-clause-finishes g c =
       prefix =
           λ _. (
             p.0,
-            p.1,
+            passed.0,
             λ given done stood. subst (λ (k : Configuration). AreReceivedPrefix k given (done ++ p.0))
-                c.self.invariant.0 (p.2 given done stood),
+                c.self.invariant.0
+                (handed-prefix s.inner.config given (done ++ p.0) c.end-totals.result (p.2 given done stood).0),
           );
       chosen =
-          λ given done stood _. subst (λ (k : Configuration). IsChosen k given c.end.new.inner.chosen)
-          c.self.invariant.0 (c.end.ensures.chosen given done stood);
-    })
+          λ given done stood _. subst (λ (k : Configuration). IsChosen k given c.end-totals.new.inner.chosen)
+          c.self.invariant.0 (c.end-totals.ensures.chosen given done stood);
+    }) in
+    search rules
 
 pub returns-clause-watched : goal.returns-clause-watched
 returns-clause-watched g c =
-    let p = c.in-Ok.ensures.watched in
+    let p = c.end-totals.ensures.watched in
     subst (λ (r : OctetReceiving). (last : List Window)
-    × HandedOver g.W.WindowWatch.took c.args.watch.now last c.end.new.watch
+    × HandedOver g.W.WindowWatch.took c.args.watch.now last c.end-totals.new.watch
     × ((given : List ℕ) (done : List Window) → AreTold r.stages.inner given done
     → AreWindows r.config given (done ++ last))) c.self.view_is (
       p.0,
@@ -100,5 +120,5 @@ returns-then-self-clause-of g c = kept_config _ _ c.self.view_is c.self.invarian
 pub returns-clause-of : goal.returns-clause-of
 returns-clause-of g c = kept_config _ _ c.self.view_is c.self.invariant.0 c.self.invariant.2
 
-pub returns-in_default-clause-of : goal.returns-in_default-clause-of
-returns-in_default-clause-of g c = kept_config _ _ c.self.view_is c.self.invariant.0 c.self.invariant.2
+pub returns-then-has_failed-clause-of : goal.returns-then-has_failed-clause-of
+returns-then-has_failed-clause-of g c = kept_config _ _ c.self.view_is c.self.invariant.0 c.self.invariant.2
