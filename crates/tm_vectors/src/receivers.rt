@@ -196,7 +196,9 @@ fn check_fault_of_a_batch(
         feed(rt, receiver, &UNIT, taker)?;
     }
     assert!(rt; feed(rt, receiver, &UNIT, taker) == Err(RecvError::Taker));
-    check_stopped(rt, receiver, taker)
+    check_stopped(rt, receiver, taker)?;
+    assert!(rt; taker.faults == 1, "items after the fault");
+    Ok(())
 }
 
 // Items are handed over before the end where there are 32 of them.
