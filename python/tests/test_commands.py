@@ -9,7 +9,7 @@ import sys
 import pytest
 from links import PROGRAM, TOP, frames, levels, noise, run, soft, tmchan
 
-PYTHON = os.path.join(TOP, "docs", "PYTHON.md")
+GUIDE = os.path.join(TOP, "docs", "GUIDE.md")
 KNOWN = ["--input", "u8", "--depth", "2", "--length", "100"]
 LINK, SENT = tmchan.Link(depth=2, length=100), frames(30, 100)
 
@@ -55,9 +55,9 @@ def test_forms_of_output(recording):
 
 
 def fields_of(kind):
-    """The fields of a line, as docs/PYTHON.md has them: name, and type."""
-    text = pathlib.Path(PYTHON).read_text().split(f"<!-- json: {kind} -->")[1].split("<!--")[0]
-    return dict(re.findall(r"^\| `(\w+)` \| (\w+)", text, re.M))
+    """The fields of a line, as docs/GUIDE.md has them, in their order: of each name its type, its unit and its text."""
+    text = pathlib.Path(GUIDE).read_text().split(f"<!-- json: {kind} -->")[1].split("<!--")[0]
+    return {name: told for name, *told in re.findall(r"^\| `(\w+)` \| (\w+) \| (\S*) ?\| (.*) \|$", text, re.M)}
 
 
 TYPES = {
@@ -86,21 +86,19 @@ def test_json_lines(recording, tmp_path):
         str(tmp_path / "broken"),
     )
     every = [json.loads(line) for line in written.decode().splitlines()]
+    assert all(line.startswith(b'{"version":1,"kind":"') for line in written.splitlines())
     lines = [it for it in every if it["kind"] != "window"]
     windows = [it for it in every if it["kind"] == "window"]
     assert status == 1 and every[-1] is lines[-1]
     assert [it["kind"] for it in lines] == ["codeblock"] * (len(lines) - 1) + ["end"]
     for line in every:
         fields = fields_of(line["kind"])
-        optional = {} if line["kind"] == "window" else fields_of(line["kind"] + ", where asked")
-        assert list(line)[:2] == ["version", "kind"] and line["version"] == 1
-        assert [it for it in fields if it not in line] == [] and [
-            it for it in line if it not in {**fields, **optional}
-        ] == []
+        every_field = {**fields, **({} if line["kind"] == "window" else fields_of(line["kind"] + ", where asked"))}
+        assert list(line)[: len(fields)] == list(fields) and line["version"] == 1
+        assert list(line) == [it for it in every_field if it in line]
         for name, value in line.items():
-            assert type(value) in TYPES[{**fields, **optional}[name]] or (
-                value is None and name in ("channel", "missing", "es_n0")
-            )
+            kind, _, text = every_field[name]
+            assert type(value) in TYPES[kind] or (value is None and "null" in text), (name, value)
     # All that are decoded, in order, and those of a codeblock's bits before it.
     assert sum(it["kept"] for it in windows) == lines[-1]["bits"]
     assert [it["symbol"] for it in windows] == [256 * number for number in range(len(windows))]
