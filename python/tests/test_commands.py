@@ -3,6 +3,7 @@ import json
 import os
 import pathlib
 import re
+import signal
 import subprocess
 import sys
 
@@ -151,6 +152,9 @@ def test_statuses_and_sentences(recording, tmp_path):
         (["--input", "mp3", recording], "invalid choice"),
         (["--json", "-o", "-", recording], "can't both go"),
         (["--from", "-1", recording], "below 0"),
+        (["--scale", "0", recording], "--scale: a number above 0"),
+        (["-o", recording, recording], "would be written over"),
+        (["-o", recording, str(tmp_path / "missing"), recording], "would be written over"),
     ):
         status, written, said = run("receive", *words)
         assert (status, written) == (2, b"") and sentence in said
@@ -170,12 +174,58 @@ def test_statuses_and_sentences(recording, tmp_path):
         status, _, said = run("receive", *KNOWN, "--json", recording, output=full)
         assert status == 4 and "Traceback" not in said
         assert run("send", recording, output=full)[0] == 4
+        status, _, said = run("find", "--input", "u8", recording, output=full)
+        assert status == 4 and "Traceback" not in said
+    status, _, said = run("receive", *KNOWN, recording, "-o", "/dev/full")
+    assert status == 4 and "/dev/full can't be written: No space left on device" in said and "Traceback" not in said
+    assert run("send", recording, "-o", recording)[0] == 2
+    assert pathlib.Path(recording).read_bytes() == LINK.send(SENT)
     assert run("send", "--length", "7", "-", given=bytes(10))[0::2] == (1, "3 octets are left over: frames have 7.\n")
     assert run("send", "--length", "999", "-", given=b"")[0] == 2
     assert run()[0] == run("recieve")[0] == 2
     for name in ("receive", "send", "find"):
         status, written, _ = run(name, "--help")
         assert status == 0 and b"Status 0" in written
+        assert run(name, "--version") == (0, f"tmchan-{name} {tmchan.__version__}\n".encode(), "")
+
+
+def by_shell(line):
+    """Output and status of a line of bash, in which $tmchan is the commands, and what is said."""
+    environment = {
+        **os.environ,
+        "PYTHONPATH": os.pathsep.join(sys.path),
+        "tmchan": f"{sys.executable} -m tmchan",
+        "known": " ".join(KNOWN),
+    }
+    ran = subprocess.run(["bash", "-c", line], stdout=subprocess.PIPE, stderr=subprocess.PIPE, env=environment)
+    return ran.stdout, ran.returncode, ran.stderr.decode()
+
+
+def test_streams_that_are_closed(recording):
+    file = f"'{recording}'"
+    assert by_shell(f"$tmchan receive $known {file} 2>&-") == (b"".join(SENT), 0, "")
+    for line in (f"receive $known {file}", f"receive $known --json {file}", f"find --input u8 {file}"):
+        assert by_shell(f"$tmchan {line} >&-")[1:] == (4, f"tmchan-{line.split()[0]}: standard output is closed\n")
+        written, status, said = by_shell(f"$tmchan {line} | head -c 9; exit ${{PIPESTATUS[0]}}")
+        # (what is short may have been written whole before)
+        assert len(written) == 9 and status in (0, 4) and "Traceback" not in said and "Exception" not in said
+    assert by_shell(f"$tmchan receive $known - -o {file} < {file}")[1] == 2
+    assert by_shell("$tmchan receive $known - <&-")[1] == 3
+
+
+def test_an_interrupt_ends_it():
+    """What came before is written."""
+    words = [sys.executable, "-m", "tmchan", "receive", *KNOWN, "--batch", "1", "--quiet", "-"]
+    environment = {**os.environ, "PYTHONPATH": os.pathsep.join(sys.path)}
+    streams = dict(stdin=subprocess.PIPE, stdout=subprocess.PIPE, stderr=subprocess.PIPE)
+    with subprocess.Popen(words, env=environment, **streams) as live:
+        live.stdin.write(LINK.send(SENT))
+        live.stdin.flush()
+        came = live.stdout.read(2500)
+        live.send_signal(signal.SIGINT)
+        came += live.stdout.read()
+        assert (live.wait(60), live.stderr.read()) == (130, b"tmchan-receive: ended\n")
+    assert b"".join(SENT).startswith(came)
 
 
 def test_empty_and_garbage(tmp_path):
@@ -187,6 +237,7 @@ def test_empty_and_garbage(tmp_path):
                 pytest.importorskip("numpy")
             status, written, said = run("receive", *words, str(tmp_path / name))
             assert (status, written) == (1, b"") and "Traceback" not in said
+        assert ("No frames?" in said) == (name == "garbage")
     assert run("find", str(tmp_path / "empty"))[0] == 1
     assert run("receive", "-", given=b"")[0] == 1
 
@@ -250,6 +301,8 @@ def test_raw_forms(tmp_path):
     swapped = soft(floats).reshape(-1, 2)[:, ::-1].tobytes()
     (tmp_path / "swapped").write_bytes(swapped)
     assert run("receive", "--swap", *KNOWN, str(tmp_path / "swapped"))[:2] == (0, b"".join(SENT))
+    # What is found needs no word.
+    assert run("receive", "--swap", str(tmp_path / "i8"))[:2] == (0, b"".join(SENT))
     bits = tmchan.Link(depth=2, length=100, inner="none").send(SENT)
     (tmp_path / "bits").write_bytes(bytes(it for it in bits))
     assert run("receive", "--input", "packed", "--inner", "none", *KNOWN[2:], str(tmp_path / "bits"))[:2] == (

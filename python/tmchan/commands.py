@@ -18,7 +18,7 @@ from .outside import COUNTERS, Counters, frame_check, kiss
 from .page import Pass, empty_page, page
 from .reception import Reception
 from .recordings import FORMS, wave_header
-from .search import LINK, Found, find
+from .search import LINK, NOTHING, Found, find
 
 # The version of the lines that --json writes.
 JSON = 1
@@ -62,7 +62,54 @@ class Fault(Exception):
 
 
 def say(*lines: str) -> None:
-    print(*lines, sep="\n", file=sys.stderr)
+    # (a standard error that is closed is None, for which print takes standard output)
+    if sys.stderr is not None:
+        print(*lines, sep="\n", file=sys.stderr)
+
+
+def tell(*lines: str) -> None:
+    """Writes lines of text to standard output."""
+    with faults("standard output"):
+        print(*lines, sep="\n", file=standard_output(), flush=True)
+
+
+@contextlib.contextmanager
+def faults(name: str) -> Iterator[None]:
+    """Where writing fails, the fault with its sentence."""
+    try:
+        yield
+    except OSError as error:
+        raise Fault(4, f"{name} can't be written: {error.strerror}") from error
+
+
+def standard_output() -> Any:
+    if sys.stdout is None:
+        raise Fault(4, "standard output is closed")
+    return sys.stdout
+
+
+def is_terminal(stream: Any) -> bool:
+    return stream is not None and stream.isatty()
+
+
+def is_recording(name: Optional[str], files: list[str]) -> bool:
+    """Whether a file that would be written is one of those that are read."""
+    if name is None or not os.path.isfile(name):
+        return False
+    for it in files:
+        with contextlib.suppress(OSError):
+            if os.path.samestat(os.stat(name), os.fstat(0) if it == "-" else os.stat(it)):
+                return True
+    return False
+
+
+class Version(argparse.Action):
+    def __init__(self, option_strings: Any, dest: str) -> None:
+        super().__init__(option_strings, dest, nargs=0, help="show the version and exit")
+
+    def __call__(self, parser: Any, *_: Any) -> None:
+        tell(f"{parser.prog} {library.version()}")
+        parser.exit()
 
 
 def options_of(parser: argparse.ArgumentParser, names: tuple[str, ...], title: str, about: str) -> None:
@@ -164,26 +211,21 @@ class Output:
     """Where frames go: a file, standard output, or nowhere."""
 
     def __init__(self, name: Optional[str]) -> None:
-        self.name, self._file = name, None
-        try:
-            self._file = None if name is None else sys.stdout.buffer if name == "-" else open(name, "wb")
-        except OSError as error:
-            raise Fault(4, f"{name} can't be written: {error.strerror}") from error
+        self.name, self._said = name, "standard output" if name == "-" else str(name)
+        with faults(self._said):
+            self._file = None if name is None else standard_output().buffer if name == "-" else open(name, "wb")
 
     def write(self, octets: bytes) -> None:
         if self._file is None or not octets:
             return
-        try:
+        with faults(self._said):
             self._file.write(octets)
             self._file.flush()
-        except OSError as error:
-            raise Fault(
-                4, f"{self.name if self.name != '-' else 'standard output'} can't be written: {error.strerror}"
-            ) from error
 
     def close(self) -> None:
         if self._file is not None and self.name != "-":
-            self._file.close()
+            with faults(self._said):
+                self._file.close()
 
 
 class Progress:
@@ -191,7 +233,7 @@ class Progress:
 
     def __init__(self, size: Optional[int], name: str) -> None:
         self._bar: Any = None
-        self._size, self._done, self._shown, self._is_shown = size, 0, -1, sys.stderr.isatty()
+        self._size, self._done, self._shown, self._is_shown = size, 0, -1, is_terminal(sys.stderr)
         if self._is_shown:
             with contextlib.suppress(ImportError):
                 from tqdm import tqdm
@@ -238,11 +280,14 @@ def receive_arguments() -> argparse.ArgumentParser:
         prog="tmchan-receive",
         formatter_class=argparse.RawDescriptionHelpFormatter,
         description="Receives the transfer frames of recordings: finds the form and the options of the link,\n"
-        "unless they are given, and writes the frames. Files are octets, or WAV; - is standard input.",
+        "unless they are given, and writes the frames. Files are octets, or WAV; - is standard input.\n\n"
+        "    tmchan-receive pass.f32 --output frames\n"
+        "    tmchan-receive --input u8 --depth 5 --inner 3/4 pass.u8 --output frames --page pass.html",
         epilog="Status 0: frames came, and all codeblocks are good. 1: no frame came, or some codeblock is\n"
         "uncorrectable. 2: the words are refused. 3: reading failed. 4: writing failed.\n\n"
         "What --nrz-m, --check and --counters do is outside of what is proved. docs/PYTHON.md has all of it.",
     )
+    parser.add_argument("--version", action=Version)
     parser.add_argument("files", nargs="+", metavar="FILE")
     parser.add_argument(
         "-o",
@@ -262,7 +307,9 @@ def receive_arguments() -> argparse.ArgumentParser:
         "--page", metavar="FILE", help="draw what came of one recording, as an HTML file; matplotlib is needed"
     )
     parser.add_argument("-q", "--quiet", action="store_true", help="no summary and no progress")
-    group = parser.add_argument_group("the recording")
+    group = parser.add_argument_group(
+        "the recording", "The form, --swap and --nrz-m are found unless --input and an option of the link are given."
+    )
     group.add_argument(
         "--input", choices=list(FORMS), metavar="FORM", help="how its symbols stand there: " + ", ".join(FORMS)
     )
@@ -278,7 +325,8 @@ def receive_arguments() -> argparse.ArgumentParser:
         parser,
         LINK,
         "the link",
-        "Found where none of them is given. Where one is, the others have their defaults, if --input is given too.",
+        "Found unless --input is given and one of them; then the others have their defaults. What is given of them\n"
+        "without --input is taken as known.",
     )
     options_of(
         parser,
@@ -297,6 +345,20 @@ def receive_arguments() -> argparse.ArgumentParser:
     return parser
 
 
+def looked_for(source: Source, is_quiet: bool, **words: Any) -> Found:
+    """What is found of a recording. On a terminal it is shown how far that is."""
+    is_shown = not is_quiet and is_terminal(sys.stderr)
+
+    def progress(done: int, most: int) -> None:
+        print(f"\rlooking for the options: place {done + 1} of {most} ", end="", file=sys.stderr, flush=True)
+
+    try:
+        return find(source.view(), **words, **({"progress": progress} if is_shown else {}))
+    finally:
+        if is_shown:
+            print(f"\r{' ' * 48}\r", end="", file=sys.stderr, flush=True)
+
+
 def chosen(arguments: argparse.Namespace, source: Source) -> Found:
     """The form and the link: what was given, and else what is found."""
     given = given_of(arguments, LINK)
@@ -304,19 +366,25 @@ def chosen(arguments: argparse.Namespace, source: Source) -> Found:
     form = arguments.input or source.form or None
     Link.recording(**given, **receiving)
     if not (form and given):
-        found = find(source.view(), form=form, **given)
+        found = looked_for(source, arguments.quiet, form=form, **given)
         if found.link is None:
             return found
         # Recordings may slip, or be inverted, where nothing was looked at.
         options = {**found.link.options, **recording(found.link.options["inner"]), **receiving}
-        return found._replace(
-            link=Link(**options), swap=found.swap or arguments.swap, nrz_m=found.nrz_m or arguments.nrz_m
-        )
+        return found._replace(link=Link(**options))
     inner = given.get("inner", DEFAULTS["inner"])
     options = {**recording(inner), **given, **receiving}
     if inner == "none":
         options["pack"] = "off"
     return Found(Link(**options), form, arguments.swap, arguments.nrz_m)
+
+
+def hint(found: Found) -> list[str]:
+    """What may be the matter where nothing is seen."""
+    return [
+        "It may have a radio's samples, and no symbols of a demodulator; or a code that is not looked for: "
+        'docs/GUIDE.md, "No frames?".'
+    ] * (found.reason == NOTHING)
 
 
 def batches_of(source: Source, receiver: Reception, progress: Progress) -> Iterator[Received]:
@@ -331,7 +399,8 @@ class Tally:
     """What came of a recording."""
 
     def __init__(self, counters: Optional[str]) -> None:
-        self.good = self.bad = self.fixed = self.bridged = self.inverted = self.checked = self.failed = 0
+        self.good = self.bad = self.fixed = self.bridged = self.bad_bridged = 0
+        self.inverted = self.checked = self.failed = 0
         self.counters = Counters(counters) if counters else None
 
     def push(self, item: Any, is_checked: bool) -> dict[str, Any]:
@@ -340,6 +409,7 @@ class Tally:
         self.bad += not item.good
         self.fixed += item.fixed
         self.bridged += item.bridged
+        self.bad_bridged += item.bridged and not item.good
         self.inverted += item.inverted
         said: dict[str, Any] = {}
         if item.frame is not None and is_checked:
@@ -358,18 +428,20 @@ def number_of(count: int, one: str, many: str = "") -> str:
 
 def summary(tally: Tally, totals: Any, link: Link) -> list[str]:
     lines = []
+    other = ["Other options may fit: without --input they are looked for, and by tmchan-find."] * (not tally.good)
     if not tally.good and not tally.bad:
-        return [f"No sync marker was found in {number_of(totals.bits, 'bit')}."]
+        return [f"No sync marker was found in {number_of(totals.bits, 'bit')}.", *other]
     uncoded = link.options["code"] == "none"
     came = f"{number_of(tally.good, 'frame')} of {number_of(link.frame_length, 'octet')}"
     if uncoded:
         lines.append(f"{came}; there is no outer code, so nothing says whether they are right.")
     else:
-        worse = (
-            f"; {number_of(tally.bad, 'codeblock is', 'codeblocks are')} uncorrectable"
-            if tally.bad
-            else "; every codeblock that was found is good"
-        )
+        worse = "; every codeblock that was found is good"
+        if tally.bad:
+            worse = f"; {number_of(tally.bad, 'codeblock is', 'codeblocks are')} uncorrectable"
+        if tally.bad_bridged:
+            some = f"{tally.bad_bridged:,} of them " * (tally.bad_bridged < tally.bad)
+            worse += f", {some}where no marker stands, as after the end of a pass"
         lines.append(f"{came}, with {number_of(tally.fixed, 'symbol')} repaired{worse}.")
     more = [f"{number_of(totals.slips, 'slip')} of the symbol phase made good"] * (totals.slips > 0)
     more += [f"{number_of(tally.bridged, 'place')} taken without a marker"] * (tally.bridged > 0)
@@ -386,7 +458,7 @@ def summary(tally: Tally, totals: Any, link: Link) -> list[str]:
                 f"Virtual channel {channel} (outside of what is proved): {number_of(came_there, 'frame')}, "
                 f"{missing:,} missing by the counter."
             )
-    return lines
+    return lines + other
 
 
 def written(batch: Received, form: str, link: Link) -> bytes:
@@ -428,7 +500,7 @@ def receive_file(arguments: argparse.Namespace, name: str, output: Output, lines
         if found.link is None:
             lines.write(json_line(kind="end", file=name, good=0, bad=0, fixed=0, bits=0, slips=0, reason=found.reason))
             pages.write(empty_page(source.name, found.reason).encode())
-            say(f"{source.name}: no options were found: {found.reason}.")
+            say(f"{source.name}: no options were found: {found.reason}.", *hint(found))
             return False
         link, tally = found.link, Tally(arguments.counters)
         if not arguments.quiet:
@@ -504,7 +576,12 @@ def receive(words: list[str]) -> int:
         raise Usage("--json and the frames can't both go to standard output")
     if arguments.begin < 0:
         raise Usage("--from: the number is below 0")
-    if arguments.output is None and not arguments.json and not sys.stdout.isatty():
+    if arguments.scale is not None and not 0 < arguments.scale < math.inf:
+        raise Usage("--scale: a number above 0 is wanted")
+    for it in (arguments.output, arguments.page):
+        if is_recording(it, arguments.files):
+            raise Usage(f"{it} is the recording, and would be written over")
+    if arguments.output is None and not arguments.json and not is_terminal(sys.stdout):
         arguments.output = "-"
     if arguments.page is not None:
         if len(arguments.files) > 1 or arguments.page == "-":
@@ -530,10 +607,12 @@ def send_arguments() -> argparse.ArgumentParser:
         prog="tmchan-send",
         formatter_class=argparse.RawDescriptionHelpFormatter,
         description="Sends transfer frames, one after the other in a file: writes the symbols of their CADUs,\n"
-        "an octet each, or without an inner code the CADUs. - is standard input.",
+        "an octet each, or without an inner code the CADUs. - is standard input.\n\n"
+        "    tmchan-send --depth 5 frames --output symbols",
         epilog="Status 0: all was sent. 1: octets are left over that are no whole frame. 2: the words are refused.\n"
         "3: reading failed. 4: writing failed.",
     )
+    parser.add_argument("--version", action=Version)
     parser.add_argument("files", nargs="+", metavar="FILE")
     parser.add_argument(
         "-o", "--output", metavar="FILE", default="-", help="where symbols go (default -, standard output)"
@@ -545,8 +624,10 @@ def send_arguments() -> argparse.ArgumentParser:
 def send(words: list[str]) -> int:
     arguments = send_arguments().parse_args(words)
     link = Link(**given_of(arguments, SENDING))
-    if arguments.output == "-" and sys.stdout.isatty():
+    if arguments.output == "-" and is_terminal(sys.stdout):
         raise Usage("symbols are no text: --output names a file for them")
+    if is_recording(arguments.output, arguments.files):
+        raise Usage(f"{arguments.output} has the frames, and would be written over")
     output = Output(arguments.output)
     with link.sender() as sender:
         for name in arguments.files:
@@ -569,9 +650,12 @@ def find_arguments() -> argparse.ArgumentParser:
         prog="tmchan-find",
         formatter_class=argparse.RawDescriptionHelpFormatter,
         description="Looks for the form and the options of a recording, along the whole of it, and prints the\n"
-        "command that receives it, with what speaks for it.",
-        epilog="Status 0: options were found. 1: none were. 2: the words are refused. 3: reading failed.",
+        "command that receives it, with what speaks for it.\n\n"
+        "    tmchan-find pass.f32",
+        epilog="Status 0: options were found. 1: none were. 2: the words are refused. 3: reading failed.\n"
+        "4: writing failed.",
     )
+    parser.add_argument("--version", action=Version)
     parser.add_argument("file", metavar="FILE")
     parser.add_argument(
         "--input", choices=list(FORMS), metavar="FORM", help="how its symbols stand there: " + ", ".join(FORMS)
@@ -617,27 +701,28 @@ def look(words: list[str]) -> int:
         raise Usage("--from: the number is below 0")
     source = Source(arguments.file, arguments.begin)
     try:
-        found = find(
-            source.view(),
+        found = looked_for(
+            source,
+            is_terminal(sys.stdout),
             form=arguments.input or source.form or None,
             symbols=arguments.symbols,
             places=arguments.places,
-            say=print,
+            say=tell,
             **given_of(arguments, LINK),
         )
     finally:
         source.close()
     if found.link is None:
-        print(f"\nNo options were found: {found.reason}.")
+        tell(f"\nNo options were found: {found.reason}.", *hint(found))
         return 1
     start = ["--from", str(arguments.begin)] if arguments.begin else []
-    print("\nThe command that receives it:\n")
-    print("    " + shlex.join(["tmchan-receive", *found.words(), *start, arguments.file, "--output", "frames"]))
+    tell("\nThe command that receives it:\n")
+    tell("    " + shlex.join(["tmchan-receive", *found.words(), *start, arguments.file, "--output", "frames"]))
     line = "" if source.channels > 1 or source.form else program_line(found, arguments.file, arguments.begin)
     if line:
-        print(f"\nor by the program:\n\n    {line}")
+        tell(f"\nor by the program:\n\n    {line}")
     if found.link.options["code"] == "none":
-        print("\nThere is no outer code to bear this out: see whether the frames make sense.")
+        tell("\nThere is no outer code to bear this out: see whether the frames make sense.")
     return 0
 
 
@@ -655,7 +740,7 @@ def run(command: Any, words: list[str]) -> int:
         say(f"{name}: {error}")
         if error.status == 4:
             # (no complaint when the interpreter closes its output)
-            with contextlib.suppress(OSError, ValueError):
+            with contextlib.suppress(AttributeError, OSError, ValueError):
                 os.dup2(os.open(os.devnull, os.O_WRONLY), sys.stdout.fileno())
         return error.status
     except KeyboardInterrupt:

@@ -140,6 +140,11 @@ class _Recording:
         return turn.push(part) + turn.finish()
 
 
+def _places(recording: _Recording, form: _Form) -> int:
+    """At how many places, of those of _along, all of a recording is looked at in this form."""
+    return 1 + -(-2 * max(0, recording.count(form.name) - SAMPLE) // SAMPLE)
+
+
 def _plain_floats(octets: bytes, letter: str, size: int) -> bool:
     values = [it[0] for it in struct.iter_unpack("<" + letter, octets[: len(octets) // size * size]) if it[0]]
     plain = sum(1e-9 < abs(it) < 1e9 for it in values)
@@ -276,6 +281,7 @@ class _Reason(NamedTuple):
 
 
 TOO_NOISY = 3
+NOTHING = "no inner code is seen, and no sync markers stand at even distances"
 
 
 class _Row(NamedTuple):
@@ -325,6 +331,7 @@ def find(
     symbols: int = 2_000_000,
     places: int = 32,
     say: Callable[[str], None] = lambda line: None,
+    progress: Callable[[int, int], None] = lambda done, most: None,
     **given: Any,
 ) -> Found:
     """Looks for the form, the inner code, the codeblock and the outer code of a recording.
@@ -333,7 +340,8 @@ def find(
     word of tmchan.recordings.FORMS where it is known, and what is known of the link's options may be given by their
     names. It looks at the head, from element `start` on, and then at up to `places` places along the whole, each of
     40,000 symbols; and where a code is seen, or where there may be none, at up to `symbols` symbols. `say` is called
-    with a line of text for each thing that was tried.
+    with a line of text for each thing that was tried, and `progress` before each place, with how many were looked at
+    and how many there are at most.
 
     It tries the forms, the five rates, both inversions, either order of a pair, NRZ-M behind the inner code, every
     depth and length of both Reed-Solomon codes, both bases, and the randomizer. Raises TypeError where samples are no
@@ -347,14 +355,15 @@ def find(
     forms = _forms(recording, form, along, say)
     if recording.count(forms[0].name) < 1000:
         return Found(None, reason="there are fewer than 1000 symbols to look at")
-    if recording.count(forms[0].name) <= SAMPLE:
-        along = along[:1]
-    reason = _Reason(0, "no inner code is seen, and no sync markers stand at even distances")
+    along = along[: max(_places(recording, it) for it in forms)]
+    reason = _Reason(0, NOTHING)
     # How often a code was seen and led no further. (A look without an inner code is at fewer places, since it takes
     # more symbols.)
     seen = 0
     for number, place in enumerate(along):
-        tried = _inner_codes(recording, forms, place, given) if given.get("inner") != "none" else []
+        progress(number, len(along))
+        here = [it for it in forms if number < _places(recording, it)]
+        tried = _inner_codes(recording, here, place, given) if given.get("inner") != "none" else []
         fitting = [it for it in tried if it.cost < NO_CODE * it.drawn][:MOST]
         if fitting or number == 0:
             say(
@@ -365,10 +374,10 @@ def find(
                 say(f"  {100 * it.cost:6.2f} %  {100 * it.drawn:6.2f} %  {it}")
         ways = fitting
         if not fitting and number < 8 and given.get("inner", "none") == "none":
-            ways = [_Inner(it, "none", "off") for it in forms if not it.swap]
+            ways = [_Inner(it, "none", "off") for it in here if not it.swap]
         best = None
         for way in ways:
-            found = _way(recording, way, place, symbols, given, say)
+            found = _way(recording, way, place, symbols, given, say if fitting or number == 0 else lambda line: None)
             if isinstance(found, _Reason):
                 reason = found if found.rank > reason.rank else reason
                 continue
