@@ -170,6 +170,20 @@ def test_rate_of_uncorrectable_codewords():
         gnuradio.receiver(every=-1)
 
 
+@pytest.mark.parametrize("name", ["receiver", "sender"])
+def test_the_blocks_have_the_defaults_of_their_classes(name):
+    """What gnuradio-companion makes of a block that nobody changed."""
+    yaml = pytest.importorskip("yaml")
+    with open(f"{gnuradio.GRC}/tmchan_{name}.block.yml", encoding="utf-8") as file:
+        block = yaml.safe_load(file)
+    line = block["templates"]["make"]
+    for it in block["parameters"]:
+        line = line.replace("${%s}" % it["id"], str(it["default"]))
+    assert "$" not in line
+    made, own = eval(line, {"tmchan": tmchan}), getattr(gnuradio, name)()
+    assert vars(made.link)["options"] == vars(own.link)["options"]
+
+
 def environment():
     return {**os.environ, "PYTHONPATH": os.pathsep.join(sys.path), "GRC_BLOCKS_PATH": gnuradio.GRC}
 
