@@ -2,6 +2,7 @@
 import array
 import ctypes
 import gc
+import os
 import random
 import threading
 
@@ -308,6 +309,8 @@ def test_memory_is_given_back():
         link.receiver().push(symbols)
         next(link.receive(symbols), None)
     gc.collect()
+    if not os.path.exists("/proc/self/statm"):
+        pytest.skip("there is no /proc")
     with open("/proc/self/statm") as file:
         assert int(file.read().split()[1]) * 4096 < 800e6
 
