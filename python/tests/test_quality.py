@@ -32,8 +32,8 @@ def test_es_n0_is_right_from_0_to_10_decibels(inner, level):
         windows = counted(inner, decibels, level, seed=decibels + 1)
         found = tmchan.quality(windows)
         assert not found.at_least and abs(found.es_n0 - decibels) < 0.2, (decibels, found)
-        # A window by itself strays as the Cramer-Rao bound has it: by 0.07 dB, and at 7/8 and 0 dB by 0.13; where much is
-        # cut by more.
+        # A window by itself strays as the Cramer-Rao bound has it: by 0.07 dB, and at 7/8 and 0 dB by 0.13; where much
+        # is cut by more.
         each = [it.quality.es_n0 for it in windows]
         assert len(each) >= 10 and max(abs(it - decibels) for it in each) < 0.6, (decibels, each)
         if level != 100:
