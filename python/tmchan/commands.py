@@ -345,18 +345,27 @@ def receive_arguments() -> argparse.ArgumentParser:
     return parser
 
 
-def looked_for(source: Source, is_quiet: bool, **words: Any) -> Found:
+def looked_for(source: Source, say: Any, is_quiet: bool = False, **words: Any) -> Found:
     """What is found of a recording. On a terminal it is shown how far that is."""
-    is_shown = not is_quiet and is_terminal(sys.stderr)
+    if is_quiet or not is_terminal(sys.stderr):
+        return find(source.view(), say=say, **words)
 
-    def progress(done: int, most: int) -> None:
-        print(f"\rlooking for the options: place {done + 1} of {most} ", end="", file=sys.stderr, flush=True)
+    def show(text: str) -> None:
+        print(f"\r{text:48}\r", end="", file=sys.stderr, flush=True)
+
+    def say_below(line: str) -> None:
+        show("")
+        say(line)
 
     try:
-        return find(source.view(), **words, **({"progress": progress} if is_shown else {}))
+        return find(
+            source.view(),
+            say=say_below,
+            progress=lambda done, most: show(f"looking for the options: place {done + 1} of {most}"),
+            **words,
+        )
     finally:
-        if is_shown:
-            print(f"\r{' ' * 48}\r", end="", file=sys.stderr, flush=True)
+        show("")
 
 
 def chosen(arguments: argparse.Namespace, source: Source) -> Found:
@@ -366,7 +375,7 @@ def chosen(arguments: argparse.Namespace, source: Source) -> Found:
     form = arguments.input or source.form or None
     Link.recording(**given, **receiving)
     if not (form and given):
-        found = looked_for(source, arguments.quiet, form=form, **given)
+        found = looked_for(source, lambda line: None, arguments.quiet, form=form, **given)
         if found.link is None:
             return found
         # Recordings may slip, or be inverted, where nothing was looked at.
@@ -444,7 +453,8 @@ def summary(tally: Tally, totals: Any, link: Link) -> list[str]:
             worse += f", {some}where no marker stands, as after the end of a pass"
         lines.append(f"{came}, with {number_of(tally.fixed, 'symbol')} repaired{worse}.")
     more = [f"{number_of(totals.slips, 'slip')} of the symbol phase made good"] * (totals.slips > 0)
-    more += [f"{number_of(tally.bridged, 'place')} taken without a marker"] * (tally.bridged > 0)
+    bridged = tally.bridged - tally.bad_bridged
+    more += [f"{number_of(bridged, 'frame')} taken where no marker stands"] * (bridged > 0)
     more += [f"{number_of(tally.inverted, 'codeblock')} received inverted"] * (tally.inverted > 0)
     if more:
         lines.append("; ".join(more) + ".")
@@ -703,11 +713,10 @@ def look(words: list[str]) -> int:
     try:
         found = looked_for(
             source,
-            is_terminal(sys.stdout),
+            tell,
             form=arguments.input or source.form or None,
             symbols=arguments.symbols,
             places=arguments.places,
-            say=tell,
             **given_of(arguments, LINK),
         )
     finally:
