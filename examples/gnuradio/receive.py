@@ -46,4 +46,8 @@ def main(count=64, decibel=5.0):
 
 
 if __name__ == "__main__":
-    sys.exit(main(*(convert(word) for convert, word in zip((int, float), sys.argv[1:]))))
+    try:
+        numbers = [convert(word) for convert, word in zip((int, float), sys.argv[1:])]
+    except ValueError:
+        sys.exit(__doc__.strip())
+    sys.exit(main(*numbers))

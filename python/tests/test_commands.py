@@ -182,7 +182,7 @@ def test_statuses_and_sentences(recording, tmp_path):
     assert pathlib.Path(recording).read_bytes() == LINK.send(SENT)
     assert run("send", "--length", "7", "-", given=bytes(10))[0::2] == (1, "3 octets are left over: frames have 7.\n")
     assert run("send", "--length", "999", "-", given=b"")[0] == 2
-    assert run()[0] == run("recieve")[0] == 2
+    assert run()[0] == run("recieve")[0] == 2 and run("--help")[0] == 0
     for name in ("receive", "send", "find"):
         status, written, _ = run(name, "--help")
         assert status == 0 and b"Status 0" in written

@@ -772,5 +772,5 @@ def main_find() -> int:
 def main() -> int:
     if len(sys.argv) < 2 or sys.argv[1] not in COMMANDS:
         say(f"usage: python3 -m tmchan {'|'.join(COMMANDS)} ..; each has --help")
-        return 2
+        return 0 if sys.argv[1:] in (["-h"], ["--help"]) else 2
     return run(COMMANDS[sys.argv[1]], sys.argv[2:])
