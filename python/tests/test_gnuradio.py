@@ -262,8 +262,8 @@ SATYAML = [
 
 
 def options_of(transmitter):
-    """The receiver's options of a SatYAML file's transmitter, by the table of docs/PYTHON.md."""
-    with open(os.path.join(TOP, "docs", "PYTHON.md"), encoding="utf-8") as file:
+    """The receiver's options of a SatYAML file's transmitter, by the table of docs/GUIDE.md."""
+    with open(os.path.join(TOP, "docs", "GUIDE.md"), encoding="utf-8") as file:
         table = file.read().split("<!-- satyaml -->")[1].split("<!-- -->")[0]
     rows = [[cell.strip().strip("`") for cell in line.split("|")[1:-1]] for line in table.strip().splitlines()[2:]]
     found, used = {}, set()
