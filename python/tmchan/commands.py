@@ -282,7 +282,7 @@ def receive_arguments() -> argparse.ArgumentParser:
         description="Receives the transfer frames of recordings: finds the form and the options of the link,\n"
         "unless they are given, and writes the frames. Files are octets, or WAV; - is standard input.\n\n"
         "    tmchan-receive pass.f32 --output frames\n"
-        "    tmchan-receive --input u8 --depth 5 --inner 3/4 pass.u8 --output frames --page pass.html",
+        "    tmchan-receive --input u8 --depth 5 pass.u8 --output frames --json",
         epilog="Status 0: frames came, and all codeblocks are good. 1: no frame came, or some codeblock is\n"
         "uncorrectable. 2: the words are refused. 3: reading failed. 4: writing failed.\n\n"
         "What --nrz-m, --check and --counters do is outside of what is proved. docs/PYTHON.md has all of it.",
