@@ -180,9 +180,10 @@ function errorsFigure({ drawn }) {
     };
 }
 
-function eventsFigure({ drawn, totals, gapCount, flipCount }) {
+function eventsFigure({ drawn, totals, gapCount, flipCount, hasSlips }) {
     const { all, text: end, width } = new Along(drawn), high = 24;
-    const rows = [["slips", "bad"], ["flips", "repaired"], ["gaps", "missing"]].map(([name, kind], row) => {
+    const kinds = [...(hasSlips ? [["slips", "bad"]] : []), ["flips", "repaired"], ["gaps", "missing"]];
+    const rows = kinds.map(([name, kind], row) => {
         const mark = (k) => block(across(k / all.length), 10 + high * row, Math.max(2, width), 16);
         const marks = path(kind, all.flatMap((it, k) => (it[name] ? [mark(k)] : [])));
         return text(LEFT - 6, 23 + high * row, "end", name) + horizontal("grid", 18 + high * row) + marks;
@@ -191,7 +192,8 @@ function eventsFigure({ drawn, totals, gapCount, flipCount }) {
     return {
         title: "Slips, flips and gaps",
         drawing: drawing(120, `Along the recording ${said}`, rows.join("") + axis(86, 106, end)),
-        sentence: "Symbols lost or doubled, the polarity turned over, and no codeblock where one would follow.",
+        sentence: `Symbols lost or doubled${hasSlips ? "" : " (where was not looked for)"}, the polarity turned over, and no codeblock `
+            + "where one would follow.",
     };
 }
 
@@ -222,7 +224,7 @@ function listed({ gaps, slips, flips }) {
 }
 
 /** What the figures show, as a table: a row for each stretch. */
-function numbers({ drawn, isCoded, hasWindows }) {
+function numbers({ drawn, isCoded, hasWindows, hasSlips }) {
     const esN0 = (it) => (Number.isFinite(it.esN0) ? `${it.atLeast ? "at least " : ""}${it.esN0.toFixed(1)}` : "");
     const rate = ({ octets, wrong }) => (octets ? String(Number((wrong / octets).toPrecision(2))) : "");
     const columns = [
@@ -231,7 +233,7 @@ function numbers({ drawn, isCoded, hasWindows }) {
         ["missing", (it) => Number(it.missing.toFixed(1))],
         ...(isCoded ? [["symbols repaired", (it) => it.fixed], ["most of a codeword", (it) => it.mostFixed]] : []),
         ...(hasWindows ? [["Es/N0, dB", (it) => esN0(qualityOf(it.counts))], ["symbol error rate", (it) => rate(it.counts)]] : []),
-        ["slips", (it) => it.slips],
+        ...(hasSlips ? [["slips", (it) => it.slips]] : []),
         ["flips", (it) => it.flips],
         ["gaps", (it) => it.gaps],
         ["wrong bits of markers", (it) => it.wrongBits],

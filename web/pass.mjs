@@ -6,10 +6,10 @@ import { counted } from "./text.mjs";
 const MARKER = 4;
 // The most stretches of a recording, and of those that are drawn; and symbols of a stretch at first.
 const MOST = 512, DRAWN = 256, FINEST = 256;
+// At each rate how many symbols a bit has
+const SYMBOLS = { "1/2": 2, "2/3": 3 / 2, "3/4": 4 / 3, "5/6": 6 / 5, "7/8": 8 / 7 };
 /** How many gaps, slips and flips are listed one by one. */
 export const LISTED = 50;
-/** The version of the lines of JSON, whose fields are those of tmchan-receive (docs/PYTHON.md). */
-export const JSON_VERSION = 1;
 
 /** Numbers of one kind, as many as come. */
 class Column {
@@ -130,9 +130,9 @@ export class Pass {
         return this.#place.length;
     }
 
-    /** How many symbols a bit has, in the mean. */
+    /** How many symbols a bit has, in the mean: by the windows, where there are any. */
     get #rate() {
-        return this.#bits ? this.#octets / this.#bits : 1;
+        return this.#bits ? this.#octets / this.#bits : SYMBOLS[this.options.inner] ?? 1;
     }
 
     push(items, windows) {
@@ -220,16 +220,6 @@ export class Pass {
             distance: this.#distance.at(index), bridged: (flags & 2) !== 0, inverted: (flags & 4) !== 0 };
     }
 
-    json(index) {
-        return JSON.stringify({ version: JSON_VERSION, kind: "codeblock", file: this.name, ...this.item(index) });
-    }
-
-    get lastJson() {
-        const { name: file, good, bad, fixed, words, totals } = this;
-        const { bits, slips } = totals;
-        return JSON.stringify({ version: JSON_VERSION, kind: "end", file, good, bad, fixed, bits, slips, words });
-    }
-
     /** What stands before and after the lines of the codeblocks in the program's report. */
     get firstLines() {
         return this.phase ? `phase ${this.phase.skip} cost ${this.phase.cost}\n` : "";
@@ -247,7 +237,8 @@ export class Pass {
         const { name, words, options, good, bad, fixed, bound, totals, frameLength, gaps, slips, flips, gapCount, flipCount } = this;
         return {
             name, words, options, good, bad, fixed, bound, totals, frameLength, gaps, slips, flips, gapCount, flipCount,
-            isCoded: this.columns > 0, hasWindows: this.#windows > 0, rows: [...this.#totalsRows(), ...qualityRows(all)],
+            isCoded: this.columns > 0, hasWindows: this.#windows > 0, hasSlips: this.#windows > 0 || !totals.slips,
+            rows: [...this.#totalsRows(), ...qualityRows(all)],
             drawn: stretches.coarse(size, DRAWN), codeblocks: stretches.coarse(Math.max(size, some), DRAWN),
         };
     }

@@ -328,6 +328,13 @@ function number(name, value) {
     return value >= 0 && BigInt(value) < UNSET ? BigInt(value) : OUTSIDE;
 }
 
+/** The words of the command line for those options that are not as `others` has them. */
+export function wordsOf(options, others) {
+    const text = (value) => (value === true ? "on" : value === false ? "off" : String(value));
+    return Object.entries(options).filter(([name, value]) => value !== null && text(value) !== text(others[name]))
+        .flatMap(([name, value]) => [`--${name}`, text(value)]);
+}
+
 /** The options of a link. A link is never changed. */
 export class Link {
     #library;
@@ -357,9 +364,7 @@ export class Link {
 
     /** The words of the command line that say the same: those that differ from the defaults. */
     get words() {
-        const text = (value) => (value === true ? "on" : value === false ? "off" : String(value));
-        return Object.entries(this.options).filter(([name, value]) => value !== null && text(value) !== text(DEFAULTS[name]))
-            .flatMap(([name, value]) => [`--${name}`, text(value)]);
+        return wordsOf(this.options, DEFAULTS);
     }
 
     sender() {

@@ -111,7 +111,8 @@ export async function receive(output = null) {
     say("Receiving.");
     try {
         const length = wave && wave.length < Infinity ? Math.max(0, wave.start + wave.length - start) : null;
-        const given = { file, start, length, form: find("form").value, swap: find("swap").checked, options: options(), output };
+        const given = { file, start, length, form: find("form").value, swap: find("swap").checked, options: options(),
+            quality: find("quality").checked, output };
         const tell = ({ done, all, good, bad }) => {
             progress.value = all ? done / all : 1;
             find("progress-said").textContent = `${megabytes(done)} of ${megabytes(all)} MB, ${counted(good, "frame")}, `
@@ -127,34 +128,40 @@ export async function receive(output = null) {
     find("stop").disabled = true;
 }
 
-/** A button that makes a file when it is pressed, and gives it to the browser. */
+/** A button that makes a file when it is pressed, and gives it to the browser. What is made says how far it is. */
 function download(name, make, type = "application/octet-stream") {
     const button = Object.assign(document.createElement("button"), { type: "button", textContent: name });
+    let isMaking = false;
     button.addEventListener("click", async () => {
+        if (isMaking) return;
+        isMaking = true;
         try {
-            const href = URL.createObjectURL(new Blob(await make(), { type }));
+            const parts = await make(({ done, all }) => (button.textContent = `${name}: ${Math.floor((100 * done) / all)} %`));
+            const href = URL.createObjectURL(new Blob(parts, { type }));
             Object.assign(document.createElement("a"), { href, download: name }).click();
             setTimeout(() => URL.revokeObjectURL(href), 60_000);
         } catch (error) {
             say(error.message, true);
         }
+        button.textContent = name;
+        isMaking = false;
     });
     return button;
 }
 
 async function show(output) {
-    const { summary, said, done, all, seconds, parts } = result, name = summary.name.replace(/\.[^.]*$/, "") || "recording";
+    const { summary, said, done, all, seconds, parts, count } = result, name = summary.name.replace(/\.[^.]*$/, "") || "recording";
     const lines = [...said];
     if (result.stopped) lines.unshift(`Stopped after ${megabytes(done)} of ${megabytes(all)} MB.`);
     const megabits = (8 * summary.good * summary.frameLength) / 1e6;
     // (of a short recording it would be that of the beginning)
     if (seconds > 5) lines.push(`${(megabits / seconds).toFixed(1)} Mbit/s of frames.`);
     find("use-said").replaceChildren(...lines.map((it) => Object.assign(document.createElement("p"), { textContent: it })));
-    const report = (isJson) => () => asked.ask("report", { isJson });
+    const report = () => asked.ask("report"), jsonLines = (tell) => asked.ask("lines", {}, tell);
     const page = async () => [pageOf(summary, lines, await (await fetch(new URL("page.css", import.meta.url))).text())];
     const frames = output ? [] : [download(`${name}.frames`, () => parts)];
-    find("downloads").replaceChildren("Download:", ...frames, download(`${name}.report.txt`, report(false), "text/plain"),
-        download(`${name}.jsonl`, report(true), "application/jsonl"), download(`${name}.html`, page, "text/html"));
+    find("downloads").replaceChildren("Download:", ...frames, download(`${name}.report.txt`, report, "text/plain"),
+        download(`${name}.jsonl`, jsonLines, "application/jsonl"), download(`${name}.html`, page, "text/html"));
     find("figures").innerHTML = partsOf(summary).map((it) => figure(it, "h4")).join("");
     from = 0;
     await rows();

@@ -6,7 +6,6 @@ import re
 import resource
 import struct
 import subprocess
-import sys
 import time
 
 from drive import (
@@ -26,7 +25,7 @@ from drive import (
     text,
 )
 from passes import totals_of
-from shared import PAGE, PROGRAM, TOP, digest, program, test
+from shared import LIBRARY, PAGE, PROGRAM, TOP, digest, program, test
 
 
 # Frames of the first view that did not come back
@@ -148,7 +147,8 @@ def examples(room):
 
 @test
 def downloads(room):
-    """The files that the page gives: frames and report are the program's, the lines of JSON those of tmchan-receive."""
+    """The files that the page gives: frames and report are the program's, and the page of the pass has the totals of the
+    Python package."""
     browser, path = opened(room, "use"), room.recording("noisy.u8", decibels=1.2, head=20001)
     take(browser, path)
     received(browser)
@@ -157,29 +157,84 @@ def downloads(room):
     assert digest(downloaded(room, browser, ".frames")) == digest(frames)
     lines = notes.decode().splitlines()
     assert downloaded(room, browser, ".report.txt").decode().splitlines() == lines
-    rows = [json.loads(it) for it in downloaded(room, browser, ".jsonl").decode().splitlines()]
     page = downloaded(room, browser, ".html").decode()
     assert page.startswith("<!doctype html>") and page.count("<svg") == 6
-    if not (TOP / "out/libtmchan.so").exists():
-        return f"{len(rows)} lines, not compared with tmchan-receive: there is no out/libtmchan.so"
-    ran = subprocess.run(
-        [sys.executable, "-m", "tmchan", "receive", "--input", "u8", "--code", "rs16", "--json", "-q", path],
-        env={**os.environ, "PYTHONPATH": str(TOP / "python")},
-        stdout=subprocess.PIPE,
-        check=False,
-    )
-    # (the page keeps no windows, of which there may be millions)
-    wanted = [it for it in map(json.loads, ran.stdout.splitlines()) if it["kind"] != "window"]
-    for it in rows + wanted:
-        it.pop("file")
-        it.pop("words", None)
-    assert rows == wanted, (rows[:2], wanted[:2], rows[-1], wanted[-1])
+    said = f"{len(frames):,} octets of frames, {len(lines)} lines"
+    if not LIBRARY.exists():
+        return f"{said}; totals not compared with the Python package's: there is no out/libtmchan.so"
     shown = re.findall(r'<th scope="row" class="text">(.*?)</th><td>(.*?)</td>', page)
     right = totals_of(path.read_bytes())
     assert shown[: len(right)] == right and any("1.2 dB" in it for _, it in right), (shown, right)
-    return (
-        f"{len(frames):,} octets of frames, {len(lines)} lines, and {len(rows)} of JSON as tmchan-receive writes them"
-    )
+    return f"{said}, {len(right)} totals"
+
+
+@test
+def json_lines(room):
+    """The lines of JSON are those of tmchan-receive --json, window by window and in its order, Es/N0 to a millionth."""
+    if not LIBRARY.exists():
+        return "not compared with tmchan-receive: there is no out/libtmchan.so"
+    browser, path, kinds = opened(room, "use"), room.recording("noisy.u8", decibels=1.2, head=20001), {}
+    # (longer than what is read at once, of another form, for which Python needs numpy, and at another rate)
+    floats, fast = room.path("lines.f32"), room.recording("lines.u8", inner="3/4", decibels=4.0, depth=2, frames=250)
+    floats.write_bytes(struct.pack(f"<{path.stat().st_size}f", *((it - 127.5) / 50 for it in path.read_bytes())))
+    python = "/usr/bin/python3"
+    has_numpy = subprocess.run([python, "-c", "import numpy"], stderr=subprocess.DEVNULL, check=False).returncode == 0
+    for it, form, options in (
+        (path, "u8", {}),
+        *([(floats, "f32", {})] if has_numpy else []),
+        (fast, "u8", {"depth": 2, "inner": "3/4"}),
+        (room.path("three.u8"), "u8", {}),
+    ):
+        if it.name == "three.u8":
+            it.write_bytes(b"abc")
+        set_options(browser, **{"depth": 1, "inner": "1/2", **options})
+        take(browser, it)
+        received(browser)
+        rows = downloaded(room, browser, ".jsonl").decode().splitlines()
+        words = ["--input", form, "--code", "rs16"] + [word for name in options for word in (f"--{name}", str(options[name]))]
+        ran = subprocess.run(
+            [python, "-m", "tmchan", "receive", *words, "--json", "-q", it.name],
+            cwd=room.folder,
+            env={**os.environ, "PYTHONPATH": str(TOP / "python")},
+            stdout=subprocess.PIPE,
+            check=False,
+        )
+        wanted = ran.stdout.decode().splitlines()
+        assert len(rows) == len(wanted) > 0, (it.name, len(rows), len(wanted))
+        for number, (mine, right) in enumerate(zip(map(json.loads, rows), map(json.loads, wanted))):
+            kinds[right["kind"]] = kinds.get(right["kind"], 0) + 1
+            if right.get("es_n0") is not None:
+                assert abs(mine["es_n0"] - right["es_n0"]) < 1e-6, (it.name, number, mine, right)
+                mine["es_n0"] = right["es_n0"]
+            assert list(mine.items()) == list(right.items()), (it.name, number, mine, right)
+    assert set(kinds) == {"window", "codeblock", "end"} and not browser.complaints(), (kinds, browser.complaints())
+    counts = ", ".join(f"{count:,} of kind {kind}" for kind, count in kinds.items())
+    return counts if has_numpy else f"{counts}; not of floats: /usr/bin/python3 has no numpy"
+
+
+@test
+def without_windows(room):
+    """Without the windows of the soft decoder frames and totals are the same, and nothing is said of Es/N0 and of where
+    slips are."""
+    browser, path = opened(room, "use"), room.path("slipped.u8")
+    octets = room.recording("plain.u8").read_bytes()
+    path.write_bytes(octets[:200_001] + octets[200_002:])
+    take(browser, path)
+    with_windows = compared(room, browser, path, [])
+    titles = "[...document.querySelectorAll('#figures figure h4')].map((it) => it.textContent)"
+    marks = "document.querySelectorAll('#figures svg')[{}].querySelectorAll('.bad').length"
+    seen = browser.run(titles)
+    assert "Es/N0" in seen and "1 slip" in with_windows and browser.run(marks.format(4)) == 1, (seen, with_windows)
+    press(browser, "quality")
+    assert compared(room, browser, path, []) == with_windows
+    left = browser.run(titles)
+    assert [it for it in seen if it not in left] == ["Es/N0", "Symbol error rate"], left
+    figure = browser.run(f"document.querySelectorAll('#figures figure')[{left.index('Slips, flips and gaps')}].textContent")
+    assert "where was not looked for" in figure and browser.run(marks.format(2)) == 0, figure
+    rows = browser.run("[...document.querySelectorAll('#figures .numbers thead th')].map((it) => it.textContent)")
+    assert "slips" not in rows and "flips" in rows, rows
+    assert not browser.complaints(), browser.complaints()
+    return with_windows.replace("\n", " ")
 
 
 def wave_file(kind, bits, data):

@@ -208,7 +208,8 @@ def passes(room):
         link = dict(code=code, depth=depth, repair=None, bad="drop", frameLength=length, codeblocks=codeblocks)
         link["unit"] = 32 + 8 * (length + checks)
         batches = drawn_pass(random.Random(f"{code} {codeblocks}"), link, has_windows)
-        given.append(dict(link=link, batches=batches, totals=dict(bits=10**6, slips=17)))
+        slips = 17 if any(it["windows"] for it in batches) else 0
+        given.append(dict(link=link, batches=batches, totals=dict(bits=10**6, slips=slips)))
     stretches = events = 0
     for case, mine in zip(given, in_node(room, script, given)):
         link = case["link"]

@@ -13,6 +13,7 @@ HERE = pathlib.Path(__file__).resolve().parent
 TOP = HERE.parent.parent
 PAGE = TOP / "out" / "web"
 PROGRAM = TOP / "out" / "tmchan"
+LIBRARY = TOP / "out" / "libtmchan.so"
 CASES = 300
 TESTS = []
 
