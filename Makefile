@@ -191,7 +191,7 @@ wheel: lib
 # linker; the memory's addresses are cut to 32 bits by Debian's binaryen.
 WEB = out/web
 WEB_OBJECTS = out/objects/web
-WEB_FILES = $(wildcard web/*.mjs web/*.ts web/*.html web/*.css web/*.svg)
+WEB_FILES = $(wildcard web/*.mjs web/*.js web/*.ts web/*.html web/*.css web/*.svg)
 WASM_CLANG = $(dir $(shell rt doc))toolchain/bin/clang
 WASM_CC = $(WASM_CLANG) --target=wasm64-unknown-unknown --no-default-config -O2 -ffreestanding -fno-builtin -mbulk-memory \
     -mmutable-globals -Wall -Wextra

@@ -24,7 +24,7 @@ const plain = (text) => text.replace(/[\u0000-\u001f\u007f]/g, "\u00b7");
 const text = (frame) => plain(new TextDecoder().decode(frame)).trimEnd();
 const percent = (share) => `${(100 * share).toFixed(1)}\u00a0%`;
 
-let asked, made, shown = 0, seed = 1, isBusy = false, isStale = false;
+let asked, made, shown = 0, isChosen = false, seed = 1, isBusy = false, isStale = false;
 
 function given() {
     const number = (id) => Number(find(id).value);
@@ -47,10 +47,16 @@ function given() {
 }
 
 function sayChannel({ channel: { decibels, slips, flip, gap } }) {
-    find("noise-said").textContent = `${decibels} dB`;
-    find("slips-said").textContent = slips === 0 ? "none" : String(slips);
-    find("flip-said").textContent = flip >= 1 ? "never" : `${Math.round(100 * flip)} % of the symbols`;
-    find("gap-said").textContent = gap ? `as long as ${gap} ${gap === 1 ? "frame" : "frames"}` : "none";
+    const said = {
+        noise: `${decibels} dB`,
+        slips: slips === 0 ? "none" : String(slips),
+        flip: flip >= 1 ? "never" : `${Math.round(100 * flip)} % of the symbols`,
+        gap: gap ? `as long as ${gap} ${gap === 1 ? "frame" : "frames"}` : "none",
+    };
+    for (const [name, it] of Object.entries(said)) {
+        find(`${name}-said`).textContent = it;
+        find(name).setAttribute("aria-valuetext", it);
+    }
 }
 
 /** Asks for what is chosen now. While an answer is awaited nothing more is asked, and afterwards what was chosen last. */
@@ -79,21 +85,21 @@ async function change() {
 }
 
 function draw() {
-    const { frames, found, slips, wrong, carried, phase, bits, words } = made;
+    const { frames, found, given: at, slips, wrong, carried, phase, bits, words } = made;
     drawGlance();
+    // Until one is chosen, the first frame in which something was repaired.
+    if (!isChosen) shown = Math.max(0, at.findIndex((k) => found[k]?.fixed));
     shown = Math.min(shown, frames.length - 1);
     const choice = find("shown");
-    if (choice.options.length !== frames.length) {
-        choice.replaceChildren(...frames.map((_, k) => new Option(`Frame ${k + 1}`, k)));
-        choice.value = shown;
-    }
+    if (choice.options.length !== frames.length) choice.replaceChildren(...frames.map((_, k) => new Option(`Frame ${k + 1}`, k)));
+    choice.value = shown;
     drawFrames();
     drawDetail();
     body("stage-channel").innerHTML = `<p>${wrong.toLocaleString("en")} of ${counted(carried, "symbol")} `
         + `(${percent(wrong / carried)}) are on the wrong side.</p>${histogram(made.histogram)}`;
     body("stage-decoder").innerHTML = `<p>${phase ? `The symbol phase is ${phase.skip}. ` : ""}`
-        + `${counted(bits, "bit was", "bits were")} received; symbols were dropped before `
-        + `${counted(slips, "window")}.</p><p class="command">The program's words: `
+        + `${counted(bits, "bit was", "bits were")} received; `
+        + `${slips ? `symbols were dropped before ${counted(slips, "window")}` : "no symbol was dropped"}.</p><p class="command">The program's words: `
         + `<code>tmchan decode ${escaped(words.join(" "))}</code></p>`;
     body("stage-markers").innerHTML = places(found, made.unit, bits) + table();
 }
@@ -192,14 +198,13 @@ function drawWords() {
 function codeword({ received, repaired }, index, count) {
     const checks = received.length - 2 * made.bound;
     const kinds = Array.from(received, (it, k) => (!repaired ? "lost" : it !== repaired[k] ? "wrong" : k < checks ? "data" : "check"));
-    const spans = kinds.map((it, k) => {
-        const was = it === "wrong" ? ` title="${hex(received[k])} was received"` : "";
-        return `<span class="${it}"${was}>${hex((repaired ?? received)[k])}</span>`;
-    });
-    const wrong = kinds.filter((it) => it === "wrong").length;
-    const says = repaired ? `${counted(wrong, "symbol")} repaired, of at most ${made.bound}`
+    const spans = kinds.map((it, k) => `<span class="${it}">${hex((repaired ?? received)[k])}</span>`);
+    const wrong = [...kinds.keys()].filter((k) => kinds[k] === "wrong");
+    const says = repaired ? `${counted(wrong.length, "symbol")} repaired, of at most ${made.bound}`
         : `uncorrectable: no codeword is within ${made.bound} symbols`;
-    return `<p>Codeword ${index + 1} of ${count}: ${says}.</p>${octets(spans, `Codeword ${index + 1}: ${says}`)}`;
+    const each = wrong.map((k) => `symbol ${k + 1} is ${hex(repaired[k])} and came as ${hex(received[k])}`).join(", ");
+    return `<p>Codeword ${index + 1} of ${count}: ${says}.</p>${octets(spans, `Codeword ${index + 1}: ${says}`)}`
+        + (each ? `<p class="says">Repaired: ${each}.</p>` : "");
 }
 
 /** Draws the metrics of a window: of each step their excess over the least, and the best path through the registers. */
@@ -261,6 +266,7 @@ export function startLearning(it) {
     });
     find("shown").addEventListener("change", () => {
         shown = Number(find("shown").value);
+        isChosen = true;
         if (made) drawDetail();
     });
     find("metrics").addEventListener("toggle", () => find("metrics").open && made && drawMetrics());

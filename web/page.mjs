@@ -61,7 +61,12 @@ function show() {
 
 async function start() {
     const learning = new Asked(), using = new Asked(), loaded = learning.ask("load");
-    window.addEventListener("hashchange", show);
+    window.addEventListener("hashchange", () => {
+        const before = shown;
+        show();
+        // (so that a screen reader begins with the view that came)
+        if (shown !== before) find(`${shown}-title`).focus({ preventScroll: true });
+    });
     show();
     // (while the worker begins)
     const begun = Promise.all([import("./learn-view.mjs"), import("./use-view.mjs")]).then(([{ startLearning }, { startUsing }]) => {

@@ -126,6 +126,8 @@ export async function receive(output = null) {
     }
     find("receive").disabled = false;
     find("stop").disabled = true;
+    // (what is disabled loses the focus)
+    if (document.activeElement === document.body) find("receive").focus({ preventScroll: true });
 }
 
 /** A button that makes a file when it is pressed, and gives it to the browser. What is made says how far it is. */
@@ -152,6 +154,7 @@ function download(name, make, type = "application/octet-stream") {
 async function show(output) {
     const { summary, said, done, all, seconds, parts, count } = result, name = summary.name.replace(/\.[^.]*$/, "") || "recording";
     const lines = [...said];
+    if (!count) lines.push("Another form, rate or depth would make noise of it: tmchan-find of the Python package looks for those that fit.");
     if (result.stopped) lines.unshift(`Stopped after ${megabytes(done)} of ${megabytes(all)} MB.`);
     const megabits = (8 * summary.good * summary.frameLength) / 1e6;
     // (of a short recording it would be that of the beginning)

@@ -17,6 +17,7 @@ POLICY = "default-src 'self'; script-src 'self' 'wasm-unsafe-eval'"
 KINDS = {
     ".html": "text/html",
     ".mjs": "text/javascript",
+    ".js": "text/javascript",
     ".css": "text/css",
     ".svg": "image/svg+xml",
     ".wasm": "application/wasm",

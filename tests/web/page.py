@@ -58,6 +58,15 @@ def page_loads(room):
     return f"first frame after {took:.0f} ms, {best}; {len(asked)} paths asked for"
 
 
+@test
+def opened_as_a_file(room):
+    """A page that is opened as a file says that it wants a server."""
+    browser = room.browser()
+    browser.go((PAGE / "index.html").as_uri())
+    browser.until("/from a server alone/.test(document.getElementById('module').textContent)", 10)
+    return text(browser, "module")
+
+
 def compared(room, browser, path, words, octets=None):
     """Receives what is chosen, and compares the frames by SHA-256, and the last line, with those of the program.
     Returns what the page says."""
@@ -699,6 +708,7 @@ def keyboard(room):
             browser.key("ArrowRight")
             assert float(browser.run("document.getElementById('noise').value")) == float(before) + 0.25
             browser.until(f"document.getElementById('noise-said').textContent === '{float(before) + 0.25:g} dB'")
+            assert browser.run("document.getElementById('noise').ariaValueText") == f"{float(before) + 0.25:g} dB"
     wanted = ["skip", "to-learn", "to-use", "text", "noise", "slips", "flip", "gap", "again", "shown"]
     assert (
         list(dict.fromkeys(it for it in seen if it in wanted)) == wanted
@@ -715,11 +725,18 @@ def keyboard(room):
     browser.run("document.getElementById('to-use').focus()")
     browser.key("Enter", text="\r")
     browser.until("!document.getElementById('use').hidden && document.getElementById('learn').hidden")
+    # The view that came is read from its head, and its first control is the next one.
+    assert browser.run("document.activeElement.id") == "use-title"
+    browser.key("Tab")
+    assert browser.run("document.activeElement.id") == "file"
     # (with what came of a recording, too)
-    press(browser, "example")
-    browser.until("document.getElementById('use-said').textContent.startsWith('example.u8')")
-    received(browser)
-    browser.until("!document.getElementById('results').hidden")
+    for name, condition in (
+        ("example", "document.getElementById('use-said').textContent.startsWith('example.u8')"),
+        ("receive", "!document.getElementById('results').hidden && document.activeElement.id === 'receive'"),
+    ):
+        browser.run(f"document.getElementById('{name}').focus()")
+        browser.key("Enter", text="\r")
+        browser.until(condition)
     nameless = []
     for hash in ("learn", "use"):
         browser.run(f"location.hash = '{hash}'; for (const it of document.querySelectorAll('details')) it.open = true")
