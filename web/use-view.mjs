@@ -154,7 +154,8 @@ function download(name, make, type = "application/octet-stream") {
 async function show(output) {
     const { summary, said, done, all, seconds, parts, count } = result, name = summary.name.replace(/\.[^.]*$/, "") || "recording";
     const lines = [...said];
-    if (!count) lines.push("Another form, rate or depth would make noise of it: tmchan-find of the Python package looks for those that fit.");
+    if (!count && summary.totals.bits)
+        lines.push("Another form, rate or depth makes noise of a recording: tmchan-find of the Python package looks for those that fit.");
     if (result.stopped) lines.unshift(`Stopped after ${megabytes(done)} of ${megabytes(all)} MB.`);
     const megabits = (8 * summary.good * summary.frameLength) / 1e6;
     // (of a short recording it would be that of the beginning)
