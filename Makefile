@@ -195,9 +195,9 @@ WEB_FILES = $(wildcard web/*.mjs web/*.js web/*.ts web/*.html web/*.css web/*.sv
 WASM_CLANG = $(dir $(shell rt doc))toolchain/bin/clang
 WASM_CC = $(WASM_CLANG) --target=wasm64-unknown-unknown --no-default-config -O2 -ffreestanding -fno-builtin -mbulk-memory \
     -mmutable-globals -Wall -Wextra
-WASM_LD = $(WEB_OBJECTS)/wasm-ld -m wasm64 --no-entry --stack-first --strip-debug
+WASM_LD = $(WEB_OBJECTS)/wasm-ld -m wasm64 --no-entry --stack-first --strip-all
 WASM_CALLS = -z stack-size=1048576 --max-memory=4294967296 $(addprefix --export=,$(CALLS) tmchan_alloc tmchan_free)
-LOWER = wasm-opt -O2 --enable-memory64 --enable-bulk-memory --enable-sign-ext --enable-mutable-globals --enable-nontrapping-float-to-int
+LOWER = wasm-opt -Os --enable-memory64 --enable-bulk-memory --enable-sign-ext --enable-mutable-globals --enable-nontrapping-float-to-int
 
 web: $(addprefix $(WEB)/,tmchan.wasm tmchan32.wasm program.wasm layout.mjs) $(addprefix $(WEB)/,$(notdir $(WEB_FILES)))
 
