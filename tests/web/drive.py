@@ -111,3 +111,17 @@ def processes(browser):
 
 def processor_time(browser):
     return sum(it for it, _ in processes(browser).values())
+
+
+def worker_time(browser):
+    """The processor time of those threads of the browser that are workers of a page, in seconds."""
+    ticks = 0
+    for process in processes(browser):
+        for it in pathlib.Path(f"/proc/{process}/task").glob("*/stat"):
+            try:
+                name, _, rest = it.read_text().partition("(")[2].rpartition(")")
+            except OSError:
+                continue
+            if name.startswith("DedicatedWorker"):
+                ticks += sum(map(int, rest.split()[11:13]))
+    return ticks / os.sysconf("SC_CLK_TCK")

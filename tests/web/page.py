@@ -23,6 +23,7 @@ from drive import (
     slide,
     take,
     text,
+    worker_time,
 )
 from passes import totals_of
 from shared import LIBRARY, PAGE, PROGRAM, TOP, digest, program, test
@@ -658,9 +659,9 @@ def large(room):
 
 @test
 def speed(room):
-    """Rate 1/2, clean: at least half of the program's frames by processor time, in the same run, by the strict defaults
-    of both, and without the windows, which the program does not count either."""
-    browser, path, count = opened(room, "use"), room.path("clean.u8-long"), 3600
+    """Rate 1/2, clean: the worker receives at least half of the program's frames by processor time, in the same run, by
+    the strict defaults of both, and without the windows, which the program does not count either."""
+    browser, path, count = opened(room, "use"), room.path("clean.u8-long"), 1800
     symbols = subprocess.run(
         [PROGRAM, "encode", "--depth", "5"],
         input=random.Random(3).randbytes(1115 * count),
@@ -674,12 +675,14 @@ def speed(room):
     take(browser, path)
     bits, loads = 8 * 1115 * count / 1e6, [os.getloadavg()[0]]
 
-    def page_time():
-        """The seconds that the page's process takes for the recording, all of its threads together."""
-        before = processes(browser)
+    def page_times():
+        """The seconds that the worker, which reads and receives, takes for the recording, and all of the page's process,
+        which draws too."""
+        before, worker = processes(browser), worker_time(browser)
         # (without looking again and again whether it is done, which would be counted)
         browser.run("(async () => (await import('/use-view.mjs')).receive())()")
-        return max(time - before[it][0] for it, (time, _) in processes(browser).items() if it in before)
+        whole = max(time - before[it][0] for it, (time, _) in processes(browser).items() if it in before)
+        return worker_time(browser) - worker, whole
 
     def program_time():
         used = resource.getrusage(resource.RUSAGE_CHILDREN)
@@ -687,16 +690,17 @@ def speed(room):
         now = resource.getrusage(resource.RUSAGE_CHILDREN)
         return now.ru_utime + now.ru_stime - used.ru_utime - used.ru_stime
 
-    # Of many rounds the best, since a processor that others share takes longer for the same.
-    mine, programs = zip(*((page_time(), program_time()) for _ in range(12)))
+    # Of many short rounds the best, since a processor that others share takes longer for the same.
+    rounds = [(*page_times(), program_time()) for _ in range(24)]
+    worker, whole, programs = map(min, zip(*rounds))
     loads.append(os.getloadavg()[0])
     press(browser, "quality")
-    counting = min(page_time() for _ in range(3))
+    counting = min(page_times() for _ in range(3))[0]
     said = (
-        f"{bits / min(mine):.1f} Mbit/s of the page's process, the program {bits / min(programs):.1f}; with windows"
-        f" {bits / counting:.1f}; load {min(loads):.1f} to {max(loads):.1f}"
+        f"{bits / worker:.1f} Mbit/s of the worker, {bits / whole:.1f} of all of the page's process, the program"
+        f" {bits / programs:.1f}; the worker with windows {bits / counting:.1f}; load {min(loads):.1f} to {max(loads):.1f}"
     )
-    assert min(mine) <= 2 * min(programs), (said, mine, programs)
+    assert worker <= 2 * programs, (said, rounds)
     return said
 
 
