@@ -1,4 +1,4 @@
-// The lines of JSON of a recording, those of tmchan-receive --json: docs/PYTHON.md has their fields.
+// The lines of JSON of a recording, those of tmchan-receive --json: docs/GUIDE.md, "Lines of JSON", has their fields.
 import { DEFAULTS, recordingSettings, wordsOf } from "./tmchan.mjs";
 
 const VERSION = 1;
