@@ -659,8 +659,8 @@ def large(room):
 
 @test
 def speed(room):
-    """Rate 1/2, clean: the worker receives at least half of the program's frames by processor time, in the same run, by
-    the strict defaults of both, and without the windows, which the program does not count either."""
+    """Rate 1/2, clean: at least half of the program's frames by processor time, in the same run, by the strict defaults of
+    both, and without the windows, which the program does not count either."""
     browser, path, count = opened(room, "use"), room.path("clean.u8-long"), 1800
     symbols = subprocess.run(
         [PROGRAM, "encode", "--depth", "5"],
@@ -700,7 +700,7 @@ def speed(room):
         f"{bits / worker:.1f} Mbit/s of the worker, {bits / whole:.1f} of all of the page's process, the program"
         f" {bits / programs:.1f}; the worker with windows {bits / counting:.1f}; load {min(loads):.1f} to {max(loads):.1f}"
     )
-    assert worker <= 2 * programs, (said, rounds)
+    assert whole <= 2 * programs, (said, rounds)
     return said
 
 
