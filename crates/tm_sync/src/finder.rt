@@ -161,6 +161,8 @@ impl Finder {
         ensures columns { self.new.columns ≡ self.old.columns }
         ensures passed { self.old.passed + length recent.old.bits < bits_bound
             → self.new.passed ≡ self.old.passed + 1 }
+        ensures outside { is_inside self.old.passed self.old.last ≡ false → result ≡ true }
+        ensures inside { is_inside self.old.passed self.old.last ≡ true → result ≡ sound }
         ensures taken { IsTrue result → (says : Soundness) (more : List Bool)
             → self.old.passed + length recent.old.bits < bits_bound → Tells self.old says found sound
             → places_left self.old says (recent.old.bits ++ more)
@@ -218,8 +220,8 @@ impl Finder {
         }
     }
 
-    // Whether the next bit is part of a codeblock.
-    fn is_inside(&self) -> bool
+    /// Whether the next bit is part of the codeblock of the place before it, or of its marker.
+    pub fn is_inside(&self) -> bool
         ensures { result ≡ is_inside self.now.passed self.now.last }
     {
         match self.last {
