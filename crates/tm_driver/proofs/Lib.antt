@@ -1,5 +1,6 @@
 mod OneTurn
 mod Stopped
+mod FedStage
 pub mod SinkTexts
 pub mod HandedAlong
 pub mod TwoSinks
@@ -7,3 +8,5 @@ pub mod Pieces
 pub mod Results
 pub mod Answered
 pub mod Driven
+pub mod Writing
+pub mod Staged

@@ -5,3 +5,5 @@ pub mod Statuses
 pub mod Driven
 pub mod Meaning
 pub mod Answered
+pub mod Writing
+pub mod Staged

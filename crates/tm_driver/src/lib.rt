@@ -8,9 +8,15 @@ mod ending;
 mod feed;
 mod line;
 mod lines;
+mod stage;
+mod text_taker;
+mod writer;
 
 pub use driver::{TURN, drive};
 pub use ending::{Ending, Outcome, Stop};
 pub use feed::Feed;
 pub use line::Line;
-pub use lines::{add_slips, phase_line, report_rest};
+pub use lines::{add_slips, phase_line, phase_text, report_rest};
+pub use stage::{Stage, drive_stage};
+pub use text_taker::TextTaker;
+pub use writer::Writer;

@@ -57,12 +57,19 @@ impl Line {
         self.text(buffer.format(number).as_bytes());
     }
 
+    /// Its octets.
+    pub fn octets(&self) -> &[u8]
+        ensures { result.now ≡ self.now }
+    {
+        &self.room[..self.count]
+    }
+
     /// Writes the line.
     pub fn put<O: Sink>(&self, out: &mut O) -> Result<(), Failed>
         ensures ok { OnOk result (Wrote (O.taken out.old) (O.taken out.new) self.now) }
         ensures err { OnErr result (WrotePrefix (O.taken out.old) (O.taken out.new) self.now) }
         ensures cause { HasCause (O.faults out.old) (O.faults out.new) (O.is_last out.new) result }
     {
-        put_all(out, &self.room[..self.count])
+        put_all(out, self.octets())
     }
 }

@@ -38,12 +38,10 @@ pub fn report_rest<N: Sink>(notes: &mut N, rest: u32) -> Result<Outcome, Failed>
     }
 }
 
-/// Writes the symbol phase that was chosen: `phase S cost C`, with the octets skipped and the cost of the best path
-/// after them. `Failed` comes only where the sink's count of faults rose.
-pub fn phase_line<O: Sink>(out: &mut O, skip: u8, cost: u64) -> Result<(), Failed>
-    ensures ok { OnOk result (Wrote (O.taken out.old) (O.taken out.new) (phase_text skip cost)) }
-    ensures err { OnErr result (WrotePrefix (O.taken out.old) (O.taken out.new) (phase_text skip cost)) }
-    ensures cause { HasCause (O.faults out.old) (O.faults out.new) (O.is_last out.new) result }
+/// The symbol phase that was chosen: `phase S cost C`, with the octets skipped and the cost of the best path after
+/// them.
+pub fn phase_text(skip: u8, cost: u64) -> Line
+    ensures { result ≡ phase_text skip cost }
 {
     let mut line = Line::new();
     line.text(b"phase ");
@@ -51,7 +49,16 @@ pub fn phase_line<O: Sink>(out: &mut O, skip: u8, cost: u64) -> Result<(), Faile
     line.text(b" cost ");
     line.number(cost);
     line.text(b"\n");
-    line.put(out)
+    line
+}
+
+/// Writes the symbol phase that was chosen. `Failed` comes only where the sink's count of faults rose.
+pub fn phase_line<O: Sink>(out: &mut O, skip: u8, cost: u64) -> Result<(), Failed>
+    ensures ok { OnOk result (Wrote (O.taken out.old) (O.taken out.new) (phase_text skip cost)) }
+    ensures err { OnErr result (WrotePrefix (O.taken out.old) (O.taken out.new) (phase_text skip cost)) }
+    ensures cause { HasCause (O.faults out.old) (O.faults out.new) (O.is_last out.new) result }
+{
+    phase_text(skip, cost).put(out)
 }
 
 /// Adds before how many windows octets were dropped, a line of its own: `slips N`; nothing where the symbol phase is

@@ -1,0 +1,64 @@
+-- A stage that was fed one more turn, or the end.
+use Rattle.std.proofs.Common.{◌≡◌, ◌⊎◌, inl, inr, ℕ, ◌+◌, ◌≤◌, Bool, true, false, List, ◌++◌, length, take, refl, sym, ap, subst, arith, length-append, length-take}
+use Rattle.tm_base.specs.Limits.{most_limit}
+use Rattle.tm_base.specs.Takers.{HandedOver}
+use Rattle.tm_base.proofs.Handing.{HandedOver-append}
+use Rattle.tm_driver.specs.Staged.{StagedTo, Takes, TakesEnd}
+use Rattle.tm_driver.specs.Statuses.{ending_at_end}
+use Rattle.tm_driver.specs.Writing.{Text}
+use Rattle.tm_driver.specs.declared.ending.Outcome.{Outcome}
+use Rattle.tm_driver.specs.declared.ending.Outcome.TheVariants.{Done, Bad, LeftOver}
+
+module _ {S T : Type 0} (took : T → Text → T → Type 0) (Stands : S → S → List ℕ → List Text → Type 0)
+    (new before now : S) (taker middle last : T) (limit : ℕ) (octets : List ℕ) (all : List Text)
+    (stood : Stands new before (take limit octets) all) (handed : HandedOver took taker all middle)
+    (most : limit ≤ most_limit) where
+  pub fed-turn : (After : S → S → List ℕ → List Text → Type 0) (turn piece : List ℕ)
+      → take limit (octets ++ turn) ≡ take limit octets ++ piece
+      → Takes took Stands After before now middle last piece
+      → (texts : List Text) × After new now (take limit (octets ++ turn)) texts × HandedOver took taker texts last
+  fed-turn After turn piece same t =
+      let few : length (take limit octets) + length piece ≤ most_limit =
+      omega (
+        arith,
+        most,
+        length-append (take limit octets) piece,
+        ap length same,
+        length-take limit (octets ++ turn),
+      ) in (
+        all ++ t.texts,
+        subst (λ (o : List ℕ). After new now o (all ++ t.texts)) (sym same)
+            (t.stands new (take limit octets) all few stood),
+        HandedOver-append took taker middle last all t.texts handed t.handed,
+      )
+
+  -- it goes on or has stopped
+  pub fed-either : (Stopped : S → S → List ℕ → List Text → Type 0) (goes_on : Bool) (turn piece : List ℕ)
+      → take limit (octets ++ turn) ≡ take limit octets ++ piece
+      → (goes_on ≡ true → Takes took Stands Stands before now middle last piece)
+      → (goes_on ≡ false → Takes took Stands Stopped before now middle last piece)
+      → (texts : List Text) × (Stands new now (take limit (octets ++ turn)) texts
+      ⊎ Stopped new now (take limit (octets ++ turn)) texts) × HandedOver took taker texts last
+  fed-either Stopped true turn piece same on stops =
+      let f = fed-turn Stands turn piece same (on refl) in (f.0, inl f.1, f.2)
+  fed-either Stopped false turn piece same on stops =
+      let f = fed-turn Stopped turn piece same (stops refl) in (f.0, inr f.1, f.2)
+
+  pub fed-end : (Finished : S → S → List ℕ → List Text → Outcome → Type 0) (by : Outcome)
+      → TakesEnd took Stands Finished before now middle last by
+      → (texts : List Text) × Finished new now (take limit octets) texts by × HandedOver took taker texts last
+  fed-end Finished by t =
+      let few : length (take limit octets) ≤ most_limit = omega (arith, most, length-take limit octets) in (
+        all ++ t.texts,
+        t.finished new (take limit octets) all few stood,
+        HandedOver-append took taker middle last all t.texts handed t.handed,
+      )
+
+-- how it ended by its outcome
+pub staged-end : {S : Type 0} (stands stopped : S → List ℕ → List Text → Type 0)
+    (finished : S → List ℕ → List Text → Outcome → Type 0) (limit : ℕ) (now : S) (by : Outcome) (octets : List ℕ)
+    (texts : List Text) → length octets ≤ limit → finished now octets texts by
+    → StagedTo stands stopped finished limit now (ending_at_end by) octets texts
+staged-end stands stopped finished limit now Done octets texts within is = (is, within)
+staged-end stands stopped finished limit now Bad octets texts within is = (is, within)
+staged-end stands stopped finished limit now LeftOver octets texts within is = (is, within)

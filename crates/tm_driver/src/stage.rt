@@ -1,0 +1,158 @@
+// What turns a stream of octets into texts, and the driver that feeds it.
+ghost use Rattle.std.specs.Prelude.{◌≡◌, ℕ, ◌+◌, ◌≤◌, Bool, true, List, [], length, if◌then◌else◌, false, IsTrue};
+ghost use Rattle.tm_base.specs.Limits.{most_limit};
+ghost use Rattle.tm_base.specs.Takers.{HandedOver};
+ghost use Rattle.tm_base.specs.Written.{Gave};
+ghost use Rattle.tm_driver.specs.Courses.{SinksWent, SourceWent, sink_call, source_call};
+ghost use Rattle.tm_driver.specs.Driven.{turn_size};
+ghost use Rattle.tm_driver.specs.Meaning.{taken_by};
+ghost use Rattle.tm_driver.specs.Staged.{StagedTo, Takes, TakesEnd};
+ghost use Rattle.tm_driver.specs.Statuses.{is_sink_fault};
+ghost use Rattle.tm_driver.specs.Writing.{Text, WroteTexts};
+ghost use Rattle.tm_driver.specs.declared.ending.Outcome.{Outcome};
+
+use crate::driver::TURN;
+use crate::ending::{Ending, Outcome};
+use crate::text_taker::TextTaker;
+use crate::writer::Writer;
+use tm_base::{Failed, Sink, Source};
+
+/// Takes a stream of octets in pieces, and then its end, and gives texts as it goes. It never fails, and meets no
+/// fault: the driver writes the texts.
+pub trait Stage {
+    /// Since the first value, which was new, the second was given exactly these octets, and has given exactly these
+    /// texts.
+    ghost stands: { Self → Self → List ℕ → List Text → Type 0 };
+
+    /// The same, and it takes no more octets.
+    ghost stopped: { Self → Self → List ℕ → List Text → Type 0 };
+
+    /// The same, and it was given the end, with this outcome.
+    ghost finished: { Self → Self → List ℕ → List Text → Outcome → Type 0 };
+
+    /// It may be fed.
+    ghost is_ready: { Self → Type 0 };
+
+    /// Takes the next octets, at most those of a turn. Returns whether it takes more.
+    fn feed<W: TextTaker>(&mut self, piece: &[u8], texts: &mut W) -> bool
+        requires ready { is_ready self.old }
+        requires few { length piece.now ≤ turn_size }
+        ensures ready { IsTrue result → is_ready self.new }
+        ensures goes_on { IsTrue result → Takes W.took stands stands self.old self.new texts.old texts.new piece.now }
+        ensures stops { result ≡ false → Takes W.took stands stopped self.old self.new texts.old texts.new piece.now };
+
+    /// Takes the end of the stream.
+    fn finish<W: TextTaker>(&mut self, texts: &mut W) -> Outcome
+        requires ready { is_ready self.old }
+        ensures { TakesEnd W.took stands finished self.old self.new texts.old texts.new result };
+}
+
+/// Feeds a stage that was given nothing yet what the source gives, up to `limit` octets, and its end, and writes the
+/// texts that it gives. It reads at most one octet past the limit, in turns of at most 4,096, and nothing after the end,
+/// after a fault, or once the stage has stopped. After a fault it writes nothing. Returns how that ended.
+pub fn drive_stage<S: Source, T: Stage, O: Sink, N: Sink>(
+    limit: u64,
+    source: &mut S,
+    stage: &mut T,
+    out: &mut O,
+    notes: &mut N,
+) -> Ending
+    requires ready { T.is_ready stage.old }
+    requires limit { limit ≤ most_limit }
+    requires fresh { T.stands stage.old stage.old [] [] }
+    ensures staged { (octets : List ℕ) × (texts : List Text) × Gave (S.given source.old) (S.given source.new)
+        (S.left source.old) (S.left source.new) octets × (length octets ≤ limit + 1)
+        × StagedTo (T.stands stage.old) (T.stopped stage.old) (T.finished stage.old) limit stage.new result octets texts
+        × WroteTexts (is_sink_fault result) texts
+        (taken_by (O.taken out.old) (O.taken out.new) (N.taken notes.old) (N.taken notes.new)) }
+    ensures source { SourceWent result (source_call S.given S.left S.ended S.faults S.is_last source.old source.new) }
+    ensures sinks { SinksWent (is_sink_fault result) (sink_call O.taken O.faults O.is_last out.old out.new)
+        (sink_call N.taken N.faults N.is_last notes.old notes.new) }
+{
+    let mut writer = Writer {
+        out,
+        notes,
+        has_failed: false,
+    };
+    let ending = drive_writer(limit, source, stage, &mut writer);
+    let Writer {
+        out: _,
+        notes: _,
+        has_failed: _,
+    } = writer;
+    ending
+}
+
+// Does what `drive_stage` does, with a writer none of whose sinks has failed.
+fn drive_writer<S: Source, T: Stage, O: Sink, N: Sink>(
+    limit: u64,
+    source: &mut S,
+    stage: &mut T,
+    writer: &mut Writer<'_, '_, O, N>,
+) -> Ending
+    requires ready { T.is_ready stage.old }
+    requires limit { limit ≤ most_limit }
+    requires fresh { T.stands stage.old stage.old [] [] }
+    requires going { writer.old.has_failed ≡ false }
+    ensures staged { (octets : List ℕ) × (texts : List Text) × Gave (S.given source.old) (S.given source.new)
+        (S.left source.old) (S.left source.new) octets × (length octets ≤ limit + 1)
+        × StagedTo (T.stands stage.old) (T.stopped stage.old) (T.finished stage.old) limit stage.new result octets texts
+        × WroteTexts (is_sink_fault result) texts (taken_by (O.taken writer.old.out.now) (O.taken writer.new.out.now)
+        (N.taken writer.old.notes.now) (N.taken writer.new.notes.now)) }
+    ensures source { SourceWent result (source_call S.given S.left S.ended S.faults S.is_last source.old source.new) }
+    ensures sinks { SinksWent (is_sink_fault result)
+        (sink_call O.taken O.faults O.is_last writer.old.out.now writer.new.out.now)
+        (sink_call N.taken N.faults N.is_last writer.old.notes.now writer.new.notes.now) }
+    ensures same { (writer.new.out.ghost_name ≡ writer.old.out.ghost_name)
+        × (writer.new.notes.ghost_name ≡ writer.old.notes.ghost_name) }
+{
+    drive_into(limit, source, stage, writer)
+}
+
+// Does what `drive_stage` does, with a taker of texts that has not failed.
+fn drive_into<S: Source, T: Stage, W: TextTaker>(
+    limit: u64,
+    source: &mut S,
+    stage: &mut T,
+    texts: &mut W,
+) -> Ending
+    requires ready { T.is_ready stage.old }
+    requires limit { limit ≤ most_limit }
+    requires fresh { T.stands stage.old stage.old [] [] }
+    requires going { W.failed texts.old ≡ false }
+    ensures staged { (octets : List ℕ) × (all : List Text) × Gave (S.given source.old) (S.given source.new)
+        (S.left source.old) (S.left source.new) octets × (length octets ≤ limit + 1)
+        × StagedTo (T.stands stage.old) (T.stopped stage.old) (T.finished stage.old) limit stage.new result octets all
+        × HandedOver W.took texts.old all texts.new }
+    ensures failed { W.failed texts.new ≡ is_sink_fault result }
+    ensures source { SourceWent result (source_call S.given S.left S.ended S.faults S.is_last source.old source.new) }
+{
+    let mut buffer = [0; TURN];
+    let mut room = limit + 1;
+    while room > 0 {
+        let most = room.min(TURN as u64) as usize;
+        let turn = &mut buffer[..most];
+        match source.read(turn) {
+            Ok(0) => {
+                let outcome = stage.finish(texts);
+                if texts.has_failed() {
+                    return Ending::SinkFault;
+                }
+                return outcome.ending();
+            }
+            Ok(count) => {
+                room -= count as u64;
+                let kept = if room == 0 { count - 1 } else { count };
+                let goes_on = stage.feed(&buffer[..kept], texts);
+                if texts.has_failed() {
+                    return Ending::SinkFault;
+                }
+                if !goes_on {
+                    return Ending::BadWindow;
+                }
+            }
+            Err(Failed) => return Ending::SourceFault,
+        }
+    }
+    Ending::PastLimit
+}
