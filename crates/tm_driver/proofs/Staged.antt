@@ -94,3 +94,23 @@ module _ {S : Type 0} (stands stopped : S → List ℕ → List Text → Type 0)
       in-order_all o texts taken (whole o texts f.0 (up-to octets) f.1).0 wrote
   ends-staged PastLimit octets texts taken d wrote =
       (was-early (take limit octets) texts taken (up-to octets) d.0 wrote, d.1)
+
+-- what holds of the texts of a stage, whatever came of it, holds however it ended
+pub staged-texts : {S : Type 0} (stands stopped : S → List ℕ → List Text → Type 0)
+    (finished : S → List ℕ → List Text → Outcome → Type 0) (limit : ℕ) (now : S) (P : List Text → Type 0)
+    → ((o : List ℕ) (texts : List Text) → stands now o texts → P texts)
+    → ((o : List ℕ) (texts : List Text) → stopped now o texts → P texts)
+    → ((o : List ℕ) (texts : List Text) (by : Outcome) → finished now o texts by → P texts)
+    → (ending : Ending) (octets : List ℕ) (texts : List Text)
+    → StagedTo stands stopped finished limit now ending octets texts → P texts
+staged-texts stands stopped finished limit now P s t f Done octets texts d = f octets texts outcome.Done d.0
+staged-texts stands stopped finished limit now P s t f Bad octets texts d = f octets texts outcome.Bad d.0
+staged-texts stands stopped finished limit now P s t f LeftOver octets texts d = f octets texts outcome.LeftOver d.0
+staged-texts stands stopped finished limit now P s t f BadWindow octets texts d = t (take limit octets) texts d
+staged-texts stands stopped finished limit now P s t f SourceFault octets texts d = s octets texts d.0
+staged-texts stands stopped finished limit now P s t f SinkFault octets texts (inl d) = s (take limit octets) texts d
+staged-texts stands stopped finished limit now P s t f SinkFault octets texts (inr (inl d)) =
+    t (take limit octets) texts d
+staged-texts stands stopped finished limit now P s t f SinkFault octets texts (inr (inr d)) =
+    f (take limit octets) texts d.0 d.1
+staged-texts stands stopped finished limit now P s t f PastLimit octets texts d = s (take limit octets) texts d.0

@@ -28,3 +28,5 @@ mod ReadWindows
 mod DueWindows
 pub mod ToldWindows
 pub mod DecodedWindows
+pub mod HandedAll
+pub mod ReadOctets

@@ -25,7 +25,7 @@ use std::marker::Model;
 use tm_base::{Failed, NoMemory, to_unsigned};
 use tm_config::{Config, Sought};
 use tm_conv::symbols_of;
-use tm_viterbi::BlockTaker;
+use tm_viterbi::{Block, BlockTaker};
 use tm_windows::{Chosen, Crew, QueueSettings, STREAM_BOUND, WindowQueue};
 
 /// What came of all octets.
@@ -55,6 +55,17 @@ pub struct InnerDecoder {
     // Whether all octets were given.
     has_ended: bool,
 }
+
+// No block, where there is none to speak of.
+const NO_BLOCK: Block<'static> = Block {
+    start: 0,
+    steps: 0,
+    kept: 0,
+    metric: 0,
+    bits: &[],
+    end_state: 0,
+    dropped: 0,
+};
 
 // The queue of windows of a configuration, or None where there is no inner code. Windows that keep up to `waiting` bits
 // may be buffered.
@@ -172,6 +183,7 @@ impl InnerDecoder {
             → IsSoFarBy self.new.config (phase_octets self.new.config given) self.new.chosen) }
         ensures drained { result ≡ 0 → IsDrained self.new.queue }
         ensures shorter { 0 < result → length (held_in self.new.queue) < length (held_in self.old.queue) }
+        ensures moved { length (held_in self.new.queue) ≤ length (held_in self.old.queue) }
         ensures settled { (chosen : Chosen) → self.old.chosen ≡ Some chosen → self.new.chosen ≡ Some chosen }
         ensures still { IsSettledQueue self.old.queue → IsSettledQueue self.new.queue }
         ensures phase { (self.new.has_phase ≡ self.old.has_phase) × (self.new.has_ended ≡ self.old.has_ended) }
@@ -270,6 +282,17 @@ impl InnerDecoder {
         match &self.queue {
             Some(queue) => queue.kept_bits(index),
             None => &[],
+        }
+    }
+
+    /// A block that is ready.
+    pub fn block(&self, index: usize) -> Block<'_>
+        requires { index < length (ready_in self.now.queue) }
+        ensures { (block : WindowBlock) → result ≡ slice_index_or (ready_in self.now.queue) index block }
+    {
+        match &self.queue {
+            Some(queue) => queue.block(index),
+            None => NO_BLOCK,
         }
     }
 

@@ -3,8 +3,10 @@ ghost use Rattle.std.specs.Prelude.{◌≡◌, ◌<◌, ◌≤◌, ◌++◌, ◌
 ghost use Rattle.std.specs.List.{All};
 ghost use Rattle.tm_conv.specs.Cost.{most_branch_metric};
 ghost use Rattle.tm_base.specs.Bits.{AreOctets, bits_of};
+ghost use Rattle.tm_base.specs.Handed.{Handed};
 ghost use Rattle.tm_config.specs.Accepted.{IsAccepted};
 ghost use Rattle.tm_config.specs.Configuration.{Configuration};
+ghost use Rattle.tm_inner.specs.Handing.{AreHanded, AreHandedDue};
 ghost use Rattle.tm_inner.specs.Inner.{IsStartKnown, AreInnerBlocks, AreInnerDue, Inner, inner_bits};
 ghost use Rattle.tm_viterbi.specs.WindowBlock.{WindowBlock};
 ghost use Rattle.tm_viterbi.specs.WindowSizes.{most_window};
@@ -50,6 +52,19 @@ pub fn due_bits_law()
 {
     closed_prefix_law();
     due_windows_law();
+}
+
+/// What is due for octets precedes all that is handed over of these octets with any others after them. It does nothing.
+pub fn handed_law()
+    ensures { (c : Configuration) (octets more : List ℕ) (due : List (Handed WindowBlock)) → IsAccepted c
+        → AreHandedDue c octets due → (rest : List (Handed WindowBlock)) × (left : ℕ)
+        × AreHanded c (octets ++ more) (due ++ rest) left }
+{
+    closed_prefix_law();
+    due_windows_law();
+    one_windows_law();
+    phase_law();
+    whole_window_law();
 }
 
 /// Where the first symbol of a received bit stands hangs on no block after the one that keeps it. It does nothing.

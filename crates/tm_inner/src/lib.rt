@@ -18,6 +18,8 @@ pub use code::{held_bits, is_inverted, rate_of, shape_of};
 pub use decoder::{InnerDecoder, InnerEnd};
 pub use inner_receiver::{InnerReceiver, inner_all};
 pub use inner_sender::{InnerSender, SendError};
-pub use laws::{clean_inner_law, due_bits_law, inner_law, metric_law, symbols_law, windows_law};
+pub use laws::{
+    clean_inner_law, due_bits_law, handed_law, inner_law, metric_law, symbols_law, windows_law,
+};
 pub use watch::{NoWatch, WindowWatch, watch_ready};
 pub use window::Window;

@@ -398,6 +398,7 @@ impl WindowQueue {
         ensures waits { result ≡ 0 → (given : List ℕ) (done : List WindowBlock) → BeforePhase self.new given done
             → length self.new.held < phase_size self.new }
         ensures shorter { 0 < result → length self.new.held < length self.old.held }
+        ensures moved { length self.new.held ≤ length self.old.held }
         ensures counted { reached self.new ≤ reached self.old }
         ensures settled { (chosen : Chosen) → self.old.chosen ≡ Some chosen → self.new.chosen ≡ Some chosen }
         ensures ended { self.new.has_ended ≡ self.old.has_ended }
