@@ -1,8 +1,8 @@
 -- Looks for slips before windows one after another.
-use Rattle.std.proofs.Common.{◌≡◌, ℕ, ◌+◌, ◌*◌, ◌<◌, ◌≤◌, ◌∙◌, inl, inr, refl, sym, ap, subst, arith, List, Some, drop, length, length-drop, mul-le-mul_right}
+use Rattle.std.proofs.Common.{◌≡◌, ℕ, ◌+◌, ◌*◌, ◌<◌, ◌≤◌, ◌∙◌, inl, inr, refl, sym, subst, arith, List, Some, drop, length, mul-le-mul_right}
 use Rattle.std.proofs.lemmas.Bool.{cases_lt}
 use Rattle.tm_conv.specs.Path.{steps_size}
-use Rattle.tm_conv.proofs.Sizes.{steps_size-le, steps_size-least}
+use Rattle.tm_conv.proofs.Sizes.{steps_size-le}
 use Rattle.tm_viterbi.specs.declared.window_decoder.WindowShape.{WindowShape}
 use Rattle.tm_windows.specs.Looks.{HoldLooks, IsFirstDrop, IsUndroppedAt}
 use Rattle.tm_windows.specs.Slip.{IsSlip, octets_seen}
@@ -71,7 +71,7 @@ pub record AreLooksOf (v : Inside) (l : Looks) : Type 0 where
   pub t : l.t ≡ v.t
   pub octets : l.octets.now ≡ v.held.octets
 
--- a look says that nothing is dropped, over so many steps of windows of a shape from a step on
+-- nothing is dropped before window `number`, as a look over `steps` steps says: window 0 has this shape, step and octets
 abbrev Still : ℕ → ℕ → WindowShape × ℕ × List ℕ → Type 0
 Still steps number x = IsSlip x.0.rate x.0.invert (x.1 + number * x.0.keep) steps
     (drop (steps_size x.0.rate x.1 (number * x.0.keep)) x.2) 0

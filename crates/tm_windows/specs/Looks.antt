@@ -5,7 +5,8 @@ use Rattle.tm_windows.specs.Phase.{most_period_size}
 use Rattle.tm_windows.specs.Slip.{IsSlip, most_seen}
 use Rattle.tm_windows.specs.declared.looks.Looks.{Looks}
 
--- nothing is dropped before the window of this number, where nothing is dropped before those between
+-- nothing is dropped before the window of this number, where nothing is dropped before those from
+-- number 0 on
 abbrev pub IsUndroppedAt : Looks → ℕ → Type 0
 IsUndroppedAt l number = IsSlip l.shape.rate l.shape.invert (l.t + number * l.shape.keep) l.steps
     (drop (steps_size l.shape.rate l.t (number * l.shape.keep)) l.octets.now) 0

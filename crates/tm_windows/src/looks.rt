@@ -15,8 +15,7 @@ use tm_viterbi::WindowShape;
 // The fewest looks that are shared out: one worker makes fewer in the millisecond that a thread may take to begin.
 const LEAST_SHARED_LOOKS: usize = 64;
 
-/// Looks over `steps` steps before windows of a shape one after another, of which number 0 begins at step `t` with these
-/// octets.
+/// Looks over `steps` steps before windows of a shape one after another: number 0 begins at step `t` with these octets.
 #[derive(Clone, Copy)]
 pub struct Looks<'a> {
     pub(crate) shape: WindowShape,
@@ -58,9 +57,9 @@ impl<'a> Looks<'a> {
     }
 }
 
-/// The first of the windows but number 0, up to number `last`, before which octets are dropped, or `last` where there is
-/// none. The crew looks before 1 window, then 2, 4 and so on, so that at most as many looks are made for nothing as
-/// others.
+/// The first of the windows from number 1 on, up to number `last`, before which octets are dropped, or `last` where
+/// there is none. The crew looks before one window, then two, four and so on, so that at most twice as many looks are
+/// made as one after another would take.
 pub(crate) fn next_drop<C: Crew>(crew: &C, looks: &Looks<'_>, workers: usize, last: usize) -> usize
     requires ready { C.is_ready crew.now }
     requires workers { (0 < workers) × (workers ≤ most_workers) }

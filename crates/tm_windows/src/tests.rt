@@ -1,6 +1,6 @@
 // Tests of what only this crate can see. Windows that were each begun from a wrong register: settled, their blocks are
-// those of the decoder. Runs that are shared out, whatever the workers. A queue whose windows are decoded really side by
-// side, where these have enough steps, and looks that are made so, where there are enough.
+// those of the decoder. Runs that are shared out, whatever the workers. A queue whose windows are decoded really side
+// by side, where these have enough steps, and looks that are made so, where there are enough.
 ghost use Rattle.std.specs.Prelude.{◌+◌, ◌*◌, ◌^◌, ◌<◌, ◌≤◌, ◌≡◌, length};
 ghost use Rattle.tm_base.specs.Limits.{most_workers};
 ghost use Rattle.tm_conv.specs.Path.{steps_size};

@@ -1,4 +1,4 @@
-use Rattle.std.proofs.Common.{◌≡◌, ◌≤◌, ◌∙◌, ℕ, sym, arith, below_more}
+use Rattle.std.proofs.Common.{◌≤◌, ◌∙◌, ℕ, sym, arith, below_more}
 use Rattle.tm_windows.specs.Looks.{IsUndroppedAt}
 use Rattle.tm_windows.proofs.FirstDrops.{fewer_looks, fewer_steps}
 use Rattle.tm_windows.proofs.looks.Looks.first_drop.Goals as goal
