@@ -3,9 +3,9 @@
 //! An element is a number below 256 whose bit k is the coefficient of alpha^k, where alpha is a
 //! root of F(x) = x^8 + x^7 + x^2 + x + 1. Products go by two tables, of powers and of logarithms.
 //!
-//! The dual basis is how an element is written as the octet that is sent for it, and read back. An octet is converted by
-//! one look-up in a table of 256, and a word sixteen octets at a time, each by its two halves; with `Basis::Poly` the
-//! octet is the number itself.
+//! The dual basis is how an element is written as the octet that is sent for it, and read back. An octet is converted
+//! by one look-up in a table of 256, and a word sixteen octets at a time, each by its two halves; with `Basis::Poly`
+//! the octet is the number itself.
 #![tactic(auto)]
 
 pub mod basis;
