@@ -17,10 +17,6 @@ due-nil c =
     (places_after-nil (rules_of c) (columns_of c) (sound_in c []) 0 None)
     ∙ take-nil (in_batches c.batch 0)
 
--- nothing was due of no bits
-pub beyond-nil : (c : Configuration) (fs : List Found) → beyond (due c []) fs ≡ fs
-beyond-nil c fs = ap (λ (l : List Found). drop (length l) fs) (due-nil c)
-
 pub due-then-last : (c : Configuration) (bits : List Bool) → due c bits
     ++ beyond (due c bits) (places_in c bits) ≡ places_in c bits
 due-then-last c bits =
@@ -28,9 +24,8 @@ due-then-last c bits =
     ap (λ n. due c bits ++ drop n fs) (length-due c bits) ∙ take-append-drop (due_count c bits) fs
 
 pub all-items : (c : Configuration) (bits : List Bool) (items others : List ItemValue)
-    → AreItemsOf c bits (beyond (due c []) (due c bits)) items
-    → AreItemsOf c bits (beyond (due c bits) (places_in c bits)) others → AreItems c bits (items ++ others)
+    → AreItemsOf c bits (due c bits) items → AreItemsOf c bits (beyond (due c bits) (places_in c bits)) others
+    → AreItems c bits (items ++ others)
 all-items c bits items others are also =
     subst (λ (fs : List Found). AreItemsOf c bits fs (items ++ others)) (due-then-last c bits)
-    (items-append c bits (due c bits) (beyond (due c bits) (places_in c bits)) items others
-    (subst (λ (fs : List Found). AreItemsOf c bits fs items) (beyond-nil c (due c bits)) are) also)
+    (items-append c bits (due c bits) (beyond (due c bits) (places_in c bits)) items others are also)

@@ -1,8 +1,8 @@
 -- How many items are due: those in whole batches.
-use Rattle.std.proofs.Common.{◌≡◌, ◌+◌, ◌-◌, ◌*◌, ◌/◌, ◌%◌, ◌<◌, ◌≤◌, ℕ, zero, suc, Bool, List, length, ap, ◌∙◌, arith}
-use Rattle.std.proofs.Math.Nat.{div-add-mod, div-mul-le_self, mul-div-le, mul-le-mul_left, mul-mod_right, mul-suc, mul_comm}
+use Rattle.std.proofs.Common.{◌≡◌, ◌+◌, ◌-◌, ◌*◌, ◌/◌, ◌%◌, ◌<◌, ◌≤◌, ℕ, suc, Bool, List, length, ap, ◌∙◌, arith}
+use Rattle.std.proofs.Math.Nat.{div-add-mod, mul-div-le, mul-mod_right, mul-suc, mul_comm}
 use Rattle.std.proofs.lemmas.List.{length-take-le}
-use Rattle.std.proofs.lemmas.Nat.{div-mul-add, le-div}
+use Rattle.std.proofs.lemmas.Nat.{div-mul-add}
 use Rattle.tm_config.specs.Configuration.{Configuration}
 use Rattle.tm_codeblock.specs.ReceivedCodeblock.{places_in}
 use Rattle.tm_channel.specs.Due.{in_batches, due_count, due}
@@ -24,12 +24,6 @@ full size m n least all =
     let parts : n ≡ size * suc (m / size) = omega (arith, least, all, mul-suc size (m / size)) in
     let none : n % size ≡ 0 = ap (λ k. k % size) parts ∙ mul-mod_right size (suc (m / size)) in
     omega (arith, none, div-add-mod n size)
-
-pub batches-more : (size m n : ℕ) → in_batches size m ≤ in_batches size (m + n)
-batches-more zero m n = omega arith
-batches-more (suc size) m n =
-    let before = div-mul-le_self m (suc size) in
-    mul-le-mul_left (suc size) (le-div (m / suc size) (m + n) (suc size) (omega arith) (omega (arith, before)))
 
 pub length-due : (c : Configuration) (bits : List Bool) → length (due c bits) ≡ due_count c bits
 length-due c bits =

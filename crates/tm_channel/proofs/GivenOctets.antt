@@ -3,7 +3,6 @@
 use Rattle.std.proofs.Common.{◌≡◌, ◌==◌, ◌<◌, ◌≤◌, ◌+◌, ◌-◌, ◌*◌, ◌^◌, ℕ, inl, inr, if◌then◌else◌, Bool, true, false, List, [], ◌∷◌, ◌++◌, length, drop, map, refl, sym, ap, ◌∙◌, subst, arith, append_assoc, length-append, length-drop, Option, Some, None}
 use Rattle.std.specs.Option.{is_some}
 use Rattle.std.proofs.lemmas.List.{append-nil, length-map, map-append}
-use Rattle.std.proofs.Math.Seq.{drop-length}
 use Rattle.tm_base.specs.Handed.{Handed, Item, on_handed, items_of}
 use Rattle.tm_base.specs.Pieces.{beyond}
 use Rattle.tm_base.specs.Takers.{HandedOver}
@@ -37,10 +36,10 @@ use Rattle.tm_channel.specs.Due.{due}
 use Rattle.tm_channel.specs.declared.totals.Totals.{Totals}
 use Rattle.tm_channel.specs.Handing.{totals_of, phase_of, AreReceived, AreReceivedDue}
 use Rattle.tm_channel.specs.Most.{AreFew}
-use Rattle.tm_channel.specs.Receiving.{waiting_bits, AreFurther}
+use Rattle.tm_channel.specs.Receiving.{waiting_bits, AreDue}
 use Rattle.tm_channel.specs.OctetReceiving.{BitReceiving, BitReceiverStandsFor, Stages, StagesFor, StagesHand, StagesOn, AreSpare, Decodes, Decoded, Received, ReceivedLast, SymbolsFor, bits_of_blocks}
-use Rattle.tm_channel.proofs.Streaming.{items-then}
-use Rattle.tm_channel.proofs.AllBits.{beyond-nil, all-items, due-nil}
+use Rattle.tm_channel.proofs.Streaming.{due-end, items-more}
+use Rattle.tm_channel.proofs.AllBits.{all-items, due-nil}
 use Rattle.tm_channel.proofs.ReceivedPieces.{all_bits, all_bits-append}
 use Rattle.tm_channel.proofs.PhasedItems.{prefix-nil, with_phase-split, none-after, phase_from-append, phase_from-items, phase_of-with_phase, phased-further}
 use Rattle.tm_channel.proofs.FurtherBits.{found-none, found-some, further-at, phased-items, bits-last}
@@ -52,14 +51,18 @@ use Rattle.tm_channel.proofs.FirstStage.{Ending, Fills, Settles, Stays, chosen-e
 
 -- ---- pieces of octets
 
+-- they are of one configuration
+abbrev pub IsOf : Stages → Type 0
+IsOf s = s.bits.batch.config ≡ s.inner.config
+
 -- those that were due, and those that further bits make due
-due-further : (c : Configuration) (bits piece : List Bool) (done items : List ItemValue)
-    → AreItemsOf c bits (due c bits) done → AreFurther c bits piece items
-    → AreItemsOf c (bits ++ piece) (due c (bits ++ piece)) (done ++ items)
-due-further c bits piece done items are also =
-    subst (λ (fs : List Found). AreItemsOf c (bits ++ piece) fs (done ++ items)) (beyond-nil c (due c (bits ++ piece)))
-    (items-then c [] bits piece done items (subst (λ (fs : List Found). AreItemsOf c bits fs done)
-    (sym (beyond-nil c (due c bits))) are) also)
+due-further : (s : Stages) (bits piece : List Bool) (done items : List ItemValue) → IsOf s
+    → AreDue s.bits.batch.config (BitReceiverStandsFor s.bits) piece items → length (bits ++ piece) < 2 ^ 63
+    → BitReceiverStandsFor s.bits bits → AreItemsOf s.inner.config bits (due s.inner.config bits) done
+    → AreItemsOf s.inner.config (bits ++ piece) (due s.inner.config (bits ++ piece)) (done ++ items)
+due-further s bits piece done items of are few stood =
+    subst (λ (k : Configuration). AreItemsOf k bits (due k bits) done
+    → AreItemsOf k (bits ++ piece) (due k (bits ++ piece)) (done ++ items)) of (are bits done few stood)
 
 -- ---- the phase comes once
 
@@ -157,10 +160,6 @@ phased-more c given handed waiting more done items others phase (inr before) are
     ∙ ap (λ (o : Option Chosen). with_phase o (items ++ others)) (sym (phase_from-append None handed more))
 
 -- ---- both stages go on
-
--- they are of one configuration
-abbrev pub IsOf : Stages → Type 0
-IsOf s = s.bits.batch.config ≡ s.inner.config
 
 few-nil : (rate : Option Rate) (c : Configuration) (given : List ℕ)
     → length (bits_at rate c given []) ≤ 8 * length given
@@ -302,43 +301,6 @@ pub read-phase : (d : InnerDecoding) (given : List ℕ) (handed : List (Handed W
 read-phase d given handed read all =
     ap phase_of (read-all d given handed read all) ∙ phase_of-with_phase d.chosen read.blocks
 
-record Onward (s : Stages) (now : InnerDecoding) (given octets : List ℕ) (handed : List (Handed WindowBlock))
-    (phase : Option Chosen) (blocks : List WindowBlock) (piece : List Bool) : Type 0 where
-  more : List (Handed WindowBlock)
-  are_more : items_of (handed ++ more) ≡ items_of handed ++ blocks
-  read : HasRead now (given ++ octets) (handed ++ more)
-  all : unread now ≡ None
-  so_far : IsChosenSoFar now.config (given ++ octets) now.chosen
-  first : FirstSoFar s.inner.config (given ++ octets) (handed ++ more)
-  is_phase : phase ≡ phase_of more
-  is : inner_bits s.inner.config (given ++ octets) (items_of (handed ++ more))
-      ≡ inner_bits s.inner.config given (items_of handed) ++ piece
-  few : length (inner_bits s.inner.config given (items_of handed) ++ piece) < 2 ^ 63
-
-onward : (s : Stages) (now : InnerDecoding) (octets : List ℕ) (phase : Option Chosen) (blocks : List WindowBlock)
-    (piece : List Bool) → Grows s.inner now octets phase blocks piece
-    → (given : List ℕ) (done : List (Handed ItemValue)) → length given + length octets < 2 ^ 60
-    → (stood : StagesFor s given done) → Onward s now given octets stood.handed phase blocks piece
-onward s now octets phase blocks piece grows given done few stood =
-    let c = s.inner.config in
-    let f = grows.further given stood.handed stood.going few stood.inner in
-    let handed = stood.handed ++ f.more in
-    let first = subst (λ (k : Configuration). FirstSoFar k (given ++ octets) handed) grows.config
-    (first-read now (given ++ octets) handed f.read f.all f.so_far) in
-    record {
-      more = f.more;
-      are_more = f.are_more;
-      read = f.read;
-      all = f.all;
-      so_far = f.so_far;
-      first = first;
-      is_phase = f.is_phase;
-      is = f.bits;
-      few =
-          few_bits (inner_bits c given (items_of stood.handed)) (inner_bits c (given ++ octets) (items_of handed)) piece
-          given octets f.bits (due-few c (given ++ octets) handed first) few;
-    }
-
 -- all that is due with the octets was handed over
 stages-due : {T : Type 0} (took : T → ItemValue → T → Type 0) (s now : Stages) (middle taker_now : T)
     (octets : List ℕ) (phase : Option Chosen) (blocks : List WindowBlock) (piece : List Bool)
@@ -350,17 +312,21 @@ stages-due : {T : Type 0} (took : T → ItemValue → T → Type 0) (s now : Sta
 stages-due took s now middle taker_now octets phase blocks piece of grows drained p says given done few stood =
     let c = s.inner.config in
     let same = grows.config in
-    let f = onward s now.inner octets phase blocks piece grows given done few stood in
+    let all = given ++ octets in
+    let f = grows.further given stood.handed stood.going few stood.inner in
     let handed = stood.handed ++ f.more in
     let bits = inner_bits c given (items_of stood.handed) in
+    let first = subst (λ (k : Configuration). FirstSoFar k all handed) same
+    (first-read now.inner all handed f.read f.all f.so_far) in
+    let short = few_bits bits (inner_bits c all (items_of handed)) piece given octets f.bits (due-few c all handed first)
+    few in
     let said = stage-said s now octets blocks piece p.items says given stood.handed stood.inner handed f.are_more stood.going
-    few stood.bits f.few f.is stood.symbols in
+    few stood.bits short f.bits stood.symbols in
     let earlier = stage-earlier s now octets blocks piece given stood.handed stood.inner handed f.read grows.config grows.kept
-    f.are_more f.is stood.items stood.are_at in
-    let more = subst (λ (k : Configuration). AreFurther k bits piece p.items) of (p.due bits f.few stood.bits) in
-    let items = subst (λ (l : List Bool). AreItemsOf c l (due c l) (stood.items ++ p.items)) (sym f.is)
-    (due-further c bits piece stood.items p.items stood.are_items more) in
-    let stands = subst (BitReceiverStandsFor now.bits) (sym f.is) (p.stands bits f.few stood.bits) in
+    f.are_more f.bits stood.items stood.are_at in
+    let items = subst (λ (l : List Bool). AreItemsOf c l (due c l) (stood.items ++ p.items)) (sym f.bits)
+    (due-further s bits piece stood.items p.items of p.due short stood.bits stood.are_items) in
+    let stands = subst (BitReceiverStandsFor now.bits) (sym f.bits) (p.stands bits short stood.bits) in
     let due_now = handed-due now.inner (given ++ octets) handed
     (record { read = f.read; all = f.all; drained = drained; so_far = f.so_far }) in (
       record {
@@ -395,7 +361,7 @@ stages-due took s now middle taker_now octets phase blocks piece of grows draine
         are =
             phased-more c given stood.handed stood.waiting f.more done stood.items p.items phase stood.are_due
             stood.are_items stood.are
-            (once-due c given octets stood.handed stood.waiting f.more stood.are_due f.first) f.is_phase;
+            (once-due c given octets stood.handed stood.waiting f.more stood.are_due first) f.is_phase;
       },
       f.more,
       refl,
@@ -616,12 +582,9 @@ received-due s given done stood =
           ∙ phase_from-items (phase_of handed) waiting) ∙ ap phase_of h.are
           ∙ phase_of-with_phase h.chosen h.items in
           let more = with-waiting c.inner c given (items_of handed) waiting in
-          let nothing : AreFurther c bits more.0 [] =
-          subst (λ (fs : List Found). AreItemsOf c (bits ++ more.0) fs [])
-          (sym (ap (beyond (due c bits)) (sym (ap (due c) more.1) ∙ stood.none_due) ∙ drop-length (due c bits)))
-          tt in
-          let items = subst (AreItemsOf c (bits ++ more.0) (due c (bits ++ more.0))) (append-nil stood.items)
-          (due-further c bits more.0 stood.items [] stood.are_items nothing) in
+          let items = subst (λ (fs : List Found). AreItemsOf c (bits ++ more.0) fs stood.items)
+          (sym stood.none_due ∙ ap (due c) more.1)
+          (items-more c bits more.0 (due c bits) stood.items (due-end c bits) stood.are_items) in
           inr (
             g.0,
             record {
@@ -852,14 +815,11 @@ pub items-ended : {T : Type 0} (took : T → ItemValue → T → Type 0) (s : St
 items-ended took s bits_now taker middle now piece of p q given done stood few =
     let c = s.inner.config in
     let bits = inner_bits c given (items_of stood.handed) in
-    let more = subst (λ (k : Configuration). AreFurther k bits piece p.items) of (p.due bits few stood.bits) in
-    let due_items = due-further c bits piece stood.items p.items stood.are_items more in
+    let due_items = due-further s bits piece stood.items p.items of p.due few stood.bits stood.are_items in
     let last = subst (λ (k : Configuration). AreItemsOf k (bits ++ piece)
     (beyond (due k (bits ++ piece)) (places_in k (bits ++ piece))) q.items)
     (p.config ∙ of) (q.last (bits ++ piece) (p.stands bits few stood.bits)) in
-    let items = all-items c (bits ++ piece) (stood.items ++ p.items) q.items
-    (subst (λ (fs : List Found). AreItemsOf c (bits ++ piece) fs (stood.items ++ p.items))
-    (sym (beyond-nil c (due c (bits ++ piece)))) due_items) last in
+    let items = all-items c (bits ++ piece) (stood.items ++ p.items) q.items due_items last in
     subst (AreItems c (bits ++ piece)) (append_assoc stood.items p.items q.items) items
 
 pub ends : {T : Type 0} (took : T → ItemValue → T → Type 0) (s : Stages) (bits_now : BitReceiving)

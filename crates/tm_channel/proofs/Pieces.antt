@@ -1,11 +1,9 @@
 -- A piece of the bits, and then another.
 use Rattle.std.proofs.Common.{◌<◌, ◌^◌, Bool, List, ◌++◌, length, subst, arith, append_assoc, length-append}
-use Rattle.tm_base.specs.Pieces.{beyond}
 use Rattle.tm_config.specs.Configuration.{Configuration}
 use Rattle.tm_channel.specs.Items.{ItemValue, AreItemsOf}
 use Rattle.tm_channel.specs.Due.{due}
 use Rattle.tm_channel.specs.Receiving.{AreDue, GoesOn}
-use Rattle.tm_channel.proofs.Streaming.{items-then}
 
 -- fewer bits in all are fewer in the prefix
 prefix-few : (bits piece more : List Bool) → length (bits ++ (piece ++ more)) < 2 ^ 63 → length (bits ++ piece) < 2 ^ 63
@@ -32,8 +30,9 @@ goes-then Stood Stands Ends piece more first second bits few h =
 pub due-then : (c : Configuration) (Stood Stands : List Bool → Type 0) (piece more : List Bool)
     (items others : List ItemValue) → GoesOn Stood Stands piece
     → AreDue c Stood piece items → AreDue c Stands more others → AreDue c Stood (piece ++ more) (items ++ others)
-due-then c Stood Stands piece more items others goes are also bits few h =
-    subst (λ (l : List Bool). AreItemsOf c l (beyond (due c bits) (due c l)) (items ++ others))
-    (append_assoc bits piece more)
-    (items-then c bits piece more items others (are bits (prefix-few bits piece more few) h)
-    (also (bits ++ piece) (all-few bits piece more few) (goes bits (prefix-few bits piece more few) h)))
+due-then c Stood Stands piece more items others goes are also bits done few h was =
+    let before = prefix-few bits piece more few in
+    subst (λ (l : List Bool). AreItemsOf c l (due c l) (done ++ (items ++ others))) (append_assoc bits piece more)
+    (subst (AreItemsOf c ((bits ++ piece) ++ more) (due c ((bits ++ piece) ++ more))) (append_assoc done items others)
+    (also (bits ++ piece) (done ++ items) (all-few bits piece more few) (goes bits before h)
+    (are bits done before h was)))

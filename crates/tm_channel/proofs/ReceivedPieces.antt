@@ -1,18 +1,15 @@
 -- The bits of one block after another are received.
 use Rattle.std.proofs.Common.{◌≡◌, ◌==◌, ◌<◌, ◌≤◌, ◌^◌, ℕ, Bool, List, [], ◌++◌, length, map, refl, sym, ap, ◌∙◌, subst, arith, append_assoc, length-append}
 use Rattle.std.proofs.lemmas.List.{append-nil, map-append}
-use Rattle.std.proofs.Math.Seq.{drop-length}
-use Rattle.tm_base.specs.Pieces.{beyond}
 use Rattle.tm_base.specs.Takers.{HandedOver}
 use Rattle.tm_base.proofs.Handing.{HandedOver-append}
 use Rattle.tm_config.specs.Configuration.{Configuration}
-use Rattle.tm_sync.specs.declared.found.Found.{Found}
 use Rattle.tm_viterbi.specs.WindowBlock.{WindowBlock}
 use Rattle.tm_viterbi.specs.Clean.{kept_bits}
 use Rattle.tm_inner.proofs.DueBits.{kept-append}
 use Rattle.tm_channel.specs.Items.{ItemValue, AreItemsOf}
 use Rattle.tm_channel.specs.Due.{due, due_count}
-use Rattle.tm_channel.specs.Receiving.{AreDue, AreFurther, GoesOn, Holds, HoldsMore}
+use Rattle.tm_channel.specs.Receiving.{AreDue, GoesOn, Holds, HoldsMore}
 use Rattle.tm_channel.specs.OctetReceiving.{BitReceiving, BitReceiverStandsFor, HasSymbols, Notes, Received, ReceivedAt, SaySymbols, Settles, SettlesSymbols}
 use Rattle.tm_channel.proofs.KeptSymbols.{stands-noted, symbols-then}
 use Rattle.tm_channel.proofs.Pieces.{goes-then, due-then}
@@ -25,9 +22,9 @@ received-none took s taker = record {
   stands = λ bits few stood. subst (BitReceiverStandsFor s) (sym (append-nil bits)) stood;
   items = [];
   handed = refl;
-  due = λ bits few stood. subst (λ (fs : List Found). AreItemsOf s.batch.config (bits ++ []) fs [])
-      (sym (ap (λ (l : List Bool). beyond (due s.batch.config bits) (due s.batch.config l)) (append-nil bits)
-      ∙ drop-length (due s.batch.config bits))) tt;
+  due = λ bits done few stood are.
+      subst (λ (l : List Bool). AreItemsOf s.batch.config l (due s.batch.config l) (done ++ [])) (sym (append-nil bits))
+      (subst (AreItemsOf s.batch.config bits (due s.batch.config bits)) (sym (append-nil done)) are);
 }
 
 -- bits were given to a receiver, of which its search reported nothing
@@ -53,8 +50,9 @@ received-pushed took a b c taker now piece items config pushes same settles hand
   stands = λ bits few stood. (settles bits piece few (held-then a b piece bits config pushes few stood)).0;
   items = items;
   handed = handed;
-  due = λ bits few stood. subst (λ (k : Configuration). AreFurther k bits piece items) config
-      (settles bits piece few (held-then a b piece bits config pushes few stood)).1;
+  due = λ bits done few stood. subst (λ (k : Configuration). AreItemsOf k bits (due k bits) done
+      → AreItemsOf k (bits ++ piece) (due k (bits ++ piece)) (done ++ items)) config
+      ((settles bits piece few (held-then a b piece bits config pushes few stood)).1 done);
 }
 
 -- bits, and then others
@@ -150,6 +148,7 @@ received-noted took a b c taker now bits notes p =
       stands = λ given few stood. p.stands given few (stands-noted a b given notes stood);
       items = p.items;
       handed = p.handed;
-      due = λ given few stood. subst (λ (k : Configuration). AreFurther k given bits p.items) same
-          (p.due given few (stands-noted a b given notes stood));
+      due = λ given done few stood. subst (λ (k : Configuration). AreItemsOf k given (due k given) done
+          → AreItemsOf k (given ++ bits) (due k (given ++ bits)) (done ++ p.items)) same
+          (p.due given done few (stands-noted a b given notes stood));
     }

@@ -1,24 +1,24 @@
 -- Codeblocks that are whole with the last bits, one after another.
-use Rattle.std.proofs.Common.{◌≡◌, ℕ, ◌^◌, ◌<◌, ◌≤◌, Bool, List, [], ◌++◌, length, drop, sym, ap, ◌∙◌, subst, arith, length-append}
+use Rattle.std.proofs.Common.{◌≡◌, ℕ, ◌^◌, ◌<◌, Bool, List, [], ◌++◌, length, sym, ap, ◌∙◌, subst, append_assoc}
+use Rattle.std.proofs.lemmas.List.{append-nil}
 use Rattle.tm_config.specs.Configuration.{Configuration}
 use Rattle.tm_sync.specs.declared.found.Found.{Found}
 use Rattle.tm_sync.specs.Finding.{Finding, Recent}
 use Rattle.tm_codeblock.specs.ReceivedCodeblock.{places_in}
 use Rattle.tm_channel.specs.Items.{ItemValue, AreItemsOf}
-use Rattle.tm_channel.specs.Due.{in_batches, due_count_of, due_of, due_count, due}
-use Rattle.tm_channel.specs.Receiving.{AreFurther, Holding, HoldsFound, HoldsMore, IsHanded}
+use Rattle.tm_channel.specs.Due.{due_count_of, due_of, due_count, due}
+use Rattle.tm_channel.specs.Receiving.{Holding, HoldsFound, HoldsMore, IsHanded}
 use Rattle.tm_channel.specs.OctetReceiving.{BitReceiving, BitReceiverStandsFor}
-use Rattle.tm_channel.proofs.Batches.{batches-more}
-use Rattle.tm_channel.proofs.Streaming.{after-due, batch-items, batch-stands, due-none}
+use Rattle.tm_channel.proofs.Streaming.{batch-items, batch-stands, due-end, items-more}
 
 -- Of `all` bits, which follow others for which a receiver stood, these places were found by now, and these items were
 -- handed over.
 pub record Settling (before now : BitReceiving) (bits all : List Bool) (items : List ItemValue) : Type 0 where
   pub found : List Found
   pub holds : HoldsFound now.finder now.recent now.batch (due_count_of before.batch.config found) all found
-  pub least : due_count before.batch.config bits ≤ due_count_of before.batch.config found
-  pub are_items : AreItemsOf before.batch.config all (drop (due_count before.batch.config bits)
-      (due_of before.batch.config found)) items
+  pub are_items : (done : List ItemValue)
+      → AreItemsOf before.batch.config bits (due before.batch.config bits) done
+      → AreItemsOf before.batch.config all (due_of before.batch.config found) (done ++ items)
 
 -- nothing was found in the last bits yet
 pub settling-start : (r : BitReceiving) (bits more : List Bool)
@@ -29,8 +29,8 @@ settling-start r bits more h =
     record {
       found = places_in c bits;
       holds = h;
-      least = omega arith;
-      are_items = subst (λ (fs : List Found). AreItemsOf c (bits ++ more) fs []) (sym (due-none c bits)) tt;
+      are_items = λ done are. subst (AreItemsOf c (bits ++ more) (due c bits)) (sym (append-nil done))
+          (items-more c bits more (due c bits) done (due-end c bits) are);
     }
 
 -- what a receiver does that keeps the codeblocks of these places more
@@ -73,18 +73,13 @@ settling-handed a b m n next others config_b config_m finder recent config_n kee
     let config : m.batch.config ≡ c = config_m ∙ config_b in
     let held = held-next a b m next bits all items config keeps few s in
     let is = subst (λ (k : Configuration). IsHanded k m.batch.stored n.batch.stored others) config handed in
-    let more : due_count_of c s.found ≤ due_count_of c now =
-    subst (λ (k : ℕ). due_count_of c s.found ≤ in_batches c.batch k) (sym (length-append s.found next))
-    (batches-more c.batch (length s.found) (length next)) in
-    let least = s.least in
     record {
       found = now;
       holds = holds-same c m n (due_count_of c now) all now finder recent (config_n ∙ config)
           (batch-stands c m.finder m.recent.bits m.batch.stored n.batch.stored s.found now all others held is);
-      least = omega (arith, least, more);
-      are_items =
-          batch-items c m.finder m.recent.bits m.batch.stored n.batch.stored s.found next all (due_count c bits) items
-          others held is s.least s.are_items;
+      are_items = λ done are. subst (AreItemsOf c all (due_of c now)) (append_assoc done items others)
+          (batch-items c m.finder m.recent.bits m.batch.stored n.batch.stored s.found next all (done ++ items) others held
+          is (s.are_items done are));
     }
 
 -- all places were found
@@ -94,7 +89,9 @@ pub settling-all : (a b n : BitReceiving) → b.batch.config ≡ a.batch.config 
     → HoldsFound n.finder n.recent n.batch handed bits found × (places_in b.batch.config bits ≡ found))
     → (bits more : List Bool) (items : List ItemValue) → length (bits ++ more) < 2 ^ 63
     → Settling a b bits (bits ++ more) items
-    → BitReceiverStandsFor n (bits ++ more) × AreFurther a.batch.config bits more items
+    → BitReceiverStandsFor n (bits ++ more) × ((done : List ItemValue)
+    → AreItemsOf a.batch.config bits (due a.batch.config bits) done
+    → AreItemsOf a.batch.config (bits ++ more) (due a.batch.config (bits ++ more)) (done ++ items))
 settling-all a b n config_b config_n none bits more items few s =
     let c = a.batch.config in
     let all : List Bool = bits ++ more in
@@ -106,7 +103,6 @@ settling-all a b n config_b config_n none bits more items few s =
       subst (λ (fs : List Found). HoldsFound n.finder n.recent n.batch (due_count_of n.batch.config fs) all fs) there
           (subst (λ (k : Configuration). HoldsFound n.finder n.recent n.batch (due_count_of k s.found) all s.found)
           (sym config) held.0),
-      subst (λ (fs : List Found). AreItemsOf c all fs items) (sym (after-due c bits (due c all)))
-          (subst (λ (fs : List Found). AreItemsOf c all (drop (due_count c bits) (due_of c fs)) items)
-          (sym here) s.are_items),
+      λ done are. subst (λ (fs : List Found). AreItemsOf c all (due_of c fs) (done ++ items)) (sym here)
+          (s.are_items done are),
     )

@@ -1,8 +1,8 @@
 -- What a receiver keeps and has handed over, as bits go on.
-use Rattle.std.proofs.Common.{◌≡◌, ℕ, zero, suc, ◌+◌, ◌-◌, ◌<◌, ◌≤◌, Bool, List, [], ◌∷◌, ◌++◌, length, take, drop, map, refl, sym, ap, ◌∙◌, subst, arith, append_assoc, length-append, length-drop, take-append-drop, None, inl, inr}
+use Rattle.std.proofs.Common.{◌≡◌, ℕ, zero, suc, ◌+◌, ◌-◌, ◌<◌, ◌≤◌, Bool, List, [], ◌∷◌, ◌++◌, length, take, drop, map, refl, sym, ap, ◌∙◌, subst, arith, length-drop, take-append-drop, None, inl, inr}
 use Rattle.std.specs.List.{AllByRecursion}
-use Rattle.std.proofs.lemmas.List.{length-map, length-take-le, take-append-le, drop-append-le, append-nil}
-use Rattle.std.proofs.Math.Seq.{drop-length, drop-nil, take-length, drop-append_seam}
+use Rattle.std.proofs.lemmas.List.{length-map, take-append-le, drop-append-le, append-nil}
+use Rattle.std.proofs.Math.Seq.{drop-length, drop-nil, take-length}
 use Rattle.tm_base.specs.Pieces.{beyond}
 use Rattle.tm_sync.specs.declared.found.Found.{Found}
 use Rattle.tm_sync.specs.Finding.{Finding, places_left}
@@ -10,11 +10,11 @@ use Rattle.tm_sync.proofs.Longer.{EndBefore}
 use Rattle.tm_sync.proofs.Rescanned.{places_after-nil}
 use Rattle.tm_config.specs.Configuration.{Configuration}
 use Rattle.tm_codeblock.specs.ReceivedCodeblock.{rules_of, codeblock_at, columns_of, places_in, sound_in}
-use Rattle.tm_codeblock.proofs.PlacesIn.{places_in-append, places_in-end}
+use Rattle.tm_codeblock.proofs.PlacesIn.{places_in-end}
 use Rattle.tm_channel.specs.Items.{ItemValue, IsItem, AreItemsOf, AreFirstItemsOf}
 use Rattle.tm_channel.specs.Due.{in_batches, due_count, due_count_of, due_of, due}
 use Rattle.tm_channel.specs.Receiving.{StoredCodeblock, stored_of, stored_at, AreItemsFor, Holding, IsHanded}
-use Rattle.tm_channel.proofs.Batches.{batches-le, batches-more, full, length-due, not_full}
+use Rattle.tm_channel.proofs.Batches.{batches-le, full, length-due, not_full}
 
 -- ---- codeblocks stay as the bits go on
 block-same : (c : Configuration) (bits more : List Bool) (f : Found)
@@ -107,10 +107,6 @@ pub after-due : (c : Configuration) (bits : List Bool) (fs : List Found)
 after-due c bits fs =
     ap (λ k. drop k fs) (length-due c bits)
 
--- none of the places that are due
-pub due-none : (c : Configuration) (bits : List Bool) → drop (due_count c bits) (due c bits) ≡ []
-due-none c bits = ap (λ k. drop k (due c bits)) (sym (length-due c bits)) ∙ drop-length (due c bits)
-
 -- the batch was handed over where it is full with what was reported last
 pub batch-stands : (c : Configuration) (s : Finding) (recent : List Bool) (stored stored' : List StoredCodeblock)
     (reported now : List Found) (bits : List Bool) (items : List ItemValue)
@@ -138,43 +134,29 @@ due-before : (c : Configuration) (reported fs : List Found)
 due-before c reported fs =
     take-append-le (due_count_of c reported) reported fs (batches-le c.batch (length reported))
 
-due-split : (c : Configuration) (reported fs : List Found) (count : ℕ) → count ≤ due_count_of c reported
-    → drop count (reported ++ fs)
-    ≡ drop count (due_of c reported) ++ drop (due_count_of c reported) (reported ++ fs)
-due-split c reported fs count least =
-    let now : List Found = reported ++ fs in
-    let long : length (due_of c reported) ≡ due_count_of c reported =
-    length-take-le (due_count_of c reported) reported (batches-le c.batch (length reported)) in
-    let split : now ≡ due_of c reported ++ drop (due_count_of c reported) now =
-    sym (take-append-drop (due_count_of c reported) now) ∙ ap (λ l. l ++ drop (due_count_of c reported) now)
-    (due-before c reported fs) in
-    ap (drop count) split ∙ drop-append-le count (due_of c reported) (drop (due_count_of c reported) now)
-    (omega (arith, long, least))
-
--- the items handed over are those of the places reported that are due, but for the first `count`
+-- the items of the places reported that are due, and those handed over
 pub batch-items : (c : Configuration) (s : Finding) (recent : List Bool) (stored stored' : List StoredCodeblock)
-    (reported fs : List Found) (bits : List Bool) (count : ℕ) (items others : List ItemValue)
+    (reported fs : List Found) (bits : List Bool) (items others : List ItemValue)
     → Holding c s recent stored (due_count_of c reported) bits (reported ++ fs)
-    → IsHanded c stored stored' others
-    → count ≤ due_count_of c reported → AreItemsOf c bits (drop count (due_of c reported)) items
-    → AreItemsOf c bits (drop count (due_of c (reported ++ fs))) (items ++ others)
-batch-items c s recent stored stored' reported fs bits count items others h (inl (few, same, none)) least were =
+    → IsHanded c stored stored' others → AreItemsOf c bits (due_of c reported) items
+    → AreItemsOf c bits (due_of c (reported ++ fs)) (items ++ others)
+batch-items c s recent stored stored' reported fs bits items others h (inl (few, same, none)) were =
     let now : List Found = reported ++ fs in
     let wait = waiting-count c s recent stored (due_count_of c reported) bits now h in
     let still = not_full c.batch (length reported) (length now) h.within (subst (λ n. n < c.batch) wait few) in
     let due_now : due_of c now ≡ due_of c reported = ap (λ n. take n now) still ∙ due-before c reported fs in
-    subst (λ (fs : List Found). AreItemsOf c bits (drop count fs) (items ++ others)) (sym due_now)
-    (subst (λ (l : List ItemValue). AreItemsOf c bits (drop count (due_of c reported)) l)
+    subst (λ (fs : List Found). AreItemsOf c bits fs (items ++ others)) (sym due_now)
+    (subst (λ (l : List ItemValue). AreItemsOf c bits (due_of c reported) l)
     (sym (ap (λ l. items ++ l) none ∙ append-nil items)) were)
-batch-items c s recent stored stored' reported fs bits count items others h (inr (many, nothing, are)) least were =
+batch-items c s recent stored stored' reported fs bits items others h (inr (many, nothing, are)) were =
     let now : List Found = reported ++ fs in
+    let rest : List Found = drop (due_count_of c reported) now in
     let wait = waiting-count c s recent stored (due_count_of c reported) bits now h in
     let whole = full c.batch (length reported) (length now) h.within (sym wait ∙ many) in
-    let all : due_of c now ≡ now = ap (λ n. take n now) whole ∙ take-length now in
-    subst (λ (fs : List Found). AreItemsOf c bits fs (items ++ others))
-    (sym (ap (drop count) all ∙ due-split c reported fs count least))
-    (items-append c bits (drop count (due_of c reported)) (drop (due_count_of c reported) now) items others were
-    (items-of c bits (drop (due_count_of c reported) now) others
+    let all : due_of c now ≡ due_of c reported ++ rest = ap (λ n. take n now) whole ∙ take-length now
+    ∙ sym (take-append-drop (due_count_of c reported) now) ∙ ap (λ l. l ++ rest) (due-before c reported fs) in
+    subst (λ (fs : List Found). AreItemsOf c bits fs (items ++ others)) (sym all)
+    (items-append c bits (due_of c reported) rest items others were (items-of c bits rest others
     (subst (λ (ks : List StoredCodeblock). AreItemsFor c ks others) h.waiting are)))
 
 pub take-take : {A : Type 0} (a c : ℕ) (xs : List A) → a ≤ c → take a (take c xs) ≡ take a xs
@@ -198,62 +180,16 @@ items-more c bits more (f ∷ fs) [] ends are = absurd are
 items-more c bits more (f ∷ fs) (item ∷ items) ends are =
     (item-more c bits more f item ends.0 are.0, items-more c bits more fs items ends.1 are.1)
 
--- ---- what is due goes on
 take-all : {A : Type 0} (P : A → Type 0) (count : ℕ) (xs : List A) → AllByRecursion P xs
     → AllByRecursion P (take count xs)
 take-all P zero xs all = tt
 take-all P (suc count) [] all = tt
 take-all P (suc count) (x ∷ xs) all = (all.0, take-all P count xs all.1)
 
-pub due-end : (c : Configuration) (bits : List Bool) (count : ℕ)
-    → EndBefore (rules_of c) (length bits) (drop count (due c bits))
-due-end c bits count =
-    let P : Found → Type 0 = λ f. f.place + 32 + (rules_of c).block_bits ≤ length bits in
-    drop-all P count (due c bits) (take-all P (due_count c bits) (places_in c bits)
-    (places_in-end c bits))
-
-pub due-more : (c : Configuration) (bits more : List Bool) → due c (bits ++ more) ≡ due c bits
-    ++ beyond (due c bits) (due c (bits ++ more))
-due-more c bits more =
-    let fs = places_in c bits in
-    let rest = drop (length fs) (places_in c (bits ++ more)) in
-    let is = places_in-append c bits more in
-    let a : ℕ = due_count c bits in
-    let b : ℕ = due_count c (bits ++ more) in
-    let le : a ≤ b = let grows : length (places_in c (bits ++ more)) ≡ length fs + length rest =
-    ap length is ∙ length-append fs rest in
-    subst (λ (n : ℕ). a ≤ in_batches c.batch n) (sym grows) (batches-more c.batch (length fs) (length rest)) in
-    let first : take a (due c (bits ++ more)) ≡ due c bits =
-    take-take a b (places_in c (bits ++ more)) le ∙ ap (take a) is
-    ∙ take-append-le a fs rest (batches-le c.batch (length fs)) in
-    sym (take-append-drop a (due c (bits ++ more))) ∙ (λ i. first i
-    ++ drop (sym (length-due c bits) i) (due c (bits ++ more)))
-
--- beyond in two steps
-beyond-twice : (xs ys zs : List Found) → ys ≡ xs ++ beyond xs ys → zs ≡ ys ++ beyond ys zs
-    → beyond xs zs ≡ beyond xs ys ++ beyond ys zs
-beyond-twice xs ys zs first second =
-    ap (drop (length xs)) (second ∙ ap (λ l. l ++ beyond ys zs) first ∙ append_assoc xs (beyond xs ys) (beyond ys zs))
-    ∙ drop-append_seam xs (beyond xs ys ++ beyond ys zs)
-
-pub due-twice : (c : Configuration) (bits more rest : List Bool) → beyond (due c bits) (due c ((bits ++ more) ++ rest))
-    ≡ beyond (due c bits) (due c (bits ++ more)) ++ beyond (due c (bits ++ more)) (due c ((bits ++ more) ++ rest))
-due-twice c bits more rest =
-    beyond-twice (due c bits) (due c (bits ++ more)) (due c ((bits ++ more) ++ rest)) (due-more c bits more)
-    (due-more c (bits ++ more) rest)
-
--- a piece, and then another
-pub items-then : (c : Configuration) (bits more rest : List Bool) (items others : List ItemValue)
-    → AreItemsOf c (bits ++ more) (beyond (due c bits) (due c (bits ++ more))) items
-    → AreItemsOf c ((bits ++ more) ++ rest) (beyond (due c (bits ++ more)) (due c ((bits ++ more) ++ rest))) others
-    → AreItemsOf c ((bits ++ more) ++ rest) (beyond (due c bits) (due c ((bits ++ more) ++ rest))) (items ++ others)
-items-then c bits more rest items others are also =
-    let first : List Found = beyond (due c bits) (due c (bits ++ more)) in
-    let second : List Found = beyond (due c (bits ++ more)) (due c ((bits ++ more) ++ rest)) in
-    subst (λ (fs : List Found). AreItemsOf c ((bits ++ more) ++ rest) fs (items ++ others))
-    (sym (due-twice c bits more rest))
-    (items-append c ((bits ++ more) ++ rest) first second items others
-    (items-more c (bits ++ more) rest first items (due-end c (bits ++ more) (length (due c bits))) are) also)
+pub due-end : (c : Configuration) (bits : List Bool) → EndBefore (rules_of c) (length bits) (due c bits)
+due-end c bits =
+    take-all (λ f. f.place + 32 + (rules_of c).block_bits ≤ length bits) (due_count c bits) (places_in c bits)
+    (places_in-end c bits)
 
 -- ---- the end
 pub items-last : (c : Configuration) (s : Finding) (recent : List Bool)

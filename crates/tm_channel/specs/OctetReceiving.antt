@@ -28,7 +28,7 @@ use Rattle.tm_channel.specs.declared.totals.Totals.{Totals}
 use Rattle.tm_channel.specs.Handing.{phase_of, AreReceived, AreReceivedDue, AreReceivedFirst, AreReceivedPrefix}
 use Rattle.tm_channel.specs.Most.{AreFew}
 use Rattle.tm_channel.specs.Origins.{AreAt, AreSpaced, Noted, origin_at, place_symbol, symbol_by}
-use Rattle.tm_channel.specs.Receiving.{Batching, Stands, HoldsFound, HoldsMore, waiting_bits, GoesOn, AreDue, AreFurther, AreLast}
+use Rattle.tm_channel.specs.Receiving.{Batching, Stands, HoldsFound, HoldsMore, waiting_bits, GoesOn, AreDue, AreLast}
 
 -- what contracts see of a receiver of bits
 pub record BitReceiving : Type 0 where
@@ -202,12 +202,15 @@ FinishChooses before now = (given : List ℕ) (done : List (Handed ItemValue))
 -- ---- codeblocks that are whole
 
 -- Whatever bits it stood for, and whichever were given then, of which the search passed none: it
--- stands for all now, and these are the items that are due with the last ones.
+-- stands for all now, and after the items that were due these are due too.
 abbrev pub Settles : BitReceiving → BitReceiving → List ItemValue → Type 0
 Settles before now items = (bits more : List Bool) → length (bits ++ more) < bits_bound
     → HoldsMore before.finder before.recent before.batch (due_count before.batch.config bits) bits
     more
-    → BitReceiverStandsFor now (bits ++ more) × AreFurther before.batch.config bits more items
+    → BitReceiverStandsFor now (bits ++ more) × ((done : List ItemValue)
+    → AreItemsOf before.batch.config bits (due before.batch.config bits) done
+    → AreItemsOf before.batch.config (bits ++ more) (due before.batch.config (bits ++ more))
+    (done ++ items))
 
 -- whichever symbols they have, those of the codeblocks that are stored are known still
 abbrev pub KeepsSymbols : BitReceiving → BitReceiving → Type 0

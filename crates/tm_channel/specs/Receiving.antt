@@ -17,16 +17,12 @@ use Rattle.tm_channel.specs.Origins.{PlaceSymbol}
 
 -- ---- when an item is handed over
 
--- these items are due once `piece` follows the bits, and were not due before
-abbrev pub AreFurther : Configuration → List Bool → List Bool → List ItemValue → Type 0
-AreFurther c bits piece items = AreItemsOf c (bits ++ piece)
-    (beyond (due c bits) (due c (bits ++ piece))) items
-
--- whatever bits the receiver stood for, these are the items that are due with the piece and were
--- not due before
+-- whatever bits the receiver stood for: after the items that were due of them, these are due too
+-- once the piece follows
 abbrev pub AreDue : Configuration → (List Bool → Type 0) → List Bool → List ItemValue → Type 0
-AreDue c Stood piece items = (bits : List Bool) → length (bits ++ piece) < bits_bound → Stood bits
-    → AreFurther c bits piece items
+AreDue c Stood piece items = (bits : List Bool) (done : List ItemValue)
+    → length (bits ++ piece) < bits_bound → Stood bits → AreItemsOf c bits (due c bits) done
+    → AreItemsOf c (bits ++ piece) (due c (bits ++ piece)) (done ++ items)
 
 -- whatever bits the receiver stood for, these are the items that were not due before the end of the
 -- bits was known
