@@ -1,7 +1,6 @@
 -- What a receiver holds, as bits are given to it, are passed, and are places.
 use Rattle.std.proofs.Common.{◌≡◌, ℕ, ◌+◌, ◌-◌, ◌*◌, ◌^◌, ◌<◌, ◌≤◌, Bool, true, false, cond, List, [], ◌∷◌, ◌++◌, length, take, drop, map, refl, sym, ap, ◌∙◌, subst, arith, append_assoc, length-append, length-drop, Option, Some, None, IfSome}
-use Rattle.std.proofs.lemmas.List.{append-nil, drop-append-le, drop-drop, map-append, take-append-le}
-use Rattle.std.proofs.Math.Seq.{take-length}
+use Rattle.std.proofs.lemmas.List.{append-nil, drop-append-le, drop-drop, map-append}
 use Rattle.tm_config.specs.Configuration.{Configuration, codeblock_length, correctable}
 use Rattle.tm_sync.specs.declared.found.Columns.{Columns}
 use Rattle.tm_sync.specs.declared.found.Found.{Found}
@@ -226,11 +225,3 @@ pub holding-left : (c : Configuration) (s s' : Finding) (recent recent' : List B
 holding-left c s s' recent recent' stored stored' handed bits found f sound few t keeps h =
     holding-next c s s' recent recent' stored stored' handed bits found [] f sound few t
     (keeps ∙ sym (append-nil stored)) h
-
--- the last one is dropped
-pub drop-last : {A : Type 0} (stored now : List A) (k : A) → now ≡ stored ++ k ∷ []
-    → take (length now - 1) now ≡ stored
-drop-last stored now k is =
-    let count : length (stored ++ k ∷ []) - 1 ≡ length stored = omega (arith, length-append stored (k ∷ [])) in
-    ap (λ l. take (length l - 1) l) is ∙ ap (λ n. take n (stored ++ k ∷ [])) count
-    ∙ take-append-le (length stored) stored (k ∷ []) (omega arith) ∙ take-length stored

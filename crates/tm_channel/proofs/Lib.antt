@@ -46,5 +46,6 @@ pub mod WatchedStages
 mod FewItems
 pub mod ColumnsRead
 pub mod Repaired
+pub mod ExpectedItems
 pub mod SoundItems
 mod PlainOctets

@@ -8,7 +8,7 @@ use Rattle.tm_codeblock.specs.ReceivedCodeblock.{column_count, received_columns}
 use Rattle.tm_channel.specs.ColumnWords.{all_symbols}
 use Rattle.tm_channel.specs.Items.{ItemValue, AreNearest, is_given}
 use Rattle.tm_channel.specs.Origins.{PlaceSymbol}
-use Rattle.tm_channel.specs.Receiving.{StoredCodeblock}
+use Rattle.tm_channel.specs.Receiving.{AreItemsFor, StoredCodeblock}
 use Rattle.tm_channel.specs.declared.slot.Slot.{Slot}
 
 -- the codeblock in a slot, of `size` octets
@@ -61,3 +61,7 @@ abbrev pub AreDecoded : Configuration → List Slot → List Word → Type 0
 AreDecoded c slots words =
     (index : ℕ) (slot : Slot) → index < length slots
     → IsDecoded c (codeblock_in_slot c slots index slot) (words_at (column_count c) words index)
+
+-- each of these slots holds its codeblock's item
+abbrev pub AreItemsIn : Configuration → List Slot → Type 0
+AreItemsIn c slots = AreItemsFor c (map (stored_in (codeblock_length c)) slots) (map (item_in c) slots)

@@ -94,14 +94,15 @@ impl BitReceiver {
             × Settles (receiving self.old origins.now) (receiving self.new origins.now) items
             × SettlesSymbols (receiving self.old origins.now) (receiving self.new origins.now) items }
     {
-        while self.keep_next(origins) {
+        while self.keep_next(crew, origins) {
             self.hand_full(crew, taker);
         }
     }
 
     // Keeps the next codeblock that is whole with the last bits, or passes it where it does not count. Returns whether
     // there was one.
-    fn keep_next(&mut self, origins: &Origins) -> bool
+    fn keep_next<C: ReceiverCrew>(&mut self, crew: &C, origins: &Origins) -> bool
+        requires crew { C.can_decode crew.now }
         requires agree { Agree self.old.finder self.old.recent self.old.batch }
         requires few { length self.old.batch.stored < self.old.batch.config.batch }
         ensures agree { Agree self.new.finder self.new.recent self.new.batch }
@@ -121,12 +122,15 @@ impl BitReceiver {
         match self.finder.next(&mut self.recent) {
             None => false,
             Some(found) => {
+                let is_inside = self.finder.is_inside();
+                if !self.batch.may_keep(found, is_inside, &self.recent) {
+                    self.finder.take(&mut self.recent, found, false);
+                    return true;
+                }
                 let origin = origins.at(found.place);
                 let symbol = self.batch.symbol(origin, found.place);
-                let sound = self.batch.keep(found, symbol, &self.recent);
-                if !self.finder.take(&mut self.recent, found, sound) {
-                    self.batch.drop_last();
-                }
+                let sound = self.batch.keep(crew, found, symbol, &self.recent);
+                self.finder.take(&mut self.recent, found, sound);
                 true
             }
         }

@@ -7,6 +7,7 @@ mod bit_receiver;
 mod bit_stream;
 mod column_words;
 mod crew;
+mod expected;
 mod item;
 mod laws;
 mod origins;

@@ -1,6 +1,5 @@
 // A codeblock that is whole, and what came of it.
 ghost use Rattle.std.specs.Prelude.{◌≡◌, ◌<◌, ◌≤◌, ◌+◌, ◌*◌, drop, length, take};
-ghost use Rattle.tm_base.specs.Marker.{marker_size};
 ghost use Rattle.tm_config.specs.Configuration.{codeblock_length, longest_codeblock};
 ghost use Rattle.tm_codeblock.specs.ReceivedCodeblock.{column_count};
 ghost use Rattle.tm_channel.specs.Items.{IsItem};
@@ -26,24 +25,26 @@ pub struct Slot {
 }
 
 impl Slot {
-    /// Writes the codeblock of this place and its symbol. The bits begin with it.
+    /// Writes the codeblock of this place and its symbol. It stands after the first `from` bits, which end with its
+    /// marker.
     pub fn fill(
         &mut self,
         config: &Config,
         found: Found,
         symbol: u64,
         size: usize,
+        from: usize,
         recent: &RecentBits,
     )
-        requires whole { marker_size + 8 * size ≤ length recent.now.bits }
+        requires whole { from + 8 * size ≤ length recent.now.bits }
         requires most { size ≤ longest_codeblock }
         ensures stored { stored_in size self.new
-            ≡ stored_of config.now found (take (8 * size) (drop marker_size recent.now.bits)) }
+            ≡ stored_of config.now found (take (8 * size) (drop from recent.now.bits)) }
         ensures place { place_in self.new ≡ record { place = found.place; symbol = symbol } }
     {
         self.found = found;
         self.symbol = symbol;
-        recent.copy(32, &mut self.octets[..size]);
+        recent.copy(from, &mut self.octets[..size]);
         read_codeblock(config, found.inverted, &mut self.octets[..size]);
     }
 

@@ -1,17 +1,18 @@
 // The codeblocks of a batch.
-ghost use Rattle.std.specs.Prelude.{◌≡◌, ◌<◌, ◌≤◌, ◌+◌, ◌-◌, ◌*◌, ◌^◌, true, [], ◌∷◌, ◌++◌, IfOk, drop, length, take};
+ghost use Rattle.std.specs.Prelude.{◌≡◌, ◌<◌, ◌≤◌, ◌+◌, ◌-◌, ◌*◌, ◌^◌, true, false, [], ◌∷◌, ◌++◌, IfOk, drop, length, take};
 ghost use Rattle.std.specs.Option.{is_some};
 ghost use Rattle.tm_base.specs.Marker.{marker_size};
 ghost use Rattle.tm_config.specs.Configuration.{longest_codeblock, most_batch, codeblock_length};
 ghost use Rattle.tm_codeblock.specs.ReceivedCodeblock.{codeblock_in, is_sound};
 ghost use Rattle.tm_conv.specs.Path.{farthest_step};
 ghost use Rattle.tm_channel.specs.Origins.{place_symbol, symbol_by};
-ghost use Rattle.tm_channel.specs.Receiving.{AreItemsFor, AreWritten, IsItemAt, least_bits, stored_of, waiting_bits};
+ghost use Rattle.tm_channel.specs.Receiving.{AreItemsFor, AreWritten, IsItemAt, stored_of, waiting_bits};
 
 use crate::crew::ReceiverCrew;
-use crate::item::{Item, are_fixed};
+use crate::expected::{Expected, is_sound, take_next};
+use crate::item::Item;
 use crate::origins::symbol_of;
-use crate::repair::{repair, repair_slot};
+use crate::repair::repair;
 use crate::slot::Slot;
 use std::alloc::{AllocError, Global};
 use std::marker::Model;
@@ -22,8 +23,8 @@ use tm_rs::Answer;
 use tm_sync::{Found, NO_PLACE, RecentBits};
 use tm_workers::Word;
 
-/// Room for a batch of codeblocks, which are repaired at once; but each as it is kept, where others are looked for
-/// inside it. A batch has as many as the configuration says.
+/// Room for a batch of codeblocks, which are repaired at once; where others are looked for inside of them each is
+/// repaired by the time that it is kept. A batch has as many as the configuration says.
 #[derive(Drop)]
 pub struct Codeblocks {
     config: Config,
@@ -32,16 +33,18 @@ pub struct Codeblocks {
     size: usize,
     slots: Vec<Slot>,
     count: usize,
+    // Those in the slots after these, which the search has not found.
+    expected: Expected,
     // The columns of all codeblocks, for their repair.
     words: Vec<Word>,
 }
 
 impl Model for Codeblocks {
-    ghost use Rattle.std.specs.Prelude.{◌≡◌, ◌<◌, ◌≤◌, ◌*◌, take, map, length};
+    ghost use Rattle.std.specs.Prelude.{◌≡◌, ◌<◌, ◌≤◌, ◌+◌, ◌*◌, drop, take, map, length};
     ghost use Rattle.tm_config.specs.Configuration.{codeblock_length, longest_codeblock, most_batch};
     ghost use Rattle.tm_channel.specs.Receiving.{Batching};
     ghost use Rattle.tm_codeblock.specs.ReceivedCodeblock.{column_count};
-    ghost use Rattle.tm_channel.specs.Storing.{item_in, place_in, stored_in};
+    ghost use Rattle.tm_channel.specs.Storing.{AreItemsIn, item_in, place_in, stored_in};
 
     ghost Value = { Batching };
 
@@ -55,7 +58,8 @@ impl Model for Codeblocks {
     ghost invariant = { λ s. (s.size ≡ codeblock_length s.config) × (s.size ≤ longest_codeblock)
         × (length s.slots.items ≡ s.config.batch)
         × (length s.words.items ≡ s.config.batch * column_count s.config) × (s.count ≤ s.config.batch)
-        × (0 < s.config.batch) × (s.config.batch ≤ most_batch) };
+        × (0 < s.config.batch) × (s.config.batch ≤ most_batch) × (s.count + s.expected.count ≤ s.config.batch)
+        × AreItemsIn s.config (take s.expected.count (drop s.count s.slots.items)) };
 }
 
 impl Codeblocks {
@@ -82,13 +86,51 @@ impl Codeblocks {
             size: codeblock_size(&config),
             slots: vec![in alloc; slot; room]?,
             count: 0,
+            expected: Expected {
+                count: 0,
+                most: room,
+            },
             words: vec![in alloc; word; room * column_count(&config)]?,
         })
     }
 
+    /// Whether the codeblock of this place, which the bits begin with, may be kept: not where it is inside of another
+    /// one and not sound.
+    pub fn may_keep(&mut self, found: Found, is_inside: bool, recent: &RecentBits) -> bool
+        requires room { length self.old.stored < self.old.config.batch }
+        requires whole { marker_size + 8 * codeblock_length self.old.config ≤ length recent.now.bits }
+        ensures same { self.new ≡ self.old }
+        ensures outside { is_inside ≡ false → result ≡ true }
+        ensures inside { is_inside ≡ true → result
+            ≡ is_sound self.old.config (codeblock_in self.old.config found.inverted
+            (take (8 * codeblock_length self.old.config) (drop marker_size recent.now.bits))) }
+    {
+        if !is_inside {
+            return true;
+        }
+        let slots = self.slots.as_mut_slice();
+        is_sound(
+            self.alloc,
+            &self.config,
+            found,
+            &mut self.expected,
+            &mut slots[self.count..],
+            self.words.as_mut_slice(),
+            recent,
+        )
+    }
+
     /// Keeps the codeblock of this place, which the bits begin with, and its symbol, and returns whether it is sound;
-    /// where none are looked for inside codeblocks that is not asked, and it is not repaired yet.
-    pub fn keep(&mut self, found: Found, symbol: u64, recent: &RecentBits) -> bool
+    /// where none are looked for inside codeblocks that is not asked, and it is not repaired yet. Where it was not
+    /// expected, these workers decode it, together with those expected behind it.
+    pub fn keep<C: ReceiverCrew>(
+        &mut self,
+        crew: &C,
+        found: Found,
+        symbol: u64,
+        recent: &RecentBits,
+    ) -> bool
+        requires crew { C.can_decode crew.now }
         requires room { length self.old.stored < self.old.config.batch }
         requires whole { marker_size + 8 * codeblock_length self.old.config ≤ length recent.now.bits }
         requires written { AreWritten self.old }
@@ -97,35 +139,31 @@ impl Codeblocks {
             (take (8 * codeblock_length self.old.config) (drop marker_size recent.now.bits)) ∷ [] }
         ensures symbols { self.new.symbols ≡ self.old.symbols ++ record { place = found.place; symbol = symbol } ∷ [] }
         ensures written { AreWritten self.new }
+        ensures off { self.old.config.rescan ≡ false → result ≡ true }
         ensures sound { self.old.config.rescan ≡ true → result
             ≡ is_sound self.old.config (codeblock_in self.old.config found.inverted
             (take (8 * codeblock_length self.old.config) (drop marker_size recent.now.bits))) }
     {
         let size = self.size;
         let index = self.count;
-        self.slots[index].fill(&self.config, found, symbol, size, recent);
         self.count = index + 1;
         if !self.config.values().rescan {
+            self.expected.count = 0;
+            self.slots[index].fill(&self.config, found, symbol, size, 32, recent);
             return true;
         }
-        repair_slot(
+        let slots = self.slots.as_mut_slice();
+        take_next(
+            crew,
             self.alloc,
             &self.config,
-            &mut self.slots[index],
+            found,
+            symbol,
+            &mut self.expected,
+            &mut slots[index..],
             self.words.as_mut_slice(),
-        );
-        are_fixed(self.slots[index].item(&self.config).answers)
-    }
-
-    /// Keeps the last codeblock no longer.
-    pub fn drop_last(&mut self)
-        requires some { 0 < length self.old.stored }
-        ensures config { self.new.config ≡ self.old.config }
-        ensures stored { self.new.stored ≡ take (length self.old.stored - 1) self.old.stored }
-        ensures symbols { self.new.symbols ≡ take (length self.old.symbols - 1) self.old.symbols }
-        ensures written { AreWritten self.old → AreWritten self.new }
-    {
-        self.count -= 1;
+            recent,
+        )
     }
 
     /// The first symbol of the step of a bit, before which `octets` octets are of no step; with no inner code its
@@ -177,6 +215,7 @@ impl Codeblocks {
         if self.config.values().rescan {
             return;
         }
+        self.expected.count = 0;
         repair(
             crew,
             self.alloc,
@@ -205,32 +244,22 @@ impl Codeblocks {
         ensures written { AreWritten self.new }
     {
         self.count = 0;
+        self.expected.count = 0;
     }
 }
 
 /// The most bits that may be buffered where a batch lacks `count` codeblocks: as many as these have at least with their
-/// markers, and none where one worker decodes.
+/// markers, and none where one worker decodes. Two may lie nearly in the room of one, where they are looked for inside
+/// others.
 pub fn waiting_bits(config: &Config, count: u64) -> u64
     requires some { 0 < count }
     requires most { count ≤ most_batch }
     ensures value { result ≡ waiting_bits config.now count }
     ensures most { result ≤ most_batch * (marker_size + 8 * longest_codeblock) }
 {
-    if config.workers() > 1 {
-        least_bits(config, count)
-    } else {
-        0
+    if config.workers() < 2 {
+        return 0;
     }
-}
-
-// The fewest bits that `count` codeblocks have with their markers: two may lie nearly in the room of one, where they
-// are looked for inside others.
-fn least_bits(config: &Config, count: u64) -> u64
-    requires some { 0 < count }
-    requires most { count ≤ most_batch }
-    ensures value { result ≡ least_bits config.now count }
-    ensures most { result ≤ most_batch * (marker_size + 8 * longest_codeblock) }
-{
     let unit = 32 + 8 * codeblock_size(config) as u64;
     match columns_of(config) {
         None => count * unit,

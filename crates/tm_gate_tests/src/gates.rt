@@ -168,3 +168,34 @@ fn a_receiver_decodes_a_batch_by_all_its_workers(rt: HostRuntime) -> Result<(), 
     }
     Ok(())
 }
+
+// Where markers are looked for inside codeblocks too, those that stand one right behind another are decoded together,
+// before the search asks for the first of them.
+#[test]
+fn expected_codeblocks_are_decoded_by_all_workers(rt: HostRuntime) -> Result<(), Fail> {
+    let link = Raw {
+        length: Some(1),
+        inner: 0,
+        randomize: 0,
+        workers: 2,
+        batch: 64,
+        rescan: 1,
+        ..Raw::default()
+    };
+    let Ok(config) = Config::check(&link) else {
+        panic!(rt; "refused")
+    };
+    let Ok(mut receiver) = Receiver::open(rt.alloc(), config) else {
+        panic!(rt; "no memory")
+    };
+    let gate = gate_that_holds(0, 63);
+    let mut counting = Counting { count: 0 };
+    let mut octets = [0; 2368];
+    for k in 0..64usize {
+        octets[37 * k..37 * k + 37].copy_from_slice(&MARKED);
+    }
+    assert!(rt; receiver.feed(&rt, &octets, &mut counting, &gate) == Ok(()));
+    assert!(rt; gate.freed.load(Ordering::SeqCst) == 1);
+    assert!(rt; counting.count == 64);
+    Ok(())
+}

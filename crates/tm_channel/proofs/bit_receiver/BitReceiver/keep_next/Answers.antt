@@ -1,15 +1,19 @@
-use Rattle.std.proofs.Common.{◌≡◌, ◌<◌, ◌≤◌, ◌+◌, ◌-◌, ◌^◌, ℕ, Bool, List, ◌∙◌, ◌++◌, ◌∷◌, [], length, length-drop, refl, sym, subst, ap, arith}
+use Rattle.std.proofs.Common.{◌≡◌, ◌<◌, ◌≤◌, ◌+◌, ◌-◌, ◌^◌, ℕ, Bool, true, false, List, ◌∙◌, ◌++◌, ◌∷◌, [], length, length-drop, refl, sym, subst, ap, arith}
 use Rattle.tm_sync.specs.Finding.{Finding, Passes}
 use Rattle.tm_sync.specs.Places.{Rules}
-use Rattle.tm_channel.specs.Origins.{AreAt}
+use Rattle.std.specs.Option.{is_some}
+use Rattle.tm_conv.specs.Path.{farthest_step}
+use Rattle.tm_codeblock.specs.ReceivedCodeblock.{codeblock_in, is_sound}
+use Rattle.tm_channel.specs.Origins.{AreAt, symbol_by}
+use Rattle.tm_channel.specs.Receiving.{Batching, stored_of}
 use Rattle.tm_channel.proofs.KeptSymbols.{symbols-kept, symbols-stored}
 use Rattle.tm_channel.specs.OctetReceiving.{receiving}
-use Rattle.tm_channel.proofs.Holding.{Takes, recent-count, drop-last, holding-all, holding-left, holding-passed, holding-taken, holds-config}
+use Rattle.tm_channel.proofs.Holding.{IsTold, Takes, next_block, recent-count, holding-all, holding-left, holding-passed, holding-taken, holds-config}
 use Rattle.tm_channel.proofs.bit_receiver.BitReceiver.keep_next.Goals as goal
 
 -- ---- none is whole
 pub returns-in-None-clause-none : goal.returns-in-None-clause-none
-returns-in-None-clause-none c = λ none handed bits found few h.
+returns-in-None-clause-none g c = λ none handed bits found few h.
     let was = c.args.self.now in
     let b = was.batch in
     let now = holding-passed b.config was.finder c.next.new.self was.recent.bits c.next.new.recent.bits b.stored handed
@@ -19,9 +23,23 @@ returns-in-None-clause-none c = λ none handed bits found few h.
           c.in-None.ensures.none now,
     )
 
+-- a place inside another one is kept only where it is sound
+is-inside : (inside kept : Bool) → (inside ≡ false → kept ≡ true) → kept ≡ false → inside ≡ true
+is-inside true kept outside not = refl
+is-inside false kept outside not = absurd (let one = outside refl in cc)
+
+-- what is kept is a place
+is-taken : (inside kept sound is taken rescan : Bool) → (inside ≡ true → kept ≡ is) → kept ≡ true
+    → (rescan ≡ false → sound ≡ true) → (rescan ≡ true → sound ≡ is)
+    → (inside ≡ false → taken ≡ true) → (inside ≡ true → taken ≡ sound) → taken ≡ true
+is-taken false kept sound is taken rescan keeps kept_is off on outside within = outside refl
+is-taken true kept sound is taken false keeps kept_is off on outside within = within refl ∙ off refl
+is-taken true kept sound is taken true keeps kept_is off on outside within =
+    within refl ∙ on refl ∙ sym (keeps refl) ∙ kept_is
+
 -- ---- one is, and a place
-pub returns-else-not-take-clause-kept : goal.returns-else-not-take-clause-kept
-returns-else-not-take-clause-kept c = λ one.
+pub returns-else-not-may_keep-clause-kept : goal.returns-else-not-may_keep-clause-kept
+returns-else-not-may_keep-clause-kept g c = λ one.
     let was = c.args.self.now in
     let b = was.batch in
     let k = b.config in
@@ -29,28 +47,42 @@ returns-else-not-take-clause-kept c = λ one.
     let f = c.in-Some.found in
     let some = c.in-Some.ensures.some in
     let size = ap (λ (r : Rules). r.block_bits) (passes.rules ∙ c.requires.agree.rules) in
-    let takes : Takes k c.next.new.self c.take.new.self c.next.new.recent.bits c.take.new.recent.bits f
+    let same = c.may_keep.ensures.same in
+    let inside = c.is_inside-is_inside.ensures in
+    let is : IsTold k c.next.new.recent.bits f c.keep-sound.result =
+    λ on. c.keep-sound.ensures.sound (ap (λ (v : Batching). v.config.rescan) same ∙ on)
+    ∙ ap (λ (v : Batching). is_sound v.config (codeblock_in v.config f.inverted (next_block v.config c.next.new.recent.bits))) same in
+    let taken : c.take-in-Some.result ≡ true =
+    is-taken c.is_inside-is_inside.result c.may_keep.result c.keep-sound.result
+    (is_sound k (codeblock_in k f.inverted (next_block k c.next.new.recent.bits))) c.take-in-Some.result k.rescan
+    c.may_keep.ensures.inside c.if-not-may_keep.false
+    (λ off. c.keep-sound.ensures.off (ap (λ (v : Batching). v.config.rescan) same ∙ off)) is
+    (λ out. c.take-in-Some.ensures.outside (sym inside ∙ out)) (λ in_it. c.take-in-Some.ensures.inside (sym inside ∙ in_it)) in
+    let takes : Takes k c.next.new.self c.take-in-Some.new.self c.next.new.recent.bits c.take-in-Some.new.recent.bits f
     c.keep-sound.result (f ∷ []) = record {
       columns = passes.columns ∙ c.requires.agree.columns;
       at = some.at;
       room = omega (arith, some.room, size);
-      is = c.keep-sound.ensures.sound;
-      bits = c.take.ensures.bits;
-      passed = c.take.ensures.passed;
-      same = λ says more short tells. c.take.ensures.taken c.if-not-take.false says more short tells;
-    } in (
+      is = is;
+      bits = c.take-in-Some.ensures.bits;
+      passed = c.take-in-Some.ensures.passed;
+      same = λ says more short tells. c.take-in-Some.ensures.taken taken says more short tells;
+    } in
+    let stored = c.keep-sound.ensures.stored ∙ ap (λ (v : Batching).
+    v.stored ++ stored_of v.config f (next_block v.config c.next.new.recent.bits) ∷ []) same in (
       f ∷ [],
-      λ handed bits found few h. holds-config k c.keep-sound.new.self.config c.take.new.self c.take.new.recent.bits
-          c.keep-sound.new.self.stored handed bits (found ++ f ∷ []) c.keep-sound.ensures.config
-          (holding-taken k c.next.new.self c.take.new.self c.next.new.recent.bits c.take.new.recent.bits b.stored
-          c.keep-sound.new.self.stored handed bits found f c.keep-sound.result few takes c.keep-sound.ensures.stored
+      λ handed bits found few h. holds-config k c.keep-sound.new.self.config c.take-in-Some.new.self c.take-in-Some.new.recent.bits
+          c.keep-sound.new.self.stored handed bits (found ++ f ∷ [])
+          (c.keep-sound.ensures.config ∙ ap (λ (v : Batching). v.config) same)
+          (holding-taken k c.next.new.self c.take-in-Some.new.self c.next.new.recent.bits c.take-in-Some.new.recent.bits b.stored
+          c.keep-sound.new.self.stored handed bits found f c.keep-sound.result few takes stored
           (holding-passed k was.finder c.next.new.self was.recent.bits c.next.new.recent.bits b.stored handed bits found
           few passes h)),
     )
 
 -- ---- one is, but no place
-pub returns-then-not-take-clause-kept : goal.returns-then-not-take-clause-kept
-returns-then-not-take-clause-kept c = λ one.
+pub returns-then-not-may_keep-clause-kept : goal.returns-then-not-may_keep-clause-kept
+returns-then-not-may_keep-clause-kept g c = λ one.
     let was = c.args.self.now in
     let b = was.batch in
     let k = b.config in
@@ -58,23 +90,28 @@ returns-then-not-take-clause-kept c = λ one.
     let f = c.in-Some.found in
     let some = c.in-Some.ensures.some in
     let size = ap (λ (r : Rules). r.block_bits) (passes.rules ∙ c.requires.agree.rules) in
-    let takes : Takes k c.next.new.self c.take.new.self c.next.new.recent.bits c.take.new.recent.bits f
-    c.keep-sound.result [] = record {
+    let same = c.may_keep.ensures.same in
+    let inside = is-inside c.is_inside-is_inside.result c.may_keep.result c.may_keep.ensures.outside
+    c.if-not-may_keep.true in
+    let left : c.take.result ≡ false =
+    c.take.ensures.inside (sym c.is_inside-is_inside.ensures ∙ inside) in
+    let takes : Takes k c.next.new.self c.take.new.self c.next.new.recent.bits c.take.new.recent.bits f false [] =
+    record {
       columns = passes.columns ∙ c.requires.agree.columns;
       at = some.at;
       room = omega (arith, some.room, size);
-      is = c.keep-sound.ensures.sound;
+      is = λ on. sym c.if-not-may_keep.true ∙ c.may_keep.ensures.inside inside;
       bits = c.take.ensures.bits;
       passed = c.take.ensures.passed;
-      same = λ says more short tells. c.take.ensures.left c.if-not-take.true says more short tells;
+      same = λ says more short tells. c.take.ensures.left left says more short tells;
     } in (
       [],
-      λ handed bits found few h. holds-config k c.drop_last.new.self.config c.take.new.self c.take.new.recent.bits
-          c.drop_last.new.self.stored handed bits (found ++ [])
-          (c.drop_last.ensures.config ∙ c.keep-sound.ensures.config)
+      λ handed bits found few h. holds-config k c.may_keep.new.self.config c.take.new.self c.take.new.recent.bits
+          c.may_keep.new.self.stored handed bits (found ++ [])
+          (ap (λ (v : Batching). v.config) same)
           (holding-left k c.next.new.self c.take.new.self c.next.new.recent.bits c.take.new.recent.bits b.stored
-          c.drop_last.new.self.stored handed bits found f c.keep-sound.result few takes
-          (c.drop_last.ensures.stored ∙ drop-last b.stored c.keep-sound.new.self.stored _ c.keep-sound.ensures.stored)
+          c.may_keep.new.self.stored handed bits found f false few takes
+          (ap (λ (v : Batching). v.stored) same)
           (holding-passed k was.finder c.next.new.self was.recent.bits c.next.new.recent.bits b.stored handed bits found
           few passes h)),
     )
@@ -92,7 +129,7 @@ passes-on was next recent rest size p all few =
     (omega (arith, now), omega (arith, now, left, within, all))
 
 pub returns-in-None-clause-symbols : goal.returns-in-None-clause-symbols
-returns-in-None-clause-symbols c = λ handed bits found count at few le h s.
+returns-in-None-clause-symbols g c = λ handed bits found count at few le h s.
     let was = c.args.self.now in
     let b = was.batch in
     let on = passes-on was.finder c.next.new.self was.recent.bits c.next.new.recent.bits (length bits)
@@ -102,42 +139,48 @@ returns-in-None-clause-symbols c = λ handed bits found count at few le h s.
     (record { finder = c.next.new.self; recent = c.next.new.recent; batch = b; origins = c.args.origins.now }) count at
     on.0 refl refl s.stored s
 
-pub returns-else-not-take-clause-symbols : goal.returns-else-not-take-clause-symbols
-returns-else-not-take-clause-symbols c = λ handed bits found count at few le h s.
+pub returns-else-not-may_keep-clause-symbols : goal.returns-else-not-may_keep-clause-symbols
+returns-else-not-may_keep-clause-symbols g c = λ handed bits found count at few le h s.
     let was = c.args.self.now in
     let b = was.batch in
     let f = c.in-Some.found in
     let some = c.in-Some.ensures.some in
+    let same = c.may_keep.ensures.same in
     let on = passes-on was.finder c.next.new.self was.recent.bits c.next.new.recent.bits (length bits)
     c.next.ensures.passes
     (recent-count b.config was.finder was.recent.bits b.stored handed bits found h) few in
-    let taken : c.take.new.self.passed ≡ c.next.new.self.passed + 1 =
-    c.take.ensures.passed (omega (arith, on.1, few)) in
+    let taken : c.take-in-Some.new.self.passed ≡ c.next.new.self.passed + 1 =
+    c.take-in-Some.ensures.passed (omega (arith, on.1, few)) in
     let here : f.place ≡ c.next.new.self.passed = some.at in
     symbols-kept (receiving was c.args.origins.now) (record {
-      finder = c.take.new.self;
-      recent = c.take.new.recent;
+      finder = c.take-in-Some.new.self;
+      recent = c.take-in-Some.new.recent;
       batch = c.keep-sound.new.self;
       origins = c.args.origins.now;
     }) count f.place c.at-origin.result c.symbol-symbol.result at (omega (arith, on.0, taken))
-    c.keep-sound.ensures.config refl (omega (arith, here, on.0)) (omega (arith, here, on.1, some.room, le))
-    c.at-origin.ensures c.symbol-symbol.ensures c.keep-sound.ensures.symbols s
+    (c.keep-sound.ensures.config ∙ ap (λ (v : Batching). v.config) same) refl
+    (omega (arith, here, on.0)) (omega (arith, here, on.1, some.room, le))
+    c.at-origin.ensures
+    (subst (λ (v : Batching). (is_some v.config.inner ≡ true → f.place ≤ farthest_step)
+    → symbol_by v.config.inner v.config c.at-origin.result f.place < 2 ^ 64
+    → c.symbol-symbol.result ≡ symbol_by v.config.inner v.config c.at-origin.result f.place) same c.symbol-symbol.ensures)
+    (c.keep-sound.ensures.symbols
+    ∙ ap (λ (v : Batching). v.symbols ++ record { place = f.place; symbol = c.symbol-symbol.result } ∷ []) same) s
 
-pub returns-then-not-take-clause-symbols : goal.returns-then-not-take-clause-symbols
-returns-then-not-take-clause-symbols c = λ handed bits found count at few le h s.
+pub returns-then-not-may_keep-clause-symbols : goal.returns-then-not-may_keep-clause-symbols
+returns-then-not-may_keep-clause-symbols g c = λ handed bits found count at few le h s.
     let was = c.args.self.now in
     let b = was.batch in
+    let same = c.may_keep.ensures.same in
     let on = passes-on was.finder c.next.new.self was.recent.bits c.next.new.recent.bits (length bits)
     c.next.ensures.passes
     (recent-count b.config was.finder was.recent.bits b.stored handed bits found h) few in
     let taken : c.take.new.self.passed ≡ c.next.new.self.passed + 1 =
     c.take.ensures.passed (omega (arith, on.1, few)) in
-    let same = c.drop_last.ensures.symbols
-    ∙ drop-last b.symbols c.keep-sound.new.self.symbols _ c.keep-sound.ensures.symbols in
     symbols-stored (receiving was c.args.origins.now) (record {
       finder = c.take.new.self;
       recent = c.take.new.recent;
-      batch = c.drop_last.new.self;
+      batch = c.may_keep.new.self;
       origins = c.args.origins.now;
-    }) count at (omega (arith, on.0, taken)) (c.drop_last.ensures.config ∙ c.keep-sound.ensures.config) refl
-    (subst (AreAt at count) (sym same) s.stored) s
+    }) count at (omega (arith, on.0, taken)) (ap (λ (v : Batching). v.config) same) refl
+    (subst (AreAt at count) (sym (ap (λ (v : Batching). v.symbols) same)) s.stored) s

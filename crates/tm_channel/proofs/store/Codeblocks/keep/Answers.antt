@@ -1,73 +1,80 @@
-use Rattle.std.proofs.Common.{◌≡◌, ◌∙◌, ◌*◌, ◌++◌, ◌∷◌, [], take, drop, set, ap, arith, subst, sym, length-set}
-use Rattle.std.proofs.lemmas.List.{get_or-set_same}
+use Rattle.std.proofs.Common.{◌∙◌, ◌+◌, ◌<◌, ◌*◌, ◌++◌, ◌∷◌, [], ℕ, length, map, take, drop, ap, sym, subst, arith}
+use Rattle.std.proofs.lemmas.List.{with_items_is}
 use Rattle.tm_base.specs.Marker.{marker_size}
 use Rattle.tm_config.specs.Configuration.{codeblock_length}
-use Rattle.tm_codeblock.specs.ReceivedCodeblock.{codeblock_in, is_sound}
-use Rattle.tm_channel.specs.Items.{ItemValue, are_fixed}
-use Rattle.tm_channel.specs.Origins.{PlaceSymbol}
-use Rattle.tm_channel.specs.Receiving.{AreWritten, Batching, StoredCodeblock}
+use Rattle.tm_channel.specs.Receiving.{AreItemsFor, AreWritten, Batching, stored_of}
 use Rattle.tm_channel.specs.Storing.{item_in, place_in, stored_in}
-use Rattle.tm_channel.specs.declared.slot.Slot.{Slot}
-use Rattle.tm_channel.proofs.Repaired.{filled-is, item-sound, items-more, kept-more, slot-left}
+use Rattle.tm_channel.proofs.ExpectedItems.{final-length, free-length, in-fewer, next-kept, next-left, next-written, whole-free, with_free}
+use Rattle.tm_channel.proofs.Repaired.{slot-left}
 use Rattle.tm_channel.proofs.store.Codeblocks.keep.Goals as goal
 
 pub returns-clause-stored : goal.returns-clause-stored
-returns-clause-stored c =
+returns-clause-stored g c =
     let s = c.self.inside in
-    let old = c.args.self.now in
-    let now = c.repair_slot.new.slot in
-    let below = slot-left s.config s.size s.count s.slots.items _ _ _ c.self.invariant.2 c.self.invariant.4 c.self.view_is
-    c.requires.room in
-    let slot : c.index_mut-2.result.now ≡ c.fill.new.self =
-    c.index_mut-2.ensures.value ∙ get_or-set_same s.slots.items s.count c.fill.new.self _ below in
-    let filled = filled-is old s.config c.args.found (drop marker_size c.args.recent.now.bits) s.size c.fill.new.self _
-    c.self.invariant.0 (ap (λ (v : Batching). v.config) c.self.view_is) c.fill.ensures.stored slot in
-    kept-more (stored_in s.size) s.count s.slots.items c.fill.new.self now below
-    ∙ ap (λ (v : Batching). v.stored ++ stored_in s.size now ∷ []) c.self.view_is
-    ∙ ap (λ (k : StoredCodeblock). old.stored ++ k ∷ [])
-    (ap (λ n. stored_in n now) c.self.invariant.0 ∙ c.repair_slot.ensures.stored ∙ filled)
+    let items = s.slots.items in
+    let free = c.take_next.new.slots in
+    let below : s.count < length items =
+    slot-left s.config s.size s.count items _ _ _ c.self.invariant.2 c.self.invariant.4 c.self.view_is c.requires.room in
+    let whole = whole-free s.slots.len s.count items c.as_mut_slice-slots.result.now free
+    c.as_mut_slice-slots.ensures.value s.slots.ok.0 (omega (arith, below)) c.take_next.ensures.slots in
+    next-kept (stored_in s.size) s.count items _ free _ whole (omega (arith, below))
+    ((λ i. map (stored_in (c.self.invariant.0 i)) (take 1 free)) ∙ c.take_next.ensures.stored)
+    ∙ ap (λ (v : Batching). v.stored ++ stored_of v.config c.args.found
+    (take (8 * codeblock_length v.config) (drop marker_size c.args.recent.now.bits)) ∷ []) c.self.view_is
 
 pub returns-clause-symbols : goal.returns-clause-symbols
-returns-clause-symbols c =
+returns-clause-symbols g c =
     let s = c.self.inside in
-    let now = c.repair_slot.new.slot in
-    let below = slot-left s.config s.size s.count s.slots.items _ _ _ c.self.invariant.2 c.self.invariant.4 c.self.view_is
-    c.requires.room in
-    let slot : c.index_mut-2.result.now ≡ c.fill.new.self =
-    c.index_mut-2.ensures.value ∙ get_or-set_same s.slots.items s.count c.fill.new.self _ below in
-    kept-more place_in s.count s.slots.items c.fill.new.self now below
-    ∙ ap (λ (v : Batching). v.symbols ++ place_in now ∷ []) c.self.view_is
-    ∙ ap (λ (k : PlaceSymbol). c.args.self.now.symbols ++ k ∷ [])
-    (c.repair_slot.ensures.place ∙ ap place_in slot ∙ c.fill.ensures.place)
+    let items = s.slots.items in
+    let free = c.take_next.new.slots in
+    let below : s.count < length items =
+    slot-left s.config s.size s.count items _ _ _ c.self.invariant.2 c.self.invariant.4 c.self.view_is c.requires.room in
+    let whole = whole-free s.slots.len s.count items c.as_mut_slice-slots.result.now free
+    c.as_mut_slice-slots.ensures.value s.slots.ok.0 (omega (arith, below)) c.take_next.ensures.slots in
+    next-kept place_in s.count items _ free _ whole (omega (arith, below)) c.take_next.ensures.places
+    ∙ ap (λ (v : Batching). v.symbols ++ record { place = c.args.found.place; symbol = c.args.symbol } ∷ [])
+    c.self.view_is
 
 pub returns-clause-written : goal.returns-clause-written
-returns-clause-written c = λ on.
+returns-clause-written g c = λ on.
     let s = c.self.inside in
-    let below = slot-left s.config s.size s.count s.slots.items _ _ _ c.self.invariant.2 c.self.invariant.4 c.self.view_is
-    c.requires.room in
-    items-more s.config s.size s.count s.slots.items c.fill.new.self c.index_mut-2.result.now c.repair_slot.new.slot
-    below c.self.invariant.0 c.repair_slot.ensures.stored c.repair_slot.ensures.item
-    (subst AreWritten (sym c.self.view_is) c.requires.written on)
+    let items = s.slots.items in
+    let free = c.take_next.new.slots in
+    let below : s.count < length items =
+    slot-left s.config s.size s.count items _ _ _ c.self.invariant.2 c.self.invariant.4 c.self.view_is c.requires.room in
+    let now = with_free s.slots.len s.count items c.as_mut_slice-slots.result.now free in
+    let whole = whole-free s.slots.len s.count items c.as_mut_slice-slots.result.now free
+    c.as_mut_slice-slots.ensures.value s.slots.ok.0 (omega (arith, below)) c.take_next.ensures.slots in
+    subst (λ (n : ℕ). AreItemsFor s.config (map (stored_in n) (take (s.count + 1) now))
+    (map (item_in s.config) (take (s.count + 1) now))) (sym c.self.invariant.0)
+    (next-written s.config s.count items now free whole (omega (arith, below))
+    (subst (λ (n : ℕ). AreItemsFor s.config (map (stored_in n) (take s.count items))
+    (map (item_in s.config) (take s.count items))) c.self.invariant.0
+    (subst AreWritten (sym c.self.view_is) c.requires.written on))
+    (in-fewer s.config 1 (c.take_next.new.expected.count + 1) free (omega arith) c.take_next.ensures.expected.1))
 
-pub returns-clause-sound : goal.returns-clause-sound
-returns-clause-sound c = λ on.
+pub invariant_of-self-2 : goal.invariant_of-self-2
+invariant_of-self-2 g c =
     let s = c.self.inside in
-    let old = c.args.self.now in
-    let rest = drop marker_size c.args.recent.now.bits in
-    let slots = s.slots.items in
-    let now = c.repair_slot.new.slot in
-    let below = slot-left s.config s.size s.count slots _ _ _ c.self.invariant.2 c.self.invariant.4 c.self.view_is
-    c.requires.room in
-    let slot : c.index_mut-2.result.now ≡ c.fill.new.self =
-    c.index_mut-2.ensures.value ∙ get_or-set_same slots s.count c.fill.new.self _ below in
-    let filled = filled-is old s.config c.args.found rest s.size c.fill.new.self _ c.self.invariant.0
-    (ap (λ (v : Batching). v.config) c.self.view_is) c.fill.ensures.stored slot in
-    let last : c.index.result.now ≡ now =
-    c.index.ensures ∙ get_or-set_same (set slots s.count c.fill.new.self) s.count now _
-    (omega (arith, below, length-set slots s.count c.fill.new.self)) in
-    c.are_fixed.ensures ∙ ap (λ (v : ItemValue). are_fixed v.answers) (c.item-2.view_is ∙ c.item.ensures)
-    ∙ ap (λ (k : Slot). are_fixed (item_in s.config k).answers) last
-    ∙ sym (item-sound s.config _ _ _ c.repair_slot.ensures.item)
-    ∙ ap (λ (k : StoredCodeblock). is_sound s.config k.codeblock) filled
-    ∙ ap (λ (v : Batching). is_sound v.config (codeblock_in old.config c.args.found.inverted
-    (take (8 * codeblock_length old.config) rest))) c.self.view_is
+    let items = s.slots.items in
+    let free = c.take_next.new.slots in
+    let old = c.as_mut_slice-slots.ensures.value in
+    let long = c.take_next.ensures.slots in
+    let below : s.count < length items =
+    slot-left s.config s.size s.count items _ _ _ c.self.invariant.2 c.self.invariant.4 c.self.view_is c.requires.room in
+    let whole = whole-free s.slots.len s.count items c.as_mut_slice-slots.result.now free old s.slots.ok.0
+    (omega (arith, below)) long in
+    let words = c.take_next.ensures.words ∙ ap length c.as_mut_slice.ensures.value in
+    let left = free-length s.count items c.as_mut_slice-slots.result.now free old long in (
+      c.self.invariant.0,
+      c.self.invariant.1,
+      final-length s.slots.len s.count items c.as_mut_slice-slots.result.now free old s.slots.ok.0
+          (omega (arith, below)) long ∙ c.self.invariant.2,
+      ap length (with_items_is s.words c.take_next.new.words (words ∙ sym s.words.ok.0)) ∙ words ∙ c.self.invariant.3,
+      omega (arith, below, c.self.invariant.2),
+      c.self.invariant.5,
+      c.self.invariant.6,
+      omega (arith, below, left, c.take_next.ensures.expected.0, c.self.invariant.2),
+      next-left s.config s.count c.take_next.new.expected.count items _ free whole (omega (arith, below))
+          c.take_next.ensures.expected.1,
+    )
