@@ -10,7 +10,7 @@ use Rattle.tm_sync.specs.Finding.{Ends, Finding, IsWhole, Passes, Recent, Tells,
 use Rattle.tm_sync.proofs.Steps.{settled-room}
 use Rattle.tm_codeblock.specs.ReceivedCodeblock.{rules_of, codeblock_in, columns_of, is_sound, places_in, sound_in}
 use Rattle.tm_codeblock.proofs.PlacesIn.{sound_in-more, sound_in-rest}
-use Rattle.tm_channel.specs.Receiving.{Agree, AreWritten, Batching, Holding, Holds, HoldsMore, IsReady, StoredCodeblock, stored_at, stored_of}
+use Rattle.tm_channel.specs.Receiving.{Agree, AreWritten, Batching, Holding, Holds, HoldsMore, IsReady, StoredCodeblock, run_size, stored_at, stored_of}
 use Rattle.tm_channel.proofs.Streaming.{drop-all, found-end, stored-same}
 
 -- `recent` has as many bits as are not passed
@@ -24,7 +24,7 @@ recent-count c s recent stored handed bits found h =
 -- no bits were given
 pub ready-new : (s : Finding) (room : Recent) (b : Batching)
     → s ≡ record { rules = rules_of b.config; columns = columns_of b.config; passed = 0; last = None }
-    → room.bits ≡ [] → settled_by s.rules.verify s.rules.block_bits + 14 ≤ 8 * room.size
+    → room.bits ≡ [] → settled_by s.rules.verify s.rules.block_bits + 8 * run_size + 14 ≤ 8 * room.size
     → b ≡ record { config = b.config; stored = []; symbols = []; items = [] } → 0 < b.config.batch → IsReady s room b
 ready-new s room b new none sized empty some = record {
   agree = record {

@@ -10,8 +10,9 @@ use Rattle.tm_inner.proofs.DueBits.{kept-append}
 use Rattle.tm_channel.specs.Items.{ItemValue, AreItemsOf}
 use Rattle.tm_channel.specs.Due.{due, due_count}
 use Rattle.tm_channel.specs.Receiving.{AreDue, GoesOn, Holds, HoldsMore}
-use Rattle.tm_channel.specs.OctetReceiving.{BitReceiving, BitReceiverStandsFor, HasSymbols, Notes, Received, ReceivedAt, SaySymbols, Settles, SettlesSymbols}
-use Rattle.tm_channel.proofs.KeptSymbols.{stands-noted, symbols-then}
+use Rattle.tm_channel.specs.OctetReceiving.{BitReceiving, BitReceiverStandsFor, Gathers, GathersMore, HasSymbols, Notes, Received, ReceivedAt, SaySymbols, Settles, SettlesSymbols, with_more}
+use Rattle.tm_channel.proofs.KeptSymbols.{stands-noted, symbols-stored, symbols-then}
+use Rattle.tm_channel.proofs.Holding.{holds-more}
 use Rattle.tm_channel.proofs.Pieces.{goes-then, due-then}
 
 -- no bits
@@ -152,3 +153,86 @@ received-noted took a b c taker now bits notes p =
           → AreItemsOf k (given ++ bits) (due k (given ++ bits)) (done ++ p.items)) same
           (p.due given done few (stands-noted a b given notes stood));
     }
+
+-- ---- bits that are put into the room before they are searched
+
+pub gathers-none : {T : Type 0} (took : T → ItemValue → T → Type 0) (s : BitReceiving) (taker : T)
+    → Gathers took s s taker taker []
+gathers-none took s taker = record {
+  middle = s;
+  first = [];
+  more = [];
+  are = refl;
+  received = received_at-none took s taker;
+  now_is = λ i. record s { recent = record s.recent { bits = sym (append-nil s.recent.bits) i } };
+}
+
+-- more of them
+pub gathers-more : {T : Type 0} (took : T → ItemValue → T → Type 0) (start now next : BitReceiving) (taker taker_now : T)
+    (bits more : List Bool) → next ≡ with_more now more → Gathers took start now taker taker_now bits
+    → Gathers took start next taker taker_now (bits ++ more)
+gathers-more took start now next taker taker_now bits more is g = record {
+  middle = g.middle;
+  first = g.first;
+  more = g.more ++ more;
+  are = ap (λ l. l ++ more) g.are ∙ append_assoc g.first g.more more;
+  received = g.received;
+  now_is = is ∙ ap (λ r. with_more r more) g.now_is ∙ (λ i. record g.middle {
+    recent = record g.middle.recent { bits = append_assoc g.middle.recent.bits g.more more i };
+  });
+}
+
+-- all of them are searched
+pub gathers-all : {T : Type 0} (took : T → ItemValue → T → Type 0) (start now next : BitReceiving)
+    (taker middle taker_now : T) (bits : List Bool) (items : List ItemValue) → next.batch.config ≡ now.batch.config
+    → next.origins ≡ now.origins → Settles now next items → SettlesSymbols now next items
+    → HandedOver took middle items taker_now → Gathers took start now taker middle bits
+    → ReceivedAt took start next taker taker_now bits
+gathers-all took start now next taker middle taker_now bits items config origins settles says handed g =
+    let m = g.middle in
+    let all = with_more m g.more in
+    subst (ReceivedAt took start next taker taker_now) (sym g.are)
+    (received_at-then took start m next taker middle taker_now g.first g.more g.received
+    (received_at-pushed took m all next middle taker_now g.more items refl
+    (λ handed bits few h. holds-more m.finder m.recent all.recent m.batch g.more refl handed bits h)
+    (λ count at h. symbols-stored m all count at (omega arith) refl refl h.stored h)
+    (config ∙ ap (λ (r : BitReceiving). r.batch.config) g.now_is) (origins ∙ ap (λ (r : BitReceiving). r.origins) g.now_is)
+    (subst (λ (r : BitReceiving). Settles r next items) g.now_is settles)
+    (subst (λ (r : BitReceiving). SettlesSymbols r next items) g.now_is says) handed))
+
+-- the same of what was given before
+pub more-none : {T : Type 0} (took : T → ItemValue → T → Type 0) (s : BitReceiving) (taker : T)
+    → GathersMore took s s taker taker []
+more-none took s taker = record {
+  gathers = λ start first given g. subst (Gathers took start s first taker) (sym (append-nil given)) g;
+}
+
+pub more-then : {T : Type 0} (took : T → ItemValue → T → Type 0) (a b c : BitReceiving) (taker middle now : T)
+    (bits more : List Bool) → GathersMore took a b taker middle bits → GathersMore took b c middle now more
+    → GathersMore took a c taker now (bits ++ more)
+more-then took a b c taker middle now bits more p q = record {
+  gathers = λ start first given g. subst (Gathers took start c first now) (append_assoc given bits more)
+      (q.gathers start first (given ++ bits) (p.gathers start first given g));
+}
+
+pub more-pushed : {T : Type 0} (took : T → ItemValue → T → Type 0) (now next : BitReceiving) (taker : T)
+    (more : List Bool) → next ≡ with_more now more → GathersMore took now next taker taker more
+more-pushed took now next taker more is = record {
+  gathers = λ start first given g. gathers-more took start now next first taker given more is g;
+}
+
+pub more-all : {T : Type 0} (took : T → ItemValue → T → Type 0) (now next : BitReceiving) (taker taker_now : T)
+    (items : List ItemValue) → next.batch.config ≡ now.batch.config → next.origins ≡ now.origins
+    → Settles now next items → SettlesSymbols now next items → HandedOver took taker items taker_now
+    → GathersMore took now next taker taker_now []
+more-all took now next taker taker_now items config origins settles says handed = record {
+  gathers = λ start first given g. record {
+    middle = next;
+    first = given ++ [];
+    more = [];
+    are = sym (append-nil (given ++ []));
+    received = subst (ReceivedAt took start next first taker_now) (sym (append-nil given))
+        (gathers-all took start now next first taker taker_now given items config origins settles says handed g);
+    now_is = λ i. record next { recent = record next.recent { bits = sym (append-nil next.recent.bits) i } };
+  };
+}

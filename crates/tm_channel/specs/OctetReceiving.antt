@@ -253,6 +253,28 @@ pub record ReceivedAt {T : Type 0} (took : T → ItemValue → T → Type 0) (be
   pub origins : now.origins ≡ before.origins
   pub symbols : SaySymbols before now bits received.items
 
+-- the same receiver, with these bits in its room besides
+abbrev pub with_more : BitReceiving → List Bool → BitReceiving
+with_more r more = record r { recent = record r.recent { bits = r.recent.bits ++ more } }
+
+-- Bits were given: the first of them were received, and the others are in the room, of which the
+-- search passed none.
+pub record Gathers {T : Type 0} (took : T → ItemValue → T → Type 0) (before now : BitReceiving)
+    (taker taker_now : T) (bits : List Bool) : Type 0 where
+  pub middle : BitReceiving
+  pub first : List Bool
+  pub more : List Bool
+  pub are : bits ≡ first ++ more
+  pub received : ReceivedAt took before middle taker taker_now first
+  pub now_is : now ≡ with_more middle more
+
+-- whatever was given before, these bits are given too
+pub record GathersMore {T : Type 0} (took : T → ItemValue → T → Type 0) (before now : BitReceiving)
+    (taker taker_now : T) (bits : List Bool) : Type 0 where
+  pub gathers : (start : BitReceiving) (first : T) (given : List Bool)
+      → Gathers took start before first taker given
+      → Gathers took start now first taker_now (given ++ bits)
+
 -- an origin was noted, and nothing else is changed
 abbrev pub Notes : BitReceiving → BitReceiving → Type 0
 Notes before now = now ≡ record before { origins = now.origins }

@@ -116,19 +116,28 @@ HoldsMore s room b handed bits more =
 abbrev pub Stands : Finding → Recent → Batching → List Bool → Type 0
 Stands s room b bits = Holds s room b (due_count b.config bits) bits
 
+-- the most octets that bits are packed to at a time
+abbrev pub run_size : ℕ
+run_size = 256
+
 -- a search, its room and a batch agree, whatever bits were given; the room has some octets more
 -- than the search may have to keep
 pub record Agree (s : Finding) (room : Recent) (b : Batching) : Type 0 where
   pub rules : s.rules ≡ rules_of b.config
   pub columns : s.columns ≡ columns_of b.config
   pub whole : IsWhole s room.bits
-  pub sized : settled_by s.rules.verify s.rules.block_bits + 14 ≤ 8 * room.size
+  pub sized : settled_by s.rules.verify s.rules.block_bits + 8 * run_size + 14 ≤ 8 * room.size
   pub written : AreWritten b
 
 -- they agree, the search has passed all that it can, and the batch is not full
 pub record IsReady (s : Finding) (room : Recent) (b : Batching) : Type 0 where
   pub agree : Agree s room b
   pub short : length room.bits < settled_by s.rules.verify s.rules.block_bits
+  pub few : length b.stored < b.config.batch
+
+-- they agree, and the batch is not full; the search may have bits to pass
+pub record Fills (s : Finding) (room : Recent) (b : Batching) : Type 0 where
+  pub agree : Agree s room b
   pub few : length b.stored < b.config.batch
 
 -- the fewest bits that `count` codeblocks have with their markers: two may lie nearly in the room
@@ -155,7 +164,3 @@ bits_between from to octets = take (to - from) (drop from (bits_of octets))
 -- the most octets that go through both stages at a time
 abbrev pub piece_size : ℕ
 piece_size = 4096
-
--- the most octets that bits are packed to at a time
-abbrev pub run_size : ℕ
-run_size = 256

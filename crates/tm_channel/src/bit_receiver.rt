@@ -1,19 +1,23 @@
 // Bits in, items out.
-ghost use Rattle.std.specs.Prelude.{◌≡◌, ◌<◌, ◌≤◌, ◌*◌, ℕ, Bool, false, List, [], ◌++◌, length, map, drop, IsTrue};
+ghost use Rattle.std.specs.Prelude.{◌≡◌, ◌<◌, ◌≤◌, ◌+◌, ◌*◌, ◌%◌, ◌==◌, ℕ, Bool, false, List, [], ◌++◌, length, map, drop, IsTrue};
 ghost use Rattle.tm_base.specs.Bits.{bits_of};
 ghost use Rattle.tm_base.specs.Takers.{HandedOver};
 ghost use Rattle.tm_sync.specs.declared.found.Found.{Found};
 ghost use Rattle.tm_sync.specs.Bits.{bits_bound};
+ghost use Rattle.tm_inner.specs.InnerDecoding.{ready_in};
 ghost use Rattle.tm_codeblock.specs.ReceivedCodeblock.{places_in};
 ghost use Rattle.tm_channel.specs.Items.{ItemValue};
 ghost use Rattle.tm_channel.specs.Origins.{AreHandedSymbols, place_symbol};
-ghost use Rattle.tm_channel.specs.Receiving.{Agree, AreItemsFor, AreWritten, HoldsFound, IsHanded, IsReady, Stands};
-ghost use Rattle.tm_channel.specs.OctetReceiving.{KeepsSymbols, ReceivedAt, Settles, SettlesSymbols, receiving};
+ghost use Rattle.tm_channel.specs.Receiving.{Agree, AreItemsFor, AreWritten, Fills, HoldsFound, IsHanded, IsReady, Stands, run_size};
+ghost use Rattle.tm_channel.specs.OctetReceiving.{GathersMore, KeepsSymbols, ReceivedAt, bits_of_blocks, Settles, SettlesSymbols, receiving};
 
 use crate::crew::ReceiverCrew;
 use crate::item::ItemWatch;
 use crate::origins::Origins;
+use crate::packed::{RUN, pack_run};
 use crate::store::Codeblocks;
+use tm_codeblock::run_length;
+use tm_inner::InnerDecoder;
 use tm_sync::{Finder, RecentBits};
 
 // Hands over the items of the codeblocks that are stored.
@@ -66,6 +70,75 @@ impl BitReceiver {
             first = end;
             begun = 0;
         }
+    }
+
+    /// Takes the bits of the blocks that are ready, as many as there is room for before it searches them, so that
+    /// several codeblocks are whole in the room. Hands over each batch that is full with them.
+    pub fn receive_ready<C: ReceiverCrew, T: ItemWatch>(
+        &mut self,
+        crew: &C,
+        origins: &Origins,
+        inner: &InnerDecoder,
+        taker: &mut T,
+    )
+        requires crew { C.can_decode crew.now }
+        requires ready { IsReady self.old.finder self.old.recent self.old.batch }
+        ensures ready { IsReady self.new.finder self.new.recent self.new.batch }
+        ensures config { self.new.batch.config ≡ self.old.batch.config }
+        ensures handed { ReceivedAt T.took (receiving self.old origins.now)
+            (receiving self.new origins.now) taker.old taker.new (bits_of_blocks (ready_in inner.now.queue)) }
+    {
+        for index in 0..inner.ready() {
+            self.gather(crew, origins, inner.kept_bits(index), taker);
+        }
+        self.keep_all(crew, origins, taker);
+    }
+
+    // Takes bits, each 0 or 1, and searches those before them where there is no room.
+    fn gather<C: ReceiverCrew, T: ItemWatch>(
+        &mut self,
+        crew: &C,
+        origins: &Origins,
+        bits: &[u8],
+        taker: &mut T,
+    )
+        requires crew { C.can_decode crew.now }
+        requires fills { Fills self.old.finder self.old.recent self.old.batch }
+        ensures fills { Fills self.new.finder self.new.recent self.new.batch }
+        ensures config { self.new.batch.config ≡ self.old.batch.config }
+        ensures gathers { GathersMore T.took (receiving self.old origins.now) (receiving self.new origins.now)
+            taker.old taker.new (map (λ bit. bit == 1) bits.now) }
+    {
+        let mut done = 0;
+        while done < bits.len() {
+            let count = run_length(bits.len() - done, RUN);
+            self.make_room(crew, origins, taker);
+            let mut room = [0; RUN];
+            let (octets, from) = pack_run(&bits[done..done + count], &mut room);
+            self.recent.push(&room[..octets], from);
+            done += count;
+        }
+    }
+
+    // Searches the bits that were taken where there is no room for `RUN` octets more.
+    fn make_room<C: ReceiverCrew, T: ItemWatch>(
+        &mut self,
+        crew: &C,
+        origins: &Origins,
+        taker: &mut T,
+    )
+        requires crew { C.can_decode crew.now }
+        requires fills { Fills self.old.finder self.old.recent self.old.batch }
+        ensures fills { Fills self.new.finder self.new.recent self.new.batch }
+        ensures room { length self.new.recent.bits + 8 * run_size + 7 ≤ 8 * self.new.recent.size }
+        ensures config { self.new.batch.config ≡ self.old.batch.config }
+        ensures gathers { GathersMore T.took (receiving self.old origins.now) (receiving self.new origins.now)
+            taker.old taker.new [] }
+    {
+        if self.recent.free() >= RUN {
+            return;
+        }
+        self.keep_all(crew, origins, taker);
     }
 
     /// How many bits it was given.

@@ -4,10 +4,11 @@ ghost use Rattle.tm_base.specs.Bits.{bits_of};
 ghost use Rattle.tm_conv.specs.declared.rates.Rate.{Rate};
 ghost use Rattle.tm_sync.specs.Bits.{bits_bound};
 ghost use Rattle.tm_sync.specs.Places.{settled_by};
+ghost use Rattle.tm_inner.specs.InnerDecoding.{ready_in};
 ghost use Rattle.tm_codeblock.specs.ReceivedCodeblock.{columns_of, rules_of};
 ghost use Rattle.tm_channel.specs.Origins.{ReachesBack};
-ghost use Rattle.tm_channel.specs.Receiving.{waiting_bits};
-ghost use Rattle.tm_channel.specs.OctetReceiving.{AreSpare, BitReceiverStandsFor, Notes, NotesOrigin, ReceivedAt, ReceivedLast, spare_bits};
+ghost use Rattle.tm_channel.specs.Receiving.{run_size, waiting_bits};
+ghost use Rattle.tm_channel.specs.OctetReceiving.{AreSpare, BitReceiverStandsFor, Notes, NotesOrigin, ReceivedAt, ReceivedLast, bits_of_blocks, spare_bits};
 
 use crate::bit_receiver::BitReceiver;
 use crate::crew::ReceiverCrew;
@@ -15,6 +16,7 @@ use crate::item::ItemWatch;
 use crate::origins::Origins;
 use crate::store::Codeblocks;
 use std::marker::Model;
+use tm_inner::InnerDecoder;
 use tm_sync::{Finder, RecentBits};
 
 /// A receiver of bits between two calls.
@@ -54,7 +56,7 @@ impl BitStream {
           last = None;
         } }
         requires recent { recent.bits ≡ [] }
-        requires sized { settled_by finder.rules.verify finder.rules.block_bits + 14 ≤ 8 * recent.size }
+        requires sized { settled_by finder.rules.verify finder.rules.block_bits + 8 * run_size + 14 ≤ 8 * recent.size }
         requires batch { batch ≡ record { config = batch.config; stored = []; symbols = []; items = [] } }
         requires some { 0 < batch.config.batch }
         requires origins { origins.origins ≡ [] }
@@ -99,6 +101,22 @@ impl BitStream {
     {
         self.receiver
             .receive(crew, &self.origins, octets, from, taker);
+    }
+
+    /// Takes the bits of the blocks that are ready, and hands over the items that are due with them.
+    pub fn receive_ready<C: ReceiverCrew, T: ItemWatch>(
+        &mut self,
+        crew: &C,
+        inner: &InnerDecoder,
+        taker: &mut T,
+    )
+        requires crew { C.can_decode crew.now }
+        ensures config { self.new.batch.config ≡ self.old.batch.config }
+        ensures handed { ReceivedAt T.took self.old self.new taker.old taker.new
+            (bits_of_blocks (ready_in inner.now.queue)) }
+    {
+        self.receiver
+            .receive_ready(crew, &self.origins, inner, taker);
     }
 
     /// How many further bits make no item due, whatever they are: one fewer than the codeblocks that the batch lacks

@@ -1,5 +1,6 @@
 // Bits that are octets 0 and 1, packed to octets for the search.
-ghost use Rattle.std.specs.Prelude.{◌≡◌, ◌<◌, ◌≤◌, ◌⊎◌, ◌*◌, ◌%◌, ◌==◌, length, map};
+ghost use Rattle.std.specs.Prelude.{◌≡◌, ◌<◌, ◌≤◌, ◌⊎◌, ◌*◌, ◌%◌, ◌==◌, drop, length, map, take};
+ghost use Rattle.tm_base.specs.Bits.{bits_of};
 ghost use Rattle.tm_channel.specs.OctetReceiving.{ReceivedAt};
 ghost use Rattle.tm_channel.specs.Receiving.{run_size};
 
@@ -8,8 +9,8 @@ use crate::crew::ReceiverCrew;
 use crate::item::ItemWatch;
 use tm_codeblock::{pack, run_length};
 
-// How many octets bits are packed to at a time.
-const RUN: usize = 256;
+/// How many octets bits are packed to at a time.
+pub const RUN: usize = 256;
 
 /// Gives bits, each 0 or 1, to the second stage, and hands over the items that are due with them.
 pub fn take_bits<C: ReceiverCrew, T: ItemWatch>(
@@ -25,36 +26,33 @@ pub fn take_bits<C: ReceiverCrew, T: ItemWatch>(
     let mut done = 0;
     while done < bits.len() {
         let count = run_length(bits.len() - done, RUN);
-        take_run(stream, crew, &bits[done..done + count], taker);
+        let mut room = [0; RUN];
+        let (octets, from) = pack_run(&bits[done..done + count], &mut room);
+        stream.receive(crew, &room[..octets], from, taker);
         done += count;
     }
 }
 
-// Gives fewer than eight bits to it, or those of up to `RUN` octets.
-fn take_run<C: ReceiverCrew, T: ItemWatch>(
-    stream: &mut BitStream,
-    crew: &C,
-    bits: &[u8],
-    taker: &mut T,
-)
-    requires crew { C.can_decode crew.now }
+/// Packs fewer than eight bits, each 0 or 1, or those of up to `RUN` octets. Returns how many octets these are, and
+/// after how many bits of the first one they begin.
+pub fn pack_run(bits: &[u8], room: &mut [u8]) -> (usize, usize)
     requires whole { (length bits.now < 8) ⊎ (length bits.now % 8 ≡ 0) }
     requires most { length bits.now ≤ 8 * run_size }
-    ensures config { stream.new.batch.config ≡ stream.old.batch.config }
-    ensures handed { ReceivedAt T.took stream.old stream.new taker.old taker.new (map (λ bit. bit == 1) bits.now) }
+    requires room { length room.old ≡ run_size }
+    ensures count { result.0 ≤ run_size }
+    ensures from { result.1 ≤ 8 * result.0 }
+    ensures bits { drop result.1 (bits_of (take result.0 room.new)) ≡ map (λ bit. bit == 1) bits.now }
+    ensures length { length room.new ≡ length room.old }
 {
     if bits.len() < 8 {
         // They follow others in an octet, which are left out.
         let from = 8 - bits.len();
         let mut eight = [0; 8];
         eight[from..].copy_from_slice(bits);
-        let mut octet = [0; 1];
-        pack(&eight, &mut octet);
-        stream.receive(crew, &octet, from, taker);
-        return;
+        pack(&eight, &mut room[..1]);
+        return (1, from);
     }
-    let mut octets = [0; RUN];
-    let octets = &mut octets[..bits.len() / 8];
-    pack(bits, octets);
-    stream.receive(crew, octets, 0, taker);
+    let count = bits.len() / 8;
+    pack(bits, &mut room[..count]);
+    (count, 0)
 }

@@ -5,7 +5,7 @@ ghost use Rattle.tm_base.specs.Handed.{Handed, items_of, on_handed};
 ghost use Rattle.tm_base.specs.Takers.{HandedOver};
 ghost use Rattle.tm_config.specs.Accepted.{IsAccepted};
 ghost use Rattle.tm_inner.specs.Inner.{nearest_bit, plain_bits};
-ghost use Rattle.tm_inner.specs.InnerDecoding.{IsDrained, IsSettledQueue, has_phase_now, ready_in, unread};
+ghost use Rattle.tm_inner.specs.InnerDecoding.{IsDrained, IsSettledQueue, has_phase_now, unread};
 ghost use Rattle.tm_inner.specs.InnerWindows.{AreDecoded, AreTold, AreWindows};
 ghost use Rattle.tm_inner.specs.Phase.{IsChosen, with_phase};
 ghost use Rattle.tm_inner.specs.Receiving.{Hands};
@@ -14,7 +14,7 @@ ghost use Rattle.tm_channel.specs.Items.{ItemValue};
 ghost use Rattle.tm_channel.specs.Handing.{AreReceived};
 ghost use Rattle.tm_channel.specs.Most.{AreFew};
 ghost use Rattle.tm_channel.specs.Receiving.{piece_size, waiting_bits};
-ghost use Rattle.tm_channel.specs.OctetReceiving.{AreSpare, Decoded, MayNotWait, ReceivedAt, StagesFor, StagesHand, bits_of_blocks, spare_bits};
+ghost use Rattle.tm_channel.specs.OctetReceiving.{AreSpare, Decoded, MayNotWait, ReceivedAt, StagesFor, StagesHand, spare_bits};
 
 use crate::bit_stream::BitStream;
 use crate::crew::ReceiverCrew;
@@ -108,25 +108,8 @@ fn take_decoded<C: ReceiverCrew, W: WindowWatch, T: ItemWatch>(
     while count > 0 {
         watch_ready(inner, watch);
         stream.note(inner.origin());
-        take_ready(inner, stream, crew, taker);
+        stream.receive_ready(crew, inner, taker);
         count = inner.decode(crew);
-    }
-}
-
-// Gives the bits of the blocks that are ready to the second stage.
-fn take_ready<C: ReceiverCrew, T: ItemWatch>(
-    inner: &InnerDecoder,
-    stream: &mut BitStream,
-    crew: &C,
-    taker: &mut T,
-)
-    requires crew { C.is_ready crew.now × C.can_decode crew.now }
-    ensures config { stream.new.batch.config ≡ stream.old.batch.config }
-    ensures handed { ReceivedAt T.took stream.old stream.new taker.old taker.new
-        (bits_of_blocks (ready_in inner.now.queue)) }
-{
-    for index in 0..inner.ready() {
-        take_bits(stream, crew, inner.kept_bits(index), taker);
     }
 }
 
@@ -162,7 +145,7 @@ pub fn end<C: ReceiverCrew, W: WindowWatch, T: ItemWatch>(
     let end = inner.last();
     watch_ready(inner, watch);
     stream.note(inner.origin());
-    take_ready(inner, stream, crew, taker);
+    stream.receive_ready(crew, inner, taker);
     stream.hand_last(crew, taker);
     Totals {
         bits: end.bits,

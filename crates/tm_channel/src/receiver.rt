@@ -1,5 +1,5 @@
 // The receiver: octets in, items out.
-ghost use Rattle.std.specs.Prelude.{◌≡◌, ◌≢◌, ◌⊎◌, ◌++◌, ℕ, ◌+◌, ◌*◌, ◌<◌, ◌≤◌, true, false, List, [], length, None, IfOk, OnOk, IsErrOf, Err};
+ghost use Rattle.std.specs.Prelude.{◌≡◌, ◌≢◌, ◌⊎◌, ◌++◌, ℕ, ◌+◌, ◌*◌, ◌^◌, ◌<◌, ◌≤◌, true, false, List, [], length, None, IfOk, OnOk, IsErrOf, Err};
 ghost use Rattle.std.specs.Thread.{IsSync};
 ghost use Rattle.tm_base.specs.Handed.{Handed, on_handed};
 ghost use Rattle.tm_base.specs.Outside.{Rose};
@@ -20,7 +20,7 @@ ghost use Rattle.tm_channel.specs.Items.{ItemValue};
 ghost use Rattle.tm_channel.specs.Handing.{AreReceived, AreReceivedFirst, AreReceivedPrefix};
 ghost use Rattle.tm_channel.specs.Calls.{Feeds, Finishes};
 ghost use Rattle.tm_channel.specs.OctetReceiving.{AreSlipsSoFar, ReceiverStandsFor};
-ghost use Rattle.tm_channel.specs.Receiving.{waiting_bits};
+ghost use Rattle.tm_channel.specs.Receiving.{run_size, waiting_bits};
 
 use crate::bit_stream::BitStream;
 use crate::crew::ReceiverCrew;
@@ -35,9 +35,9 @@ use std::marker::Model;
 use std::thread::Threads;
 use thiserror::Error;
 use tm_base::NoMemory;
-use tm_codeblock::{codeblock_size, columns_of, finds_polarity};
+use tm_codeblock::{codeblock_size, columns_of, finds_polarity, has_code};
 use tm_config::Config;
-use tm_inner::{InnerDecoder, NoWatch, WindowWatch};
+use tm_inner::{InnerDecoder, NoWatch, WindowWatch, rate_of};
 use tm_rs_code::Params;
 use tm_sync::{Finder, RecentBits};
 use tm_windows::{AllError, Chosen, Threaded};
@@ -291,7 +291,7 @@ fn open_search(alloc: Global, config: &Config) -> Result<(Finder, RecentBits), N
         ≡ record { rules = rules_of config.now; columns = columns_of config.now; passed = 0; last = None }) }
     ensures recent { IfOk result (λ opened. opened.1.bits ≡ []) }
     ensures sized { IfOk result (λ opened.
-        settled_by opened.0.rules.verify opened.0.rules.block_bits + 14 ≤ 8 * opened.1.size) }
+        settled_by opened.0.rules.verify opened.0.rules.block_bits + 8 * run_size + 14 ≤ 8 * opened.1.size) }
     ensures accepted { IsAccepted config.now }
 {
     let size = codeblock_size(config);
@@ -305,10 +305,24 @@ fn open_search(alloc: Global, config: &Config) -> Result<(Finder, RecentBits), N
     );
     // A place is settled by its marker and codeblock and by those that verify it; a piece of octets follows these.
     let units = 1 + config.verify() as usize;
-    let Ok(room) = vec![in alloc; 0; units * (4 + size) + PIECE] else {
+    let Ok(room) = vec![in alloc; 0; units * (4 + size) + PIECE + expected_octets(config)] else {
         return Err(NoMemory);
     };
     Ok((finder, RecentBits::new(room)))
+}
+
+// How many octets besides hold the bits that the inner code is decoded to at a time, where expected codeblocks are
+// decoded in them.
+fn expected_octets(config: &Config) -> usize
+    ensures { result < 2 ^ 31 }
+{
+    if !config.values().rescan || !has_code(config) || config.workers() < 2 {
+        return 0;
+    }
+    if rate_of(config).is_none() {
+        return 0;
+    }
+    (waiting_bits(config, config.batch()) + config.keep()) as usize / 8
 }
 
 /// Hands over the symbol phase of octets, fewer than 2^60, where it is to be found, and all their items. Returns what

@@ -18,15 +18,17 @@ loop-done-preserved g c =
     let bits = c.args.bits.now in
     let done = c.loop-done.done in
     let count = c.run_length-count.result in
-    let now = c.take_run.new in
+    let now = c.receive.new in
     let took = g.T.ItemWatch.took in record {
       within = omega (arith, c.run_length-count.ensures.within);
-      config = c.take_run.ensures.config ∙ i.config;
-      received = subst (ReceivedAt took c.args.stream.now now.stream c.args.taker.now now.taker)
+      config = c.receive.ensures.config ∙ i.config;
+      received = subst (ReceivedAt took c.args.stream.now now.self c.args.taker.now now.taker)
           (sym (next-ones bits done count))
-          (received_at-then took c.args.stream.now c.loop-done.stream now.stream c.args.taker.now c.loop-done.taker
+          (received_at-then took c.args.stream.now c.loop-done.stream now.self c.args.taker.now c.loop-done.taker
           now.taker
-          (ones (take done bits)) (ones (next_octets done count bits)) i.received c.take_run.ensures.handed);
+          (ones (take done bits)) (ones (next_octets done count bits)) i.received
+          (subst (ReceivedAt took c.loop-done.stream now.self c.loop-done.taker now.taker)
+          c.pack_run-octets.ensures.bits c.receive.ensures.handed));
     }
 
 pub returns-clause-handed : goal.returns-clause-handed

@@ -73,16 +73,16 @@ returns-clause-handed g c =
     let d = c.take_decoded.ensures.decoded in
     let ready = ready_in c.last-end.new.self.queue in
     let start = c.args.taker.now in
-    let middle = c.take_ready.new.taker in
+    let middle = c.receive_ready.new.taker in
     let now = c.hand_last.new.taker in
     let at = (goal.at.returns-clause-handed g c).After-last-end in
-    let run = c.take_ready.ensures.handed in
-    let p = received-by t.took s.bits c.take_ready.new.stream d.middle middle
+    let run = c.receive_ready.ensures.handed in
+    let p = received-by t.took s.bits c.receive_ready.new.self d.middle middle
     (bits_of_blocks d.blocks ++ bits_of_blocks ready) (bits_of_blocks (d.blocks ++ ready))
     (sym (all_bits-append d.blocks ready))
-    (received-then t.took s.bits c.take_decoded.new.stream c.take_ready.new.stream d.middle
+    (received-then t.took s.bits c.take_decoded.new.stream c.receive_ready.new.self d.middle
     c.take_decoded.new.taker middle (bits_of_blocks d.blocks) (bits_of_blocks ready) d.received
-    (received-noted t.took c.take_decoded.new.stream c.note.new.self c.take_ready.new.stream c.take_decoded.new.taker
+    (received-noted t.took c.take_decoded.new.stream c.note.new.self c.receive_ready.new.self c.take_decoded.new.taker
     middle (bits_of_blocks ready) c.note.ensures.same run.received)) in
     let q = c.hand_last.ensures.handed in (
       with_phase d.phase [] ++ map Item (p.items ++ q.items),
@@ -90,10 +90,10 @@ returns-clause-handed g c =
           (map Item (p.items ++ q.items)) d.phased
           (HandedOver-items t.took_phase t.took d.middle now (p.items ++ q.items)
           (HandedOver-append t.took d.middle middle now p.items q.items p.handed q.handed)),
-      ends t.took s c.take_ready.new.stream d.middle middle now d.phase (d.blocks ++ ready) (totals-of g at)
+      ends t.took s c.receive_ready.new.self d.middle middle now d.phase (d.blocks ++ ready) (totals-of g at)
           c.requires.of (all-blocks g at) p q
           (say-all s c.settle.new.self (record { inner = c.take_decoded.new.inner; bits = c.take_decoded.new.stream })
-          c.last-end.new.self d.phase d.blocks ready c.note.new.self c.take_ready.new.stream c.origin.result
+          c.last-end.new.self d.phase d.blocks ready c.note.new.self c.receive_ready.new.self c.origin.result
           c.last-end.result.leftover c.last-end.result.bits c.last-end.result.slips d.received.items run.received.items
           q.items c.requires.of (settled-by g at) d.decodes d.symbols d.plain d.received.config d.received.stands
           (last-run g (goal.at.returns-clause-handed g c).After-note) run.symbols q.symbols),

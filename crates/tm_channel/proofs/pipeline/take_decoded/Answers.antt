@@ -67,7 +67,7 @@ loop-count-preserved g c =
     } in
     record {
       config = e.config ∙ i.config;
-      stream = c.take_ready.ensures.config ∙ ap (λ (v : BitReceiving). v.batch.config) c.note.ensures.same ∙ i.stream;
+      stream = c.receive_ready.ensures.config ∙ ap (λ (v : BitReceiving). v.batch.config) c.note.ensures.same ∙ i.stream;
       settled = λ settled. e.still (i.settled settled);
       count = e.count;
       drained = e.drained;
@@ -76,11 +76,11 @@ loop-count-preserved g c =
           c.watch_ready.new.watch i.told c.watch_ready.ensures
           (told-run before d.new.self e.config e.settled (λ given blocks s. (e.stands given blocks s).0) e.windows);
       runs = running-more t.took_phase t.took (record { inner = c.args.inner.now; bits = c.args.stream.now })
-          (record { inner = before; bits = c.loop-count.stream }) d.new.self c.note.new.self c.take_ready.new.stream
-          c.origin.result c.args.taker.now c.loop-count.taker c.take_ready.new.taker ready next i.runs
+          (record { inner = before; bits = c.loop-count.stream }) d.new.self c.note.new.self c.receive_ready.new.self
+          c.origin.result c.args.taker.now c.loop-count.taker c.receive_ready.new.taker ready next i.runs
           (omega (arith, c.loop-count-test.true, i.count))
           (c.note.ensures.same, c.note.ensures.noted, c.origin.ensures.value, c.origin.ensures.few)
-          c.take_ready.ensures.handed run e.later;
+          c.receive_ready.ensures.handed run e.later;
     }
 
 pub returns-clause-of : goal.returns-clause-of

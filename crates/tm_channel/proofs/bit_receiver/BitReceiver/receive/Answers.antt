@@ -2,7 +2,7 @@ use Rattle.std.proofs.Common.{◌≡◌, ◌+◌, ◌-◌, ◌*◌, ◌/◌, ◌
 use Rattle.tm_base.specs.Bits.{bits_of}
 use Rattle.tm_sync.specs.Finding.{Recent}
 use Rattle.tm_channel.specs.OctetReceiving.{BitReceiving, ReceivedAt, receiving}
-use Rattle.tm_channel.specs.Receiving.{bits_between}
+use Rattle.tm_channel.specs.Receiving.{bits_between, run_size}
 use Rattle.tm_channel.proofs.Between.{between-all, between-joined, between-none, between-octets}
 use Rattle.tm_channel.proofs.Holding.{agree-more, holds-more}
 use Rattle.tm_channel.proofs.KeptSymbols.{symbols-stored}
@@ -14,7 +14,7 @@ abbrev piece_of : ℕ → ℕ → ℕ → List ℕ → List Bool
 piece_of first count begun octets = drop begun (bits_of (take ((first + count) - first) (drop first octets)))
 
 -- there is room for some octets
-room-left : (size bits settled : ℕ) → bits < settled → settled + 14 ≤ 8 * size → 0 < size - (bits + 14) / 8
+room-left : (size bits settled : ℕ) → bits < settled → settled + 8 * run_size + 14 ≤ 8 * size → 0 < size - (bits + 14) / 8
 room-left size bits settled short sized = omega (arith, short, sized)
 
 pub loop-first-init : goal.loop-first-init
