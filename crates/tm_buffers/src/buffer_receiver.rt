@@ -141,7 +141,7 @@ impl BufferReceiver {
     {
         let most = reports.len();
         let mut taker = BufferItems::over(frames, reports);
-        let fed = self.receiver.receive(&Alone, octets, watch, &mut taker);
+        let went = self.receiver.receive(&Alone, octets, watch, &mut taker);
         let BufferItems {
             count,
             octets: size,
@@ -153,10 +153,10 @@ impl BufferReceiver {
             octets: size as u64,
             windows: 0,
         };
-        match fed {
-            Ok(()) => counted(Some(count.min(most)), is_short),
-            Err(_) => None,
+        if !went {
+            return None;
         }
+        counted(Some(count.min(most)), is_short)
     }
 
     /// Writes what is left, as `feed` does, and reports what all octets came to. It is called once, at the end of the
@@ -239,11 +239,11 @@ impl BufferReceiver {
             windows: 0,
         };
         match ended {
-            Ok(received) => {
+            Some(received) => {
                 *totals = received;
                 counted(Some(count.min(most)), is_short)
             }
-            Err(_) => None,
+            None => None,
         }
     }
 

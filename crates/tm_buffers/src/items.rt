@@ -3,8 +3,7 @@ ghost use Rattle.std.specs.Prelude.{◌≡◌, ◌≤◌, length, map, take};
 ghost use Rattle.tm_config.specs.Configuration.{deepest};
 ghost use Rattle.tm_buffers.specs.Reports.{IsReport, repaired_of};
 
-use tm_base::Failed;
-use tm_channel::{Answer, Item, ItemTaker, are_fixed};
+use tm_channel::{Answer, Item, ItemWatch, are_fixed};
 
 /// What is said of a codeblock that was found, but for its frame, as plain numbers.
 #[repr(C)]
@@ -43,8 +42,8 @@ pub struct Written {
     pub windows: u64,
 }
 
-/// Writes the frames of items to a buffer and what else is said of them to an array, from their start on. It never
-/// fails: from the first item on for which there is no room, all are dropped.
+/// Writes the frames of items to a buffer and what else is said of them to an array, from their start on. From the
+/// first item on for which there is no room, all are dropped.
 #[derive(Drop)]
 pub struct BufferItems<'a, 'b> {
     pub frames: &'a mut [u8],
@@ -78,44 +77,33 @@ impl<'a, 'b> BufferItems<'a, 'b> {
     }
 }
 
-impl<'a, 'b> ItemTaker for BufferItems<'a, 'b> {
+impl<'a, 'b> ItemWatch for BufferItems<'a, 'b> {
     ghost use Rattle.std.specs.Prelude.{◌≡◌};
     ghost use Rattle.tm_buffers.specs.Items.{Collects, collected};
-
-    ghost faults = { λ b. 0 };
-
-    ghost is_last = { λ b. ⊥ };
 
     ghost took = { λ a item b. (b.frames.ghost_name ≡ a.frames.ghost_name)
         × (b.reports.ghost_name ≡ a.reports.ghost_name)
         × Collects (collected a) item (collected b) };
 
-    ghost broke = { λ a item b. ⊥ };
-
     ghost took_phase = { λ a skip cost b. b ≡ a };
 
-    ghost broke_phase = { λ a skip cost b. ⊥ };
-
-    fn item(&mut self, item: &Item<'_>) -> Result<(), Failed> {
+    fn item(&mut self, item: &Item<'_>) {
         let size = item.frame.len();
         if self.is_short
             || self.count == self.reports.len()
             || size > self.frames.len() - self.octets
         {
             self.is_short = true;
-            return Ok(());
+            return;
         }
         let end = self.octets + size;
         self.frames[self.octets..end].copy_from_slice(item.frame);
         self.reports[self.count] = report_of(item, self.octets);
         self.octets = end;
         self.count += 1;
-        Ok(())
     }
 
-    fn phase(&mut self, _skip: u8, _cost: u64) -> Result<(), Failed> {
-        Ok(())
-    }
+    fn phase(&mut self, _skip: u8, _cost: u64) {}
 }
 
 // What is said of an item, whose frame begins there.

@@ -28,6 +28,7 @@ pub mod Streaming
 pub mod Holding
 pub mod Apart
 pub mod Until
+mod Told
 pub mod Ones
 pub mod Settling
 pub mod Pieces

@@ -44,12 +44,12 @@ passes-more took broke faults is_last item items false true third before middle 
 
 module _ {T : Type 0} (took_phase broke_phase : T → ℕ → ℕ → T → Type 0) (took broke : T → ItemValue → T → Type 0)
     (faults : T → ℕ) (is_last : T → Type 0) where
-  abbrev Took : UntilFault T → ItemValue → UntilFault T → Type 0
+  abbrev pub Took : UntilFault T → ItemValue → UntilFault T → Type 0
   Took a item b = (b.taker.ghost_name ≡ a.taker.ghost_name)
       × Passes (λ before now. took before item now) (λ before now. broke before item now) faults is_last a.has_failed
       a.taker.now b.has_failed b.taker.now
 
-  abbrev TookPhase : UntilFault T → ℕ → ℕ → UntilFault T → Type 0
+  abbrev pub TookPhase : UntilFault T → ℕ → ℕ → UntilFault T → Type 0
   TookPhase a skip cost b = (b.taker.ghost_name ≡ a.taker.ghost_name)
       × Passes (λ before now. took_phase before skip cost now) (λ before now. broke_phase before skip cost now) faults
       is_last a.has_failed a.taker.now b.has_failed b.taker.now

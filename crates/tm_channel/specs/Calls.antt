@@ -1,5 +1,5 @@
 -- What the calls of a receiver promise.
-use Rattle.std.specs.Prelude.{◌≡◌, ◌↔◌, ℕ, true, List, Result, IfOk, OnOk, IsErrOf, IsTrue}
+use Rattle.std.specs.Prelude.{◌≡◌, ◌↔◌, ℕ, Bool, true, false, List, Option, None, Result, IfOk, IfSome, OnOk, IsErrOf, IsTrue}
 use Rattle.tm_base.specs.Calls.{CallAnswers}
 use Rattle.tm_base.specs.Handed.{Handed}
 use Rattle.tm_channel.specs.declared.totals.Totals.{Totals}
@@ -35,4 +35,25 @@ pub record Finishes {T : Type 0} (took broke : T → Handed ItemValue → T → 
   pub config : now.config ≡ before.config
   pub handed : IfOk result (FinishHands took before taker taker_now)
   pub prefix : IsErrOf result Taker → FinishBreaks took broke before taker taker_now
+  pub chosen : FinishChooses before now
+
+-- With these octets what is due was handed over to what never fails; or the receiver had stopped.
+pub record Tells {T : Type 0} (took : T → Handed ItemValue → T → Type 0)
+    (before now : OctetReceiving) (watch watch_now : T) (octets : List ℕ) (went : Bool)
+    : Type 0 where
+  pub stopped : (went ≡ false) ↔ IsTrue before.has_stopped
+  pub unchanged : went ≡ false → (now ≡ before) × (watch_now ≡ watch)
+  pub going : IsTrue went → now.has_stopped ≡ false
+  pub config : now.config ≡ before.config
+  pub handed : IsTrue went → FeedHands took before now watch watch_now octets
+  pub chosen : FeedChooses before now octets
+
+-- and at the end what is left
+pub record TellsLast {T : Type 0} (took : T → Handed ItemValue → T → Type 0)
+    (before now : OctetReceiving) (watch watch_now : T) (result : Option Totals) : Type 0 where
+  pub stopped : (result ≡ None) ↔ IsTrue before.has_stopped
+  pub unchanged : result ≡ None → (now ≡ before) × (watch_now ≡ watch)
+  pub stops : now.has_stopped ≡ true
+  pub config : now.config ≡ before.config
+  pub handed : IfSome result (FinishHands took before watch watch_now)
   pub chosen : FinishChooses before now

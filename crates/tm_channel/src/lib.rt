@@ -22,7 +22,7 @@ mod totals;
 mod until_fault;
 
 pub use crew::ReceiverCrew;
-pub use item::{Item, ItemTaker, are_fixed};
+pub use item::{Item, ItemTaker, ItemWatch, are_fixed};
 pub use laws::{
     clean_law, disturbed_law, disturbed_octets_law, due_items_law, first_items_law, found_law,
     items_law, polarity_law, received_law,

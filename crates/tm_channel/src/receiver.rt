@@ -1,5 +1,5 @@
 // The receiver: octets in, items out.
-ghost use Rattle.std.specs.Prelude.{◌≡◌, ◌≢◌, ◌⊎◌, ◌++◌, ℕ, ◌+◌, ◌*◌, ◌^◌, ◌<◌, ◌≤◌, true, false, List, [], length, None, IfOk, OnOk, IsErrOf, Err};
+ghost use Rattle.std.specs.Prelude.{◌≡◌, ◌≢◌, ◌⊎◌, ◌++◌, ℕ, ◌+◌, ◌*◌, ◌^◌, ◌<◌, ◌≤◌, true, false, List, [], length, None, IfOk, IfSome, IsErrOf, IsTrue, Err};
 ghost use Rattle.std.specs.Thread.{IsSync};
 ghost use Rattle.tm_base.specs.Handed.{Handed, on_handed};
 ghost use Rattle.tm_base.specs.Outside.{Rose};
@@ -18,13 +18,13 @@ ghost use Rattle.tm_workers.specs.Words.{Decodes};
 ghost use Rattle.tm_viterbi.specs.WindowSizes.{stream_bound};
 ghost use Rattle.tm_channel.specs.Items.{ItemValue};
 ghost use Rattle.tm_channel.specs.Handing.{AreReceived, AreReceivedFirst, AreReceivedPrefix};
-ghost use Rattle.tm_channel.specs.Calls.{Feeds, Finishes};
+ghost use Rattle.tm_channel.specs.Calls.{Feeds, Finishes, Tells, TellsLast};
 ghost use Rattle.tm_channel.specs.OctetReceiving.{AreSlipsSoFar, ReceiverStandsFor};
 ghost use Rattle.tm_channel.specs.Receiving.{run_size, waiting_bits};
 
 use crate::bit_stream::BitStream;
 use crate::crew::ReceiverCrew;
-use crate::item::ItemTaker;
+use crate::item::{ItemTaker, ItemWatch};
 use crate::origins::Origins;
 use crate::pipeline::{PIECE, end, take};
 use crate::store::{Codeblocks, waiting_bits};
@@ -157,51 +157,62 @@ impl Receiver {
             requires { IsSync R.row × IsSync G.row × IsBatch params.now.e repair (length words.old) workers }
             ensures { EachBecomes (Decodes params.now repair) words.old words.new }
         { decode_batch(rt, alloc, params, repair, words, workers, gate) };
-        self.receive(&Threaded { rt, words }, octets, &mut NoWatch, taker)
+        let mut until = UntilFault {
+            taker,
+            has_failed: false,
+        };
+        let went = self.receive(&Threaded { rt, words }, octets, &mut NoWatch, &mut until);
+        let UntilFault { has_failed, .. } = until;
+        if !went {
+            return Err(RecvError::Stopped);
+        }
+        if has_failed {
+            self.stop();
+            return Err(RecvError::Taker);
+        }
+        Ok(())
     }
 
-    /// Does what `feed` does, by this crew, and tells of each window of the inner code that is decoded. Calls of both
-    /// kinds, and of several crews, may follow one another: the items are the same, and windows that `feed` decodes are
-    /// not told of.
-    pub fn receive<C: ReceiverCrew, W: WindowWatch, T: ItemTaker>(
+    // Takes no more octets.
+    fn stop(&mut self)
+        ensures { self.new ≡ record self.old { has_stopped = true } }
+    {
+        self.has_stopped = true;
+    }
+
+    /// Does what `feed` does, by this crew, for what never fails, and tells of each window of the inner code that is
+    /// decoded. Calls of both kinds, and of several crews, may follow one another: the items are the same, and windows
+    /// that `feed` decodes are not told of. Returns false where an earlier call returned `Taker` or the receiver was
+    /// finished; nothing is handed over then.
+    pub fn receive<C: ReceiverCrew, W: WindowWatch, T: ItemWatch>(
         &mut self,
         crew: &C,
         octets: &[u8],
         watch: &mut W,
-        taker: &mut T,
-    ) -> Result<(), RecvError>
+        items: &mut T,
+    ) -> bool
         requires crew { C.is_ready crew.now × C.can_decode crew.now }
-        ensures feeds { Feeds (on_handed T.took_phase T.took) (on_handed T.broke_phase T.broke) T.faults T.is_last
-            self.old self.new taker.old taker.new octets.now result }
-        ensures watched { self.old.stages.inner.has_ended ≡ false → OnOk result
-            (Hands W.took AreTold self.old.stages.inner self.new.stages.inner watch.old watch.new octets.now) }
-        ensures all { C.share crew.now 2 ≤ 1 → OnOk result (AreDecoded self.new.stages.inner) }
+        ensures tells { Tells (on_handed T.took_phase T.took) self.old self.new items.old items.new octets.now result }
+        ensures watched { self.old.stages.inner.has_ended ≡ false → IsTrue result
+            → Hands W.took AreTold self.old.stages.inner self.new.stages.inner watch.old watch.new octets.now }
+        ensures all { C.share crew.now 2 ≤ 1 → IsTrue result → AreDecoded self.new.stages.inner }
         ensures of { (self.old.stages.inner.config ≡ self.old.config)
             × (self.new.stages.inner.config ≡ self.old.config) × IsAccepted self.old.config }
         ensures by { self.old.has_stopped ≡ false → self.new.by ≡ C.share crew.now self.old.config.workers }
     {
         if self.has_stopped {
-            return Err(RecvError::Stopped);
+            return false;
         }
         self.by = workers_by(&self.config, crew);
-        let mut until = UntilFault {
-            taker,
-            has_failed: false,
-        };
         take(
             &mut self.inner,
             &mut self.stream,
             crew,
             octets,
             watch,
-            &mut until,
+            items,
         );
-        let UntilFault { has_failed, .. } = until;
-        self.has_stopped = has_failed;
-        if has_failed {
-            return Err(RecvError::Taker);
-        }
-        Ok(())
+        true
     }
 
     /// Hands over what is left: the symbol phase, where it is to be found and was not chosen yet, and the last items.
@@ -223,40 +234,43 @@ impl Receiver {
             requires { IsSync R.row × IsSync G.row × IsBatch params.now.e repair (length words.old) workers }
             ensures { EachBecomes (Decodes params.now repair) words.old words.new }
         { decode_batch(rt, alloc, params, repair, words, workers, gate) };
-        self.end(&Threaded { rt, words }, &mut NoWatch, taker)
+        let mut until = UntilFault {
+            taker,
+            has_failed: false,
+        };
+        let ended = self.end(&Threaded { rt, words }, &mut NoWatch, &mut until);
+        let UntilFault { has_failed, .. } = until;
+        let Some(totals) = ended else {
+            return Err(RecvError::Stopped);
+        };
+        if has_failed {
+            return Err(RecvError::Taker);
+        }
+        Ok(totals)
     }
 
-    /// Does what `finish` does, by this crew, and tells of the windows that are left, whichever calls were before.
-    pub fn end<C: ReceiverCrew, W: WindowWatch, T: ItemTaker>(
+    /// Does what `finish` does, by this crew, for what never fails, and tells of the windows that are left, whichever
+    /// calls were before. None comes where an earlier call returned `Taker` or the receiver was finished.
+    pub fn end<C: ReceiverCrew, W: WindowWatch, T: ItemWatch>(
         &mut self,
         crew: &C,
         watch: &mut W,
-        taker: &mut T,
-    ) -> Result<Totals, RecvError>
+        items: &mut T,
+    ) -> Option<Totals>
         requires crew { C.is_ready crew.now × C.can_decode crew.now }
-        ensures finishes { Finishes (on_handed T.took_phase T.took) (on_handed T.broke_phase T.broke) T.faults T.is_last
-            self.old self.new taker.old taker.new result }
-        ensures watched { OnOk result ((last : List Window) × HandedOver W.took watch.old last watch.new
+        ensures tells { TellsLast (on_handed T.took_phase T.took) self.old self.new items.old items.new result }
+        ensures watched { IfSome result (λ _. (last : List Window) × HandedOver W.took watch.old last watch.new
             × ((given : List ℕ) (done : List Window) → AreTold self.old.stages.inner given done
             → AreWindows self.old.config given (done ++ last))) }
         ensures of { (self.old.stages.inner.config ≡ self.old.config) × IsAccepted self.old.config }
         ensures by { self.old.has_stopped ≡ false → self.new.by ≡ C.share crew.now self.old.config.workers }
     {
         if self.has_stopped {
-            return Err(RecvError::Stopped);
+            return None;
         }
         self.has_stopped = true;
         self.by = workers_by(&self.config, crew);
-        let mut until = UntilFault {
-            taker,
-            has_failed: false,
-        };
-        let totals = end(&mut self.inner, &mut self.stream, crew, watch, &mut until);
-        let UntilFault { has_failed, .. } = until;
-        if has_failed {
-            return Err(RecvError::Taker);
-        }
-        Ok(totals)
+        Some(end(&mut self.inner, &mut self.stream, crew, watch, items))
     }
 
     /// The symbol phase that was chosen: None before the choice, and where the phase is given.

@@ -7,8 +7,8 @@ use std::test::Fail;
 use std::thread::Threads;
 use tm_base::{Failed, MemSink, Sink};
 use tm_channel::{
-    AllError, Alone, Answer, Config, Item, ItemTaker, NoWatch, Raw, Receiver, RecvError, Sender,
-    receive_all,
+    AllError, Alone, Answer, Config, Item, ItemTaker, ItemWatch, NoWatch, Raw, Receiver, RecvError,
+    Sender, receive_all,
 };
 
 // The sync marker, and the codeblock of the frame 7B: the coefficients of the generator of the code that corrects 16
@@ -170,6 +170,19 @@ impl Digest {
         }
     }
 
+    fn take(&mut self, item: &Item<'_>) {
+        self.count = self.count.wrapping_add(1);
+        self.add(item.place);
+        match item.answers.first() {
+            Some(Answer::Fixed(wrong)) => self.add(u64::from(*wrong)),
+            _ => self.add(99),
+        }
+        match item.frame.first() {
+            Some(octet) => self.add(u64::from(*octet)),
+            None => self.add(999),
+        }
+    }
+
     fn add(&mut self, value: u64) {
         self.number = self.number.wrapping_mul(31).wrapping_add(value);
     }
@@ -189,22 +202,25 @@ impl ItemTaker for Digest {
     ghost broke_phase = { λ before skip cost now. ⊥ };
 
     fn item(&mut self, item: &Item<'_>) -> Result<(), Failed> {
-        self.count = self.count.wrapping_add(1);
-        self.add(item.place);
-        match item.answers.first() {
-            Some(Answer::Fixed(wrong)) => self.add(u64::from(*wrong)),
-            _ => self.add(99),
-        }
-        match item.frame.first() {
-            Some(octet) => self.add(u64::from(*octet)),
-            None => self.add(999),
-        }
+        self.take(item);
         Ok(())
     }
 
     fn phase(&mut self, _skip: u8, _cost: u64) -> Result<(), Failed> {
         Ok(())
     }
+}
+
+impl ItemWatch for Digest {
+    ghost took = { λ before item now. Unit {0} };
+
+    ghost took_phase = { λ before skip cost now. Unit {0} };
+
+    fn item(&mut self, item: &Item<'_>) {
+        self.take(item);
+    }
+
+    fn phase(&mut self, _skip: u8, _cost: u64) {}
 }
 
 // 40 units, more than a batch has, of which number k has the remainder of k by 18 wrong check symbols, so that some are
@@ -235,11 +251,18 @@ fn receive_by_workers(
 }
 
 fn feed_alone(receiver: &mut Receiver, octets: &[u8], taken: &mut Digest) -> Result<(), RecvError> {
-    receiver.receive(&Alone, octets, &mut NoWatch, taken)
+    if receiver.receive(&Alone, octets, &mut NoWatch, taken) {
+        Ok(())
+    } else {
+        Err(RecvError::Stopped)
+    }
 }
 
 fn finish_alone(receiver: &mut Receiver, taken: &mut Digest) -> Result<u64, RecvError> {
-    Ok(receiver.end(&Alone, &mut NoWatch, taken)?.bits)
+    match receiver.end(&Alone, &mut NoWatch, taken) {
+        Some(totals) => Ok(totals.bits),
+        None => Err(RecvError::Stopped),
+    }
 }
 
 // Takes octets that are given in pieces, and that the caller alone decodes.

@@ -12,7 +12,7 @@ use Rattle.tm_buffers.specs.declared.items.BufferItems.{BufferItems}
 use Rattle.tm_inner.proofs.DecodedWindows.{told-rest}
 use Rattle.tm_buffers.proofs.ItemsWithPhase.{All, enough, handled, has-written}
 use Rattle.tm_buffers.proofs.buffer_receiver.BufferReceiver.take_last.Goals as goal
-use Rattle.tm_buffers.proofs.buffer_receiver.BufferReceiver.take_last.Goals.{in-Ok, in-Err}
+use Rattle.tm_buffers.proofs.buffer_receiver.BufferReceiver.take_last.Goals.{in-Some, in-None}
 
 pub returns-clause-received : goal.returns-clause-received
 returns-clause-received g c = λ given done is.
@@ -21,19 +21,19 @@ returns-clause-received g c = λ given done is.
     let going : was.has_stopped ≡ false = subst (λ (r : OctetReceiving). r.has_stopped ≡ false)
     (sym c.self.view_is) is.going in
     elim c.match-ended.branch [
-      | in-Ok w ↦
-          let h = w.in-Ok.ensures.finishes.handed in
+      | in-Some w ↦
+          let h = w.in-Some.ensures.tells.handed in
           let there = h.2 given done stood in
-          let taker = c.end-ended.new.taker in
+          let taker = c.end-ended.new.items in
           let took = handled (λ (b : BufferItems). b.frames.ghost_name)
           (λ b. b.reports.ghost_name) collected _ taker h.0 h.1 in
           let frames_loan : taker.frames.ghost_name ≡ _ = took.frames_loan in
           let reports_loan : taker.reports.ghost_name ≡ _ = took.reports_loan in
-          let all = subst (λ (r : OctetReceiving). AreReceived r.config given (done ++ h.0) w.in-Ok.received)
+          let all = subst (λ (r : OctetReceiving). AreReceived r.config given (done ++ h.0) w.in-Some.received)
           c.self.view_is there in
           let chosen = subst (λ (r : OctetReceiving). IsChosen r.config given
           c.end-ended.new.self.stages.inner.chosen) c.self.view_is
-          (w.in-Ok.ensures.finishes.chosen given done stood going) in
+          (w.in-Some.ensures.tells.chosen given done stood going) in
           let all_new = subst (λ (a : Collected). All a (collected taker) (items_of h.0)) c.over-taker.ensures.none
           took.all in
           let written = has-written c.args.frames.now c.args.reports.now taker (items_of h.0) all_new in
@@ -50,7 +50,7 @@ returns-clause-received g c = λ given done is.
                 (search rules);
             chosen = chosen;
           }
-      | in-Err w ↦ absurd (search rules)
+      | in-None w ↦ absurd (search rules)
     ]
 
 pub returns-clause-watched : goal.returns-clause-watched
@@ -62,8 +62,8 @@ returns-clause-watched g c = λ given done is.
     (sym c.self.view_is) is.going in
     let d = was.stages.inner in
     elim c.match-ended.branch [
-      | in-Ok w ↦
-          let h = w.in-Ok.ensures.watched in
+      | in-Some w ↦
+          let h = w.in-Some.ensures.watched in
           let config = subst (λ (r : OctetReceiving). d.config ≡ r.config) c.self.view_is r.ensures.of.0 in (
             h.0,
             h.1,
@@ -73,5 +73,5 @@ returns-clause-watched g c = λ given done is.
                 (λ before told. subst (λ (k : Configuration). AreWindows k given (before ++ h.0)) (sym r.ensures.of.0)
                 (h.2 given before told))),
           )
-      | in-Err w ↦ absurd (search rules)
+      | in-None w ↦ absurd (search rules)
     ]

@@ -3,10 +3,10 @@ use Rattle.std.proofs.lemmas.List.{length-take-le, take_more_set}
 use Rattle.tm_channel.specs.Items.{ItemValue}
 use Rattle.tm_buffers.specs.Reports.{IsReport}
 use Rattle.tm_buffers.proofs.Behind.{behind-set, behind-written, start-written}
-use Rattle.tm_buffers.proofs.items.BufferItemsItemTaker.item.Goals as goal
+use Rattle.tm_buffers.proofs.items.BufferItemsItemWatch.item.Goals as goal
 
-pub returns-clause-ok : goal.returns-clause-ok
-returns-clause-ok c =
+pub returns : goal.returns
+returns c =
     let b = c.args.self.now in
     let report = c.report_of.result in
     let frame = c.item.inside.frame.now in
