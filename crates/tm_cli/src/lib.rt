@@ -26,6 +26,6 @@ pub use generated::generate_unit;
 pub use report_lines::{frame_line, frames_line};
 pub use takers::{Decoding, Report};
 pub use tm_driver::phase_line;
-pub use tm_path_commands::{Tally, Trace, block_line, blocks_line, end_trace};
+pub use tm_path_commands::{Tally, block_line, blocks_line};
 pub use tm_words::{HexText, Job, JobKind, WordsError, read_words};
 pub use top::run;

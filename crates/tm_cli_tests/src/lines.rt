@@ -5,10 +5,10 @@ use std::test::Fail;
 use tm_base::{Failed, MemSink};
 use tm_channel::{Answer, Item, ItemTaker, Totals};
 use tm_cli::{
-    Counts, Decoding, Report, Tally, Trace, block_line, blocks_line, end_report, end_trace,
-    frame_line, frames_line, phase_line,
+    Counts, Decoding, Report, Tally, block_line, blocks_line, end_report, frame_line, frames_line,
+    phase_line,
 };
-use tm_viterbi::{Block, BlockTaker};
+use tm_viterbi::Block;
 
 const MOST: u64 = 18_446_744_073_709_551_615;
 
@@ -237,13 +237,9 @@ fn writes_where_octets_were_dropped(rt: HostRuntime) -> Result<(), Fail> {
     let mut block = block_of(8448, 8192, 127);
     block.dropped = 7;
     assert!(rt; block_line(&mut out, after(1, 8192), &block) == Ok(()));
-    let mut trace = Trace {
-        lines: &mut out,
-        tally: after(0, 0),
-    };
-    assert!(rt; trace.block(&block_of(300, 64, 0)) == Ok(()));
+    assert!(rt; block_line(&mut out, after(0, 0), &block_of(300, 64, 0)) == Ok(()));
     block.dropped = 1;
-    assert!(rt; trace.block(&block) == Ok(()));
+    assert!(rt; block_line(&mut out, after(1, 64), &block) == Ok(()));
     let counts = Counts {
         good: 1,
         bad: 0,
@@ -326,30 +322,6 @@ fn reports_after_the_phase(rt: HostRuntime) -> Result<(), Fail> {
     assert!(rt; end_report(&mut out, counts, plain(296)) == Ok(true));
     let text = "phase 1 cost 0\nframe 0 at 0 marker 0 words 0\nframes 1 bad 0 fixed 0 bits 296\n";
     assert!(rt; out.octets() == text.as_bytes());
-    Ok(())
-}
-
-#[test]
-fn traces_after_the_phase(rt: HostRuntime) -> Result<(), Fail> {
-    let mut out = sink(&rt, rt.alloc(), 1024);
-    let mut trace = Trace {
-        lines: &mut out,
-        tally: after(0, 0),
-    };
-    assert!(rt; trace.phase(0, 5) == Ok(()));
-    assert!(rt; trace.block(&block_of(8448, 8192, 0)) == Ok(()));
-    assert!(rt; trace.block(&block_of(257, 257, 9)) == Ok(()));
-    let tally = trace.tally;
-    assert!(rt; tally == after(2, 8449));
-    assert!(rt; end_trace(&mut out, tally, 8449, 0) == Ok(()));
-    let text = "phase 0 cost 5\n\
-        block 0 steps 8448 kept 8192 metric 0\n\
-        block 1 steps 257 kept 257 metric 9\n\
-        blocks 2 bits 8449 leftover 0\n";
-    assert!(rt; out.octets() == text.as_bytes());
-    let mut empty = sink(&rt, rt.alloc(), 1024);
-    assert!(rt; end_trace(&mut empty, after(0, 0), 0, 1) == Ok(()));
-    assert!(rt; empty.octets() == "blocks 0 bits 0 leftover 1\n".as_bytes());
     Ok(())
 }
 

@@ -25,7 +25,7 @@ use Rattle.tm_driver.proofs.Driven.{EndsDone, Shows, WroteInOrder, done-driven}
 use Rattle.tm_driver.proofs.SinkTexts.{prefix-of, wrote-prefix, wrote-nothing, wrote-then, wrote-then_prefix}
 use Rattle.tm_path_commands.specs.Bits.{CutsWriting, EndsWriting, FailsWriting, Gathers, GathersLast, IsEmptied, Packing, PhaseWaits, Writes, WritesAll, WritesAllPart, WritesMore, WritesPart, WrotePart, WroteWaiting, AreBitsInOrder, IsBits, bits_meaning, bits_of_handed, end_line, fill, filled_octets, line_of, open_bits, phase_line}
 use Rattle.tm_path_commands.specs.Lines.{bits_end_text}
-use Rattle.tm_path_commands.proofs.TraceEndings.{stands-new}
+use Rattle.tm_path_commands.proofs.FewHanded.{stands-new}
 use Rattle.tm_path_commands.proofs.BitsGathered.{bits-unsettled, line-append, line-with_phase}
 use Rattle.tm_path_commands.proofs.PackedBits.{few-open, octets-more, octets-none, split-open}
 

@@ -26,7 +26,7 @@ use Rattle.tm_inner.proofs.PhasePieces.{items_of-with_phase}
 use Rattle.tm_inner.proofs.PlainBits.{bits-nil, plain-few}
 use Rattle.tm_path_commands.specs.Bits.{Adds, AddsPhase, AddsWindow, Gathers, GathersLast, HandsWindows, Holds, IsWritten, Packing, PhaseWaits, bits_of_handed, fill, line_of, phase_line}
 use Rattle.tm_path_commands.specs.Tracing.{StandsAt}
-use Rattle.tm_path_commands.proofs.TraceEndings.{few-due, few-handed}
+use Rattle.tm_path_commands.proofs.FewHanded.{few-due, few-handed}
 
 -- ---- what windows and a phase do to what waits
 

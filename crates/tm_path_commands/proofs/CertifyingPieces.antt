@@ -35,7 +35,7 @@ use Rattle.tm_path_commands.specs.Certifying.{Certifies, CertifyFails, GavePiece
 use Rattle.tm_path_commands.proofs.CertifierTook.{WroteHanded, WroteHandedPrefix, wrote-none, prefix-none}
 use Rattle.tm_path_commands.proofs.CertifyingPlace.{Longer, Stood, StoodWaiting, StoodGoing, WritesClosed, WritesClosedPrefix, closed-longer, closed-one, from-stood, prefix-to, soft-skipped, with_more, wrote-to}
 use Rattle.tm_conv.proofs.Sizes.{steps_size-most}
-use Rattle.tm_path_commands.proofs.TraceEndings.{stands-new}
+use Rattle.tm_path_commands.proofs.FewHanded.{stands-new}
 
 -- ---- with an inner code, and with none
 

@@ -1,6 +1,8 @@
 pub mod TraceLines
 pub mod CertifierTook
 pub mod CertifyingPlace
+pub mod FewHanded
+pub mod TraceStage
 pub mod TraceEndings
 pub mod CheckedWindows
 pub mod CheckEndings

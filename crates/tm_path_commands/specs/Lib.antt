@@ -3,7 +3,6 @@ pub mod Trace
 pub mod Certify
 pub mod Check
 pub mod Shown
-pub mod Taken
 pub mod Tracing
 pub mod Certifying
 pub mod Checking

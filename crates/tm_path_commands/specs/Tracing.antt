@@ -1,75 +1,82 @@
--- What tracing has written of the octets that were read.
-use Rattle.std.specs.Prelude.{◌≡◌, ℕ, List, length}
-use Rattle.tm_base.specs.Handed.{Handed, items_of}
-use Rattle.tm_base.specs.Written.{WrotePrefix}
+-- What tracing gives of the octets that were read.
+use Rattle.std.specs.Prelude.{◌≡◌, ℕ, List, [], ◌∷◌, ◌++◌, length}
+use Rattle.tm_base.specs.Count.{raised_by}
+use Rattle.tm_base.specs.Handed.{Handed, Phase, Item, items_of, on_handed}
 use Rattle.tm_config.specs.Accepted.{IsAccepted}
 use Rattle.tm_config.specs.Configuration.{Configuration}
-use Rattle.tm_driver.specs.Courses.{SinkState}
-use Rattle.tm_driver.specs.Texts.{TookText}
+use Rattle.tm_driver.specs.Lines.{phase_text}
+use Rattle.tm_driver.specs.Writing.{Text, Out}
 use Rattle.tm_viterbi.specs.WindowBlock.{WindowBlock}
+use Rattle.tm_inner.specs.Handing.{AreHanded, AreHandedDue}
 use Rattle.tm_inner.specs.Inner.{inner_bits}
-use Rattle.tm_inner.specs.Handing.{AreHanded, AreHandedDue, AreHandedFirst}
-use Rattle.tm_inner.specs.Receiving.{InnerReceiving, InnerReceiverStandsFor}
+use Rattle.tm_inner.specs.InnerDecoding.{InnerDecoding}
+use Rattle.tm_inner.specs.Receiving.{HasHanded, InnerReceiving, InnerReceiverStandsFor}
 use Rattle.tm_path_commands.specs.declared.tally.Tally.{Tally}
-use Rattle.tm_path_commands.specs.Lines.{no_blocks}
-use Rattle.tm_path_commands.specs.Trace.{trace_text}
-use Rattle.tm_path_commands.specs.Taken.{TracedAll, TraceBroke}
+use Rattle.tm_path_commands.specs.Lines.{block_text, no_blocks, trace_end_text}
+
+-- the windows and the bits once this one was reported, too, each up to 2^64-1
+abbrev pub counted_after : Tally → WindowBlock → Tally
+counted_after was block =
+    record { blocks = raised_by 1 was.blocks; bits = raised_by block.kept was.bits }
+
+-- a tally, and what takes texts
+pub record TracingTo (T : Type 0) : Type 0 where
+  pub tally : Tally
+  pub texts : T
+
+abbrev pub tracing : {T : Type 0} → Tally → T → TracingTo T
+tracing tally texts = record { tally = tally; texts = texts }
+
+-- the line of the phase was given, or that of a window, which was counted
+abbrev pub traced_phase : {T : Type 0} → (T → Text → T → Type 0) → TracingTo T
+    → (skip cost : ℕ) → TracingTo T → Type 0
+traced_phase took a skip cost b =
+    took a.texts (Out (phase_text skip cost)) b.texts × (b.tally ≡ a.tally)
+
+abbrev pub traced : {T : Type 0} → (T → Text → T → Type 0) → TracingTo T → WindowBlock
+    → TracingTo T → Type 0
+traced took a block b = took a.texts (Out (block_text a.tally block)) b.texts
+    × (b.tally ≡ counted_after a.tally block)
+
+abbrev pub traced_handed : {T : Type 0} → (T → Text → T → Type 0) → TracingTo T
+    → Handed WindowBlock → TracingTo T → Type 0
+traced_handed took = on_handed (traced_phase took) (traced took)
+
+-- all lines, after the windows and bits that `was` counts, and what is counted then
+abbrev pub lines_by : Tally → List (Handed WindowBlock) → List Text
+lines_by was [] = []
+lines_by was (Phase skip cost ∷ handed) = Out (phase_text skip cost) ∷ lines_by was handed
+lines_by was (Item block ∷ handed) =
+    Out (block_text was block) ∷ lines_by (counted_after was block) handed
+
+abbrev pub counted_by : Tally → List (Handed WindowBlock) → Tally
+counted_by was [] = was
+counted_by was (Phase skip cost ∷ handed) = counted_by was handed
+counted_by was (Item block ∷ handed) = counted_by (counted_after was block) handed
+
+-- the decoder of a configuration was given these octets, and the lines of what is due for them were
+-- given
+pub record Traces (c : Configuration) (decoder : InnerDecoding) (tally : Tally) (octets : List ℕ)
+    (texts : List Text) : Type 0 where
+  pub accepted : IsAccepted c
+  pub config : decoder.config ≡ c
+  pub handed : List (Handed WindowBlock)
+  pub stands : HasHanded decoder octets handed
+  pub counted : tally ≡ counted_by no_blocks handed
+  pub lines : texts ≡ lines_by no_blocks handed
+
+-- the lines of all windows of these octets were given, and the end of the trace
+pub record TracesAll (c : Configuration) (octets : List ℕ) (texts : List Text) : Type 0 where
+  pub accepted : IsAccepted c
+  pub handed : List (Handed WindowBlock)
+  pub left : ℕ
+  pub are_handed : AreHanded c octets handed left
+  pub lines : texts ≡ lines_by no_blocks handed ++ Out (trace_end_text
+      (counted_by no_blocks handed).blocks
+      (length (inner_bits c octets (items_of handed))) left) ∷ []
 
 -- an inner receiver that was given these octets and no others, and has handed over what is due of
 -- them
 abbrev pub StandsAt : InnerReceiving → List ℕ → List (Handed WindowBlock) → Type 0
 StandsAt receiver octets handed = InnerReceiverStandsFor receiver octets handed
     × AreHandedDue receiver.config octets handed
-
--- the receiver was given these octets, and the sink took the lines of what is due for them, with so
--- many windows and bits
-pub record Traces (c : Configuration) (receiver : InnerReceiving) (tally : Tally)
-    (before now : SinkState) (octets : List ℕ) : Type 0 where
-  pub handed : List (Handed WindowBlock)
-  pub config : receiver.config ≡ c
-  pub stands : StandsAt receiver octets handed
-  pub lines : TracedAll before now no_blocks tally handed
-
--- the sink failed in one of the first lines of these octets
-pub record TraceFails (c : Configuration) (before now : SinkState) (is_last : Type 0)
-    (octets : List ℕ) : Type 0 where
-  pub handed : List (Handed WindowBlock)
-  pub are_first : AreHandedFirst c octets handed
-  pub broke : TraceBroke before now is_last handed
-
--- The sink took the lines of all that is handed over of these octets; `tally` counts the windows.
--- The octets come to `bits` bits, and `left` octets are left over.
-pub record TracedWhole (c : Configuration) (tally : Tally) (bits left : ℕ) (before now : SinkState)
-    (octets : List ℕ) : Type 0 where
-  pub handed : List (Handed WindowBlock)
-  pub are_handed : AreHanded c octets handed left
-  pub are_bits : bits ≡ length (inner_bits c octets (items_of handed))
-  pub lines : TracedAll before now no_blocks tally handed
-
--- the sink took the trace of these octets
-pub record WroteTrace (c : Configuration) (before now : SinkState) (octets : List ℕ) : Type 0 where
-  pub handed : List (Handed WindowBlock)
-  pub left : ℕ
-  pub are_handed : AreHanded c octets handed left
-  pub written : TookText before now (trace_text handed
-      (length (inner_bits c octets (items_of handed))) left)
-
--- the sink took a prefix of it
-pub record WroteTracePrefix (c : Configuration) (before now : SinkState)
-    (octets : List ℕ) : Type 0 where
-  pub handed : List (Handed WindowBlock)
-  pub left : ℕ
-  pub are_handed : AreHanded c octets handed left
-  pub written : WrotePrefix before.taken now.taken
-      (trace_text handed (length (inner_bits c octets (items_of handed))) left)
-
--- what was begun is traced to its end, or the sink fails in it
-abbrev pub EndsTrace : InnerReceiving → (tally : Tally) → (lines lines_now : SinkState) → Type 0
-EndsTrace receiver tally lines lines_now =
-    (c : Configuration) (start : SinkState) (octets : List ℕ) → IsAccepted c
-    → Traces c receiver tally start lines octets → WroteTrace c start lines_now octets
-
-abbrev pub CutsTrace : InnerReceiving → (tally : Tally) → (lines lines_now : SinkState) → Type 0
-CutsTrace receiver tally lines lines_now =
-    (c : Configuration) (start : SinkState) (octets : List ℕ) → IsAccepted c
-    → Traces c receiver tally start lines octets → WroteTracePrefix c start lines_now octets

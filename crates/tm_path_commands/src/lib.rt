@@ -9,7 +9,6 @@ mod certify_command;
 mod check_command;
 mod tally;
 mod trace_command;
-mod trace_lines;
 mod window_lines;
 
 pub use bits_command::bits;
@@ -18,5 +17,4 @@ pub use certify_command::certify;
 pub use check_command::check;
 pub use tally::Tally;
 pub use trace_command::trace;
-pub use trace_lines::{Trace, end_trace};
 pub use window_lines::{block_line, blocks_line};

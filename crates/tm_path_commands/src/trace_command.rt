@@ -1,138 +1,151 @@
 // The command `trace`: the symbol phase, where it is to be found, and the windows of the soft decoder, a line each.
-ghost use Rattle.std.specs.Prelude.{◌≡◌, false, true, OnOk, OnErr, IfOk};
-ghost use Rattle.tm_base.specs.Outside.{HasCause};
+ghost use Rattle.std.specs.Prelude.{◌≡◌, ℕ, ◌+◌, ◌<◌, ◌≤◌, ◌++◌, List, None, true, false, [], length, slice_index_or, OnErr, IfOk};
+ghost use Rattle.tm_base.specs.Handed.{Handed};
+ghost use Rattle.tm_base.specs.Takers.{HandedOver};
 ghost use Rattle.tm_driver.specs.Answered.{AnsweredAlone};
-ghost use Rattle.tm_driver.specs.Courses.{sink_call, sink_state, source_call};
+ghost use Rattle.tm_driver.specs.Courses.{sink_call, source_call};
+ghost use Rattle.tm_viterbi.specs.WindowBlock.{WindowBlock};
+ghost use Rattle.tm_viterbi.specs.WindowSizes.{stream_bound};
+ghost use Rattle.tm_inner.specs.Handing.{IsKept};
+ghost use Rattle.tm_inner.specs.InnerDecoding.{IsDrained, IsSameDecoder, IsSettledQueue, has_phase_now, held_in, ready_in, unread};
+ghost use Rattle.tm_inner.specs.Phase.{with_phase};
+ghost use Rattle.tm_inner.specs.Receiving.{Hands, HasRead};
 ghost use Rattle.tm_path_commands.specs.Trace.{trace_meaning};
-ghost use Rattle.tm_path_commands.specs.Tracing.{CutsTrace, EndsTrace};
+ghost use Rattle.tm_path_commands.specs.Tracing.{traced, traced_handed, tracing};
+ghost use Rattle.tm_path_commands.specs.declared.tally.Tally.{Tally};
 
 use crate::tally::Tally;
-use crate::trace_lines::{Trace, end_trace};
+use crate::window_lines::{block_text, trace_end_text};
 use std::alloc::Global;
-use tm_base::{Failed, NoMemory, Sink, Source};
+use tm_base::{NoMemory, Sink, Source, SureSink};
 use tm_config::Config;
-use tm_driver::{Ending, Feed, Outcome, Stop, drive};
-use tm_inner::InnerReceiver;
-use tm_windows::{
-    closed_prefix_law, due_windows_law, one_windows_law, phase_law, whole_window_law,
-};
+use tm_driver::{Ending, Outcome, Stage, TextTaker, drive_stage, phase_text};
+use tm_inner::{InnerDecoder, handed_law};
+use tm_windows::Alone;
 
-// An inner receiver, and what takes its phase and windows.
-struct Tracing<'a, 'b, O> {
-    receiver: &'a mut InnerReceiver,
-    trace: Trace<'b, O>,
+// A decoder whose phase and windows are reported, and the windows and bits that were.
+#[derive(Drop)]
+struct Tracing {
+    inner: InnerDecoder,
+    tally: Tally,
 }
 
-impl<'a, 'b, O: Sink> Feed for Tracing<'a, 'b, O> {
-    ghost use Rattle.std.specs.Prelude.{◌≡◌, false, refl, []};
-    ghost use Rattle.std.proofs.Common.{◌∙◌};
-    ghost use Rattle.tm_config.specs.Configuration.{Configuration};
-    ghost use Rattle.tm_driver.specs.Courses.{SinkWent, sink_call, sink_state};
-    ghost use Rattle.tm_driver.specs.Texts.{BrokeText};
+impl Stage for Tracing {
+    ghost use Rattle.std.specs.Prelude.{◌≡◌, false};
     ghost use Rattle.tm_driver.specs.declared.ending.Outcome.TheVariants.{Done};
-    ghost use Rattle.tm_driver.specs.declared.ending.Stop.TheVariants.{SinkFault};
-    ghost use Rattle.tm_driver.proofs.TwoSinks.{sink-after};
-    ghost use Rattle.tm_inner.specs.Handing.{AreHandedFirst};
-    ghost use Rattle.tm_inner.specs.Receiving.{Hands, HandsPrefix};
-    ghost use Rattle.tm_inner.proofs.GivenPieces.{hands-none, hands-more, hands-prefix};
-    ghost use Rattle.tm_path_commands.specs.Taken.{TracedHanded, handed_block_text};
-    ghost use Rattle.tm_path_commands.specs.Tracing.{CutsTrace, EndsTrace, StandsAt};
+    ghost use Rattle.tm_path_commands.specs.Tracing.{Traces, TracesAll};
 
-    ghost fed = { λ a b octets. (b.receiver.now.config ≡ a.receiver.now.config)
-        × Hands (λ x handed y. (y.lines.ghost_name ≡ x.lines.ghost_name)
-        × TracedHanded (sink_state (O.taken x.lines.now) (O.faults x.lines.now))
-        (sink_state (O.taken y.lines.now) (O.faults y.lines.now)) x.tally y.tally handed)
-        StandsAt a.receiver.now b.receiver.now a.trace b.trace octets };
+    ghost stands = { λ s t octets texts. Traces s.inner.config t.inner t.tally octets texts };
 
-    ghost stopped = { λ a b octets stop. (stop ≡ SinkFault) × ((config : Configuration) → a.receiver.now.config ≡ config
-        → HandsPrefix (λ x handed y. (y.lines.ghost_name ≡ x.lines.ghost_name)
-        × TracedHanded (sink_state (O.taken x.lines.now) (O.faults x.lines.now))
-        (sink_state (O.taken y.lines.now) (O.faults y.lines.now)) x.tally y.tally handed)
-        (λ x handed y. (y.lines.ghost_name ≡ x.lines.ghost_name)
-        × BrokeText (sink_state (O.taken x.lines.now) (O.faults x.lines.now))
-        (sink_state (O.taken y.lines.now) (O.faults y.lines.now)) (O.is_last y.lines.now)
-        [] (handed_block_text x.tally handed))
-        StandsAt (AreHandedFirst config) a.receiver.now a.trace b.trace octets) };
+    ghost stopped = { λ s t octets texts. ⊥ };
 
-    ghost finished = { λ a b outcome. (outcome ≡ Done) × EndsTrace a.receiver.now a.trace.tally
-        (sink_state (O.taken a.trace.lines.now) (O.faults a.trace.lines.now))
-        (sink_state (O.taken b.trace.lines.now) (O.faults b.trace.lines.now)) };
+    ghost finished = { λ s t octets texts outcome. (outcome ≡ Done) × TracesAll s.inner.config octets texts };
 
-    ghost failed = { λ a b. CutsTrace a.receiver.now a.trace.tally
-        (sink_state (O.taken a.trace.lines.now) (O.faults a.trace.lines.now))
-        (sink_state (O.taken b.trace.lines.now) (O.faults b.trace.lines.now)) };
+    ghost is_ready = { λ t. t.inner.has_ended ≡ false };
 
-    ghost sinks = { λ a b failed. SinkWent failed (sink_call O.taken O.faults O.is_last
-        a.trace.lines.now b.trace.lines.now) };
-
-    ghost same = { λ a b. (b.receiver.ghost_name ≡ a.receiver.ghost_name)
-        × (b.trace.lines.ghost_name ≡ a.trace.lines.ghost_name) };
-
-    ghost is_ready = { λ e. e.receiver.now.has_stopped ≡ false };
-
-    ghost same_none = { λ a. (refl, refl) };
-
-    ghost same_more = { λ a b c p q. (q.0 ∙ p.0, q.1 ∙ p.1) };
-
-    ghost fed_none = { λ a ready. (refl, hands-none _ StandsAt a.receiver.now a.trace) };
-
-    ghost fed_more = { λ a b c first second p q. (
-      q.0 ∙ p.0,
-      hands-more _ StandsAt a.receiver.now b.receiver.now c.receiver.now a.trace b.trace c.trace first
-          second p.1 q.1,
-    ) };
-
-    ghost stopped_more = { λ a b c first second stop p q. (
-      q.0,
-      λ config is. hands-prefix _ _ StandsAt (AreHandedFirst config) a.receiver.now b.receiver.now a.trace b.trace
-          c.trace first second p.1 (q.1 config (p.0 ∙ is)),
-    ) };
-
-    ghost sinks_none = { λ a. refl };
-
-    ghost sinks_more = { λ a b c failed p q. sink-after failed _ _ _
-        (O.is_last b.trace.lines.now) (O.is_last c.trace.lines.now) p q };
-
-    fn feed(&mut self, piece: &[u8]) -> Result<(), Stop> {
-        match self.receiver.feed(piece, &mut self.trace) {
-            Ok(()) => Ok(()),
-            Err(_) => Err(Stop::SinkFault),
-        }
+    fn feed<W: TextTaker>(&mut self, piece: &[u8], texts: &mut W) -> bool {
+        trace_octets(&mut self.inner, &mut self.tally, piece, texts);
+        true
     }
 
-    fn finish(&mut self) -> Result<Outcome, Failed> {
-        match trace_end(self.receiver, &mut self.trace) {
-            Ok(()) => Ok(Outcome::Done),
-            Err(Failed) => Err(Failed),
-        }
+    fn finish<W: TextTaker>(&mut self, texts: &mut W) -> Outcome {
+        self.inner.settle();
+        trace_octets(&mut self.inner, &mut self.tally, &[], texts);
+        let end = self.inner.last();
+        trace_ready(&self.inner, &mut self.tally, texts);
+        texts.out(trace_end_text(self.tally.blocks, end.bits, end.leftover).octets());
+        Outcome::Done
     }
 }
 
-// Traces what is left at the end, and writes the end of the trace.
-fn trace_end<O: Sink>(receiver: &mut InnerReceiver, trace: &mut Trace<'_, O>) -> Result<(), Failed>
-    requires { receiver.old.has_stopped ≡ false }
-    ensures whole { OnOk result (EndsTrace receiver.old trace.old.tally
-        (sink_state (O.taken trace.old.lines.now) (O.faults trace.old.lines.now))
-        (sink_state (O.taken trace.new.lines.now) (O.faults trace.new.lines.now))) }
-    ensures prefix { OnErr result (CutsTrace receiver.old trace.old.tally
-        (sink_state (O.taken trace.old.lines.now) (O.faults trace.old.lines.now))
-        (sink_state (O.taken trace.new.lines.now) (O.faults trace.new.lines.now))) }
-    ensures cause { HasCause (O.faults trace.old.lines.now) (O.faults trace.new.lines.now)
-        (O.is_last trace.new.lines.now) result }
-    ensures same { trace.new.lines.ghost_name ≡ trace.old.lines.ghost_name }
+// Puts octets in, and gives the lines of the phase, once it is chosen, and of the windows that are closed.
+fn trace_octets<W: TextTaker>(
+    inner: &mut InnerDecoder,
+    tally: &mut Tally,
+    octets: &[u8],
+    texts: &mut W,
+)
+    requires { 0 < length octets.now → inner.old.has_ended ≡ false }
+    ensures config { inner.new.config ≡ inner.old.config }
+    ensures ended { inner.new.has_ended ≡ inner.old.has_ended }
+    ensures still { length octets.now ≡ 0 → IsSettledQueue inner.old.queue → IsSettledQueue inner.new.queue }
+    ensures drained { IsDrained inner.new.queue × (unread inner.new ≡ None) }
+    ensures read { Hands (traced_handed W.took) HasRead inner.old inner.new (tracing tally.old texts.old)
+        (tracing tally.new texts.new) octets.now }
+    ensures chosen { (given : List ℕ) (done : List (Handed WindowBlock))
+        → length given + length octets.now < stream_bound → HasRead inner.old given done
+        → IsKept inner.new (given ++ octets.now) }
 {
-    one_windows_law();
-    due_windows_law();
-    match receiver.finish(trace) {
-        Ok(end) => end_trace(trace.lines, trace.tally, end.bits, end.leftover),
-        Err(_) => Err(Failed),
+    let mut done = 0;
+    'runs: loop {
+        let count = trace_run(inner, tally, texts);
+        if count > 0 {
+            continue;
+        }
+        if done == octets.len() {
+            return;
+        }
+        done += inner.fill(&octets[done..]);
     }
+}
+
+// Decodes the next run of windows, and gives their lines, after that of the phase, where it was chosen since. Returns
+// how many windows.
+fn trace_run<W: TextTaker>(inner: &mut InnerDecoder, tally: &mut Tally, texts: &mut W) -> usize
+    ensures same { IsSameDecoder inner.old inner.new }
+    ensures drained { (result ≡ 0 → IsDrained inner.new.queue) × (unread inner.new ≡ None) }
+    ensures moved { length (held_in inner.new.queue) ≤ length (held_in inner.old.queue) }
+    ensures shorter { 0 < result → length (held_in inner.new.queue) < length (held_in inner.old.queue) }
+    ensures read { Hands (traced_handed W.took) HasRead inner.old inner.new (tracing tally.old texts.old)
+        (tracing tally.new texts.new) [] }
+    ensures chosen { (given : List ℕ) (done : List (Handed WindowBlock)) → HasRead inner.old given done
+        → IsKept inner.new given }
+{
+    let count = inner.decode(&Alone);
+    trace_phase(inner, texts);
+    trace_ready(inner, tally, texts);
+    count
+}
+
+// Gives the line of the phase, where it was chosen since.
+fn trace_phase<W: TextTaker>(inner: &mut InnerDecoder, texts: &mut W)
+    ensures read { inner.new ≡ record inner.old { has_phase = has_phase_now inner.old } }
+    ensures given { (tally : Tally) → HandedOver (traced_handed W.took) (tracing tally texts.old)
+        (with_phase (unread inner.old) []) (tracing tally texts.new) }
+{
+    match inner.new_phase() {
+        Some(chosen) => texts.out(phase_text(chosen.skip, chosen.cost).octets()),
+        None => {}
+    }
+}
+
+// Gives the lines of the windows whose blocks are ready, and counts them.
+fn trace_ready<W: TextTaker>(inner: &InnerDecoder, tally: &mut Tally, texts: &mut W)
+    ensures { HandedOver (traced W.took) (tracing tally.old texts.old) (ready_in inner.now.queue)
+        (tracing tally.new texts.new) }
+{
+    for index in 0..inner.ready() {
+        trace_block(inner, index, tally, texts);
+    }
+}
+
+// Gives the line of a window whose block is ready, and counts it.
+fn trace_block<W: TextTaker>(inner: &InnerDecoder, index: usize, tally: &mut Tally, texts: &mut W)
+    requires { index < length (ready_in inner.now.queue) }
+    ensures { (block : WindowBlock) → traced W.took (tracing tally.old texts.old)
+        (slice_index_or (ready_in inner.now.queue) index block) (tracing tally.new texts.new) }
+{
+    let block = inner.block(index);
+    texts.out(block_text(*tally, &block).octets());
+    *tally = Tally {
+        blocks: tally.blocks.saturating_add(1),
+        bits: tally.bits.saturating_add(u64::from(block.kept)),
+    };
 }
 
 /// Writes a line for the symbol phase of the soft octets of the source, where it is to be found, and one for each
 /// window, before which one more says where octets were dropped, up to the limit in octets, and at the end of the input
-/// the end of the trace. After a fault nothing more is
-/// read or written. It takes all its memory before it reads.
+/// the end of the trace. After a fault nothing more is read or written. It takes all its memory before it reads.
 pub fn trace<S: Source, O: Sink>(
     alloc: Global,
     config: &Config,
@@ -144,25 +157,14 @@ pub fn trace<S: Source, O: Sink>(
         (sink_call O.taken O.faults O.is_last out.old out.new)) }
     ensures memory { OnErr result ((source.new ≡ source.old) × (out.new ≡ out.old)) }
 {
-    one_windows_law();
-    due_windows_law();
-    closed_prefix_law();
-    phase_law();
-    whole_window_law();
-    let Ok(mut receiver) = InnerReceiver::open(alloc, config) else {
+    handed_law();
+    let Ok(inner) = InnerDecoder::open(alloc, config, 1, 0) else {
         return Err(NoMemory);
     };
     let mut tracing = Tracing {
-        receiver: &mut receiver,
-        trace: Trace {
-            lines: out,
-            tally: Tally { blocks: 0, bits: 0 },
-        },
+        inner,
+        tally: Tally { blocks: 0, bits: 0 },
     };
-    let ending = drive(config.limit(), source, &mut tracing);
-    let Tracing {
-        receiver: _,
-        trace: Trace { lines: _, tally: _ },
-    } = tracing;
-    Ok(ending)
+    let mut notes = SureSink::new();
+    Ok(drive_stage(config.limit(), source, &mut tracing, out, &mut notes))
 }

@@ -61,30 +61,43 @@ fn add_slip(line: &mut Line, dropped: u8, bits: u64)
     }
 }
 
-/// Writes a window of the soft decoder, after the windows and bits that `was` counts; and where octets were dropped
-/// before it, a line before it: `slip K at B`, with the octets and the bits. `Failed` comes only where the sink's count
-/// of faults rose.
+/// A window of the soft decoder, after the windows and bits that `was` counts; and where octets were dropped before it,
+/// a line before it: `slip K at B`, with the octets and the bits.
+pub fn block_text(was: Tally, block: &Block<'_>) -> Line
+    ensures { result ≡ block_text was block.now }
+{
+    let mut line = Line::new();
+    add_slip(&mut line, block.dropped, was.bits);
+    add_window(&mut line, was.blocks, block.steps, block.kept, block.metric);
+    line
+}
+
+/// Writes a window of the soft decoder. `Failed` comes only where the sink's count of faults rose.
 pub fn block_line<O: Sink>(out: &mut O, was: Tally, block: &Block<'_>) -> Result<(), Failed>
     ensures ok { OnOk result (Wrote (O.taken out.old) (O.taken out.new) (block_text was block.now)) }
     ensures err { OnErr result (WrotePrefix (O.taken out.old) (O.taken out.new) (block_text was block.now)) }
     ensures cause { HasCause (O.faults out.old) (O.faults out.new) (O.is_last out.new) result }
 {
-    let mut line = Line::new();
-    add_slip(&mut line, block.dropped, was.bits);
-    add_window(&mut line, was.blocks, block.steps, block.kept, block.metric);
-    line.put(out)
+    block_text(was, block).put(out)
 }
 
-/// Writes the end of a trace: `blocks K bits N leftover R`, with the windows, the bits received and the octets after
-/// the last step. `Failed` comes only where the sink's count of faults rose.
+/// The end of a trace: `blocks K bits N leftover R`, with the windows, the bits received and the octets after the last
+/// step.
+pub fn trace_end_text(blocks: u64, bits: u64, leftover: u8) -> Line
+    ensures { result ≡ trace_end_text blocks bits leftover }
+{
+    let mut line = Line::new();
+    add_end(&mut line, blocks, bits, leftover);
+    line
+}
+
+/// Writes the end of a trace. `Failed` comes only where the sink's count of faults rose.
 pub fn blocks_line<O: Sink>(out: &mut O, blocks: u64, bits: u64, leftover: u8) -> Result<(), Failed>
     ensures ok { OnOk result (Wrote (O.taken out.old) (O.taken out.new) (trace_end_text blocks bits leftover)) }
     ensures err { OnErr result (WrotePrefix (O.taken out.old) (O.taken out.new) (trace_end_text blocks bits leftover)) }
     ensures cause { HasCause (O.faults out.old) (O.faults out.new) (O.is_last out.new) result }
 {
-    let mut line = Line::new();
-    add_end(&mut line, blocks, bits, leftover);
-    line.put(out)
+    trace_end_text(blocks, bits, leftover).put(out)
 }
 
 // Adds the end of a trace.

@@ -1,30 +1,41 @@
-use Rattle.std.proofs.Common.{rules, ℕ, List, Option, refl}
-use Rattle.tm_driver.specs.Courses.{SinkState, sink_state, source_call}
-use Rattle.tm_driver.specs.Meaning.{Ends, taken_by}
+use Rattle.std.proofs.Common.{[], None, arith, refl, sym, subst}
+use Rattle.tm_config.specs.Accepted.{IsAccepted}
+use Rattle.tm_driver.specs.Courses.{sink_call, sink_state, source_call}
+use Rattle.tm_driver.specs.Meaning.{taken_by}
+use Rattle.tm_driver.specs.Statuses.{is_sink_fault}
 use Rattle.tm_driver.proofs.Answered.{answered-alone}
-use Rattle.tm_path_commands.specs.Trace.{trace_meaning}
-use Rattle.tm_path_commands.specs.declared.trace_lines.Trace.{Trace}
+use Rattle.tm_driver.proofs.TwoSinks.{first-alone}
 use Rattle.tm_path_commands.specs.declared.trace_command.Tracing.{Tracing}
-use Rattle.tm_path_commands.proofs.TraceEndings.{driven-ends}
+use Rattle.tm_path_commands.specs.Trace.{trace_meaning}
+use Rattle.tm_path_commands.proofs.TraceEndings.{trace-ends}
 use Rattle.tm_path_commands.proofs.trace_command.trace.Goals as goal
+
+pub drive_stage-requires : goal.drive_stage-requires
+drive_stage-requires g c = record {
+  ready = c.in-Ok.ensures.going;
+  limit = (let most = c.limit.ensures.accepted.limit in omega (arith, most, c.limit.ensures.value));
+  fresh = record {
+    accepted = subst IsAccepted (sym c.in-Ok.ensures.config) c.limit.ensures.accepted;
+    config = refl;
+    handed = [];
+    stands = c.in-Ok.ensures.stands;
+    counted = refl;
+    lines = refl;
+  };
+}
 
 pub returns-clause-answered : goal.returns-clause-answered
 returns-clause-answered g c =
-    let h = c.drive-ending.ensures.driven in
+    let d = c.drive_stage.ensures.staged in
     let config = c.args.config.now in
-    let now = c.drive-ending.new.feed in
-    let lines : Trace g.row.O.Denot → SinkState = λ t. sink_state (g.O.Sink.taken t.lines.now)
-    (g.O.Sink.faults t.lines.now) in
-    let done : (noted : Option (List ℕ)) → Ends c.drive-ending.result (trace_meaning config) config.limit h.0
-    (taken_by (g.O.Sink.taken c.args.out.now) (g.O.Sink.taken now.trace.lines.now) noted noted) =
-    λ noted. driven-ends c.one_windows_law.ensures.exists c.due_windows_law.ensures.first c.phase_law.ensures.exists
-    c.phase_law.ensures.one c.closed_prefix_law.ensures
-    c.whole_window_law.ensures.prefix (λ (t : Tracing g.row.O.Denot). t.receiver.now) (λ t. t.trace)
-    (λ (t : Trace g.row.O.Denot). t.lines.ghost_name) lines
-    (λ t. g.O.Sink.is_last t.lines.now) (λ t. t.tally) config _ now noted refl c.limit.ensures.accepted
-    c.in-Ok.ensures.config c.in-Ok.ensures.stands
-    c.limit.result c.limit.ensures.value _ _ c.drive-ending.result h.0 h.3 in
+    let by = c.drive_stage.result in
+    let now = c.drive_stage.new.stage in
+    let out = c.drive_stage.new.out in
     let source = source_call g.S.Source.given g.S.Source.left g.S.Source.ended g.S.Source.faults g.S.Source.is_last
-    c.args.source.now c.drive-ending.new.source in
-    answered-alone h.0 _ _ _ _ source _ c.limit.ensures.value h.1 h.2 (search rules) c.drive-ending.ensures.source
-    (search rules)
+    c.args.source.now c.drive_stage.new.source in
+    let sink = sink_call g.O.Sink.taken g.O.Sink.faults g.O.Sink.is_last c.args.out.now out in
+    answered-alone d.0 by (trace_meaning config) config.limit c.limit.result source sink c.limit.ensures.value d.2 d.3
+    (λ noted. trace-ends c.handed_law.ensures (λ (t : Tracing). t.inner) (λ t. t.tally) config c.in-Ok.inner.config
+    c.limit.result c.in-Ok.ensures.config c.limit.ensures.value now by d.0 d.1
+    (taken_by (g.O.Sink.taken c.args.out.now) (g.O.Sink.taken out) None None) noted d.4 d.5)
+    c.drive_stage.ensures.source (first-alone (is_sink_fault by) sink (sink_state None 0) c.drive_stage.ensures.sinks)
