@@ -1,5 +1,5 @@
 -- What was told of windows, run after run and at the end.
-use Rattle.std.proofs.Common.{◌≡◌, inl, inr, ℕ, ◌+◌, ◌<◌, ◌∙◌, ◌++◌, true, false, refl, sym, ap, subst, arith, List, [], length, Option, append_assoc, length-append}
+use Rattle.std.proofs.Common.{◌≡◌, inl, inr, ℕ, ◌+◌, ◌-◌, ◌<◌, ◌∙◌, ◌++◌, true, false, refl, sym, ap, subst, arith, List, [], length, drop, take, Option, append_assoc, take-add}
 use Rattle.std.proofs.lemmas.List.{append-nil}
 use Rattle.tm_base.specs.Handed.{Handed}
 use Rattle.tm_base.specs.Takers.{HandedOver}
@@ -16,6 +16,8 @@ use Rattle.tm_inner.specs.Receiving.{HasHanded, Hands}
 use Rattle.tm_inner.specs.declared.window.Window.{Window}
 use Rattle.tm_inner.proofs.DecoderReads.{Stays, after_read}
 use Rattle.tm_inner.proofs.Decoders.{settled-chosen, stands-due}
+use Rattle.tm_inner.proofs.GivenPieces.{hands-more}
+use Rattle.tm_inner.proofs.ReadOctets.{Filled, fills-piece}
 use Rattle.tm_inner.proofs.ToldWindows.{told-as, told-filled, told-read, told-run}
 use Rattle.tm_inner.proofs.WatchedWindows.{windows-append}
 
@@ -37,19 +39,23 @@ told-next_run took d next watch watch_now config stays stands windows told = rec
       (told-read next given (done ++ windows_in next) (told-run d next config stays stands windows given done is));
 }
 
-pub told-piece : {W : Type 0} (took : W → Window → W → Type 0) (d filled now : InnerDecoding) (watch watch_now : W)
-    (piece : List ℕ) → filled.config ≡ d.config → Stays d filled
-    → ((given : List ℕ) (blocks : List WindowBlock) → length given + length piece < stream_bound
-    → InnerDecoderStandsFor d given blocks → InnerDecoderStandsFor filled (given ++ piece) blocks)
-    → Hands took AreTold filled now watch watch_now [] → Hands took AreTold d now watch watch_now piece
-told-piece took d filled now watch watch_now piece config stays stands h = record {
-  more = h.more;
-  handed = h.handed;
-  stands = λ given done few is.
-      subst (λ (l : List ℕ). AreTold now l (done ++ h.more)) (append-nil (given ++ piece))
-      (h.stands (given ++ piece) done (omega (arith, few, length-append given piece))
-      (told-filled d filled piece config stays stands given done few is));
-}
+-- further octets are put in
+pub told-slice : {W : Type 0} (took : W → Window → W → Type 0) (d b filled : InnerDecoding) (start watch : W)
+    (octets : List ℕ) (done count : ℕ) → b.has_ended ≡ false
+    → Filled b filled count (take (length octets - done) (drop done octets))
+    → Hands took AreTold d b start watch (take done octets)
+    → Hands took AreTold d filled start watch (take (done + count) octets)
+told-slice took d b filled start watch octets done count going slice h =
+    let piece = take count (drop done octets) in
+    subst (Hands took AreTold d filled start watch) (sym (take-add done count octets))
+    (hands-more took AreTold d b filled start watch watch (take done octets) piece h (record {
+      more = [];
+      handed = refl;
+      stands = λ given before few told.
+          subst (AreTold filled (given ++ piece)) (sym (append-nil before))
+          (told-filled b filled piece slice.later.config slice.later.stays
+          (fills-piece b filled octets done count going slice) given before few told);
+    }))
 
 -- ---- the end
 

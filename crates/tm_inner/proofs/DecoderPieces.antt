@@ -1,5 +1,5 @@
 -- What is handed over of a decoder of an inner code, run after run and piece after piece.
-use Rattle.std.proofs.Common.{◌≡◌, inl, inr, ℕ, ◌+◌, ◌<◌, ◌^◌, true, false, List, [], ◌∷◌, ◌++◌, length, map, sym, ap, ◌∙◌, subst, arith, append_assoc, length-append, Option, Some, None}
+use Rattle.std.proofs.Common.{◌≡◌, inl, inr, ℕ, ◌+◌, ◌<◌, ◌^◌, true, List, [], ◌∷◌, ◌++◌, length, map, sym, ap, ◌∙◌, subst, arith, append_assoc, Option, Some, None}
 use Rattle.std.proofs.lemmas.List.{append-nil}
 use Rattle.tm_base.specs.Handed.{Handed, Item, items_of, on_handed}
 use Rattle.tm_base.specs.Takers.{HandedOver, HandedPart}
@@ -12,17 +12,17 @@ use Rattle.tm_windows.specs.Windows.{AreFirstIn}
 use Rattle.tm_windows.proofs.FollowedOnce.{followed-prefix}
 use Rattle.tm_windows.proofs.Phases.{IsPhase-prefix}
 use Rattle.tm_inner.specs.Inner.{inner_bits, reported_slips, soft_octets, windows_of}
-use Rattle.tm_inner.specs.InnerDecoding.{InnerDecoding, InnerDecoderStandsFor, IsDrained, IsSameDecoder, unread}
-use Rattle.tm_inner.specs.Phase.{IsChosen, IsChosenSoFar, IsSettled, WithPhase, phase_octets, skip_of, with_phase}
+use Rattle.tm_inner.specs.InnerDecoding.{InnerDecoding, InnerDecoderStandsFor, unread}
+use Rattle.tm_inner.specs.Phase.{IsChosen, IsSettled, WithPhase, phase_octets, skip_of, with_phase}
 use Rattle.tm_inner.specs.Receiving.{AreInnerFirst, FirstAt, HasHanded, HasRead, Hands, HandsPrefix}
-use Rattle.tm_inner.specs.Handing.{AreHanded, AreHandedFirst, AreHandedPrefix, IsKept, IsReadPart}
+use Rattle.tm_inner.specs.Handing.{AreHanded, AreHandedFirst, AreHandedPrefix, IsKept, IsReadPart, ReadsDue}
 use Rattle.tm_inner.proofs.Decoders.{settled-chosen}
 use Rattle.tm_inner.proofs.DecoderCalls.{Ends, Runs, Settles}
 use Rattle.tm_inner.proofs.DecoderReads.{Stays, after_read, all-read, read-all, read-first, read-on, read-run, read_of, some-chosen}
 use Rattle.tm_inner.proofs.DueBits.{soft-more}
-use Rattle.tm_inner.proofs.GivenPieces.{Stay, hands-prefix}
+use Rattle.tm_inner.proofs.GivenPieces.{Stay}
 use Rattle.tm_inner.proofs.PhasePieces.{further, items_of-with_phase}
-use Rattle.tm_inner.proofs.WithPhase.{choice-stays, settled-stays, so_far-stays}
+use Rattle.tm_inner.proofs.WithPhase.{choice-stays, settled-stays}
 
 -- ---- a run of windows
 
@@ -116,100 +116,13 @@ run-prefix_block took_phase broke_phase took broke d now taker middle last ready
     (with_phase (unread now) []) (map Item ready) first
     (HandedPart-items took_phase broke_phase took broke middle last ready h))
 
--- ---- run after run
-
-pub same-both : (a b c : InnerDecoding) → IsSameDecoder a b → IsSameDecoder b c → IsSameDecoder a c
-same-both a b c first second = record {
-  config = second.config ∙ first.config;
-  ended = second.ended ∙ first.ended;
-  settled = λ is. second.settled (first.settled is);
-}
-
--- what was read before, with no octets more
-read-before : {T : Type 0} (took : T → Handed WindowBlock → T → Type 0) (d now : InnerDecoding) (taker middle : T)
-    (h : Hands took HasRead d now taker middle []) (given : List ℕ) (done : List (Handed WindowBlock))
-    → HasRead d given done → HasRead now given (done ++ h.more)
-read-before took d now taker middle h given done r =
-    subst (λ (l : List ℕ). HasRead now l (done ++ h.more)) (append-nil given)
-    (h.stands given done (omega (arith, r.stands.few)) r)
-
-pub runs-kept : {T : Type 0} (took : T → Handed WindowBlock → T → Type 0) (d middle now : InnerDecoding)
-    (taker taker_now : T) → Hands took HasRead d middle taker taker_now []
-    → ((given : List ℕ) (done : List (Handed WindowBlock)) → HasRead middle given done → IsKept now given)
-    → (given : List ℕ) (done : List (Handed WindowBlock)) → HasRead d given done → IsKept now given
-runs-kept took d middle now taker taker_now h kept given done r =
-    kept given (done ++ h.more) (read-before took d middle taker taker_now h given done r)
-
-part-same : (d now : InnerDecoding) (given : List ℕ) (handed : List (Handed WindowBlock)) → IsSameDecoder d now
-    → IsReadPart now given handed → IsReadPart d given handed
-part-same d now given handed same h = record {
-  first =
-      subst (λ (c : Configuration). WithPhase (λ phase. AreInnerFirst c phase given) c given handed) same.config h.first;
-  settled = λ going. subst (λ (c : Configuration). IsSettled c given) same.config (h.settled (same.ended ∙ going));
-}
-
-pub runs-prefix : {T : Type 0} (took broke : T → Handed WindowBlock → T → Type 0) (d middle : InnerDecoding)
-    (taker taker_now last : T) → IsSameDecoder d middle → Hands took HasRead d middle taker taker_now []
-    → HandsPrefix took broke HasRead (IsReadPart middle) middle taker_now last []
-    → HandsPrefix took broke HasRead (IsReadPart d) d taker last []
-runs-prefix took broke d middle taker taker_now last same h q =
-    hands-prefix took broke HasRead (IsReadPart d) d middle taker taker_now last [] [] h (record {
-      tried = q.tried;
-      handed = q.handed;
-      first = λ given done few r. part-same d middle (given ++ []) (done ++ q.tried) same (q.first given done few r);
-    })
-
--- ---- a piece of octets
+-- ---- octets that are put in
 
 -- given more octets a decoder that stood for some stands for these too
 abbrev pub Fills : InnerDecoding → InnerDecoding → List ℕ → Type 0
 Fills d filled piece =
     (given : List ℕ) (blocks : List WindowBlock) → length given + length piece < 2 ^ 60
     → InnerDecoderStandsFor d given blocks → InnerDecoderStandsFor filled (given ++ piece) blocks
-
-filled-read : (d filled : InnerDecoding) (piece : List ℕ) → IsLater d filled → Fills d filled piece
-    → (given : List ℕ) (done : List (Handed WindowBlock)) → length given + length piece < 2 ^ 60
-    → HasHanded d given done → HasRead filled (given ++ piece) done
-filled-read d filled piece later fills given done few h =
-    read-on d filled given (given ++ piece) done later.config later.phase later.stays h.read
-    (fills given h.read.blocks few h.read.stands)
-
--- fewer than 2^60 with none after them
-still-few : (given piece : List ℕ) → length given + length piece < 2 ^ 60 → length (given ++ piece) + 0 < 2 ^ 60
-still-few given piece few = omega (arith, few, length-append given piece)
-
-pub hands-piece : {T : Type 0} (took : T → Handed WindowBlock → T → Type 0) (d filled now : InnerDecoding)
-    (taker last : T) (piece : List ℕ) → IsLater d filled → Fills d filled piece
-    → Hands took HasRead filled now taker last [] → unread now ≡ None → IsDrained now.queue → now.has_ended ≡ false
-    → ((given : List ℕ) (done : List (Handed WindowBlock)) → HasRead filled given done → IsKept now given)
-    → Hands took HasHanded d now taker last piece
-hands-piece took d filled now taker last piece later fills h all drained going kept = record {
-  more = h.more;
-  handed = h.handed;
-  stands = λ given done few stood.
-      let r = filled-read d filled piece later fills given done few stood in record {
-        read = subst (λ (l : List ℕ). HasRead now l (done ++ h.more)) (append-nil (given ++ piece))
-            (h.stands (given ++ piece) done (still-few given piece few) r);
-        all = all;
-        drained = drained;
-        so_far = (kept (given ++ piece) done r).so_far going;
-      };
-}
-
-pub prefix-piece : {T : Type 0} (took broke : T → Handed WindowBlock → T → Type 0) (d filled : InnerDecoding)
-    (taker last : T) (piece : List ℕ) → IsLater d filled → Fills d filled piece → filled.has_ended ≡ false
-    → HandsPrefix took broke HasRead (IsReadPart filled) filled taker last []
-    → HandsPrefix took broke HasHanded (AreHandedFirst d.config) d taker last piece
-prefix-piece took broke d filled taker last piece later fills going h = record {
-  tried = h.tried;
-  handed = h.handed;
-  first = λ given done few stood.
-      let part = subst (λ (l : List ℕ). IsReadPart filled l (done ++ h.tried)) (append-nil (given ++ piece))
-      (h.first (given ++ piece) done (still-few given piece few)
-      (filled-read d filled piece later fills given done few stood)) in
-      subst (λ (c : Configuration). AreHandedFirst c (given ++ piece) (done ++ h.tried)) later.config
-      (part.settled going, part.first);
-}
 
 -- what is first stays so, whatever octets come
 first-more : (rate : Option Rate) (c : Configuration) (phase : ℕ) (octets more : List ℕ) (blocks : List WindowBlock)
@@ -230,24 +143,6 @@ first-stays c octets more handed h = (
     are = h.1.are;
   },
 )
-
--- the phase that is kept where the taker fails within the octets
-pub chosen-longer : (d filled now : InnerDecoding) (piece more : List ℕ) → IsLater d filled → Fills d filled piece
-    → filled.has_ended ≡ false → now.config ≡ filled.config → now.has_ended ≡ false
-    → ((given : List ℕ) (done : List (Handed WindowBlock)) → HasRead filled given done → IsKept now given)
-    → {T : Type 0} (took broke : T → Handed WindowBlock → T → Type 0) (taker last : T)
-    → HandsPrefix took broke HasRead (IsReadPart filled) filled taker last []
-    → (given : List ℕ) (done : List (Handed WindowBlock)) → length given + length piece < 2 ^ 60
-    → HasHanded d given done → IsChosenSoFar d.config ((given ++ piece) ++ more) now.chosen
-chosen-longer d filled now piece more later fills going config still kept took broke taker last h given done few stood =
-    let r = filled-read d filled piece later fills given done few stood in
-    let octets = given ++ piece in
-    let settled = subst (λ (l : List ℕ). IsSettled filled.config l) (append-nil octets)
-    ((h.first octets done (still-few given piece few) r).settled going) in
-    let so_far = subst (λ (c : Configuration). IsChosenSoFar c octets now.chosen) config
-    ((kept octets done r).so_far still) in
-    subst (λ (c : Configuration). IsChosenSoFar c (octets ++ more) now.chosen) later.config
-    (so_far-stays IsPhase-prefix filled.config octets more now.chosen settled so_far)
 
 -- ---- the end
 
@@ -282,21 +177,16 @@ settled-read d ended later stands given done h =
     read-on d ended given given done later.config later.phase later.stays h.read
     (stands given h.read.blocks h.read.stands).0
 
-module _ (d ended now : InnerDecoding) (later : IsLater d ended) (stands : Settles d ended)
-    (same : IsSameDecoder ended now) (has_ended : ended.has_ended ≡ true)
-    (kept : (given : List ℕ) (done : List (Handed WindowBlock)) → HasRead ended given done → IsKept now given) where
-  same-config : now.config ≡ d.config
-  same-config = same.config ∙ later.config
-
-  chosen-now : (given : List ℕ) (done : List (Handed WindowBlock)) → HasHanded d given done
-      → IsChosen now.config given now.chosen
-  chosen-now given done h =
-      (kept given done (settled-read d ended later stands given done h)).at_end (same.ended ∙ has_ended)
-
-  pub ended-chosen : (given : List ℕ) (done : List (Handed WindowBlock)) → HasHanded d given done
-      → IsChosen d.config given now.chosen
-  ended-chosen given done h =
-      subst (λ (c : Configuration). IsChosen c given now.chosen) same-config (chosen-now given done h)
+-- the phase that is kept then
+pub ended-chosen : (d ended now : InnerDecoding) → IsLater d ended → Settles d ended → ended.has_ended ≡ true
+    → now.config ≡ ended.config → now.has_ended ≡ ended.has_ended
+    → ((given : List ℕ) (done : List (Handed WindowBlock)) → length given + 0 < 2 ^ 60 → HasRead ended given done
+    → IsKept now (given ++ []))
+    → (given : List ℕ) (done : List (Handed WindowBlock)) → HasHanded d given done → IsChosen d.config given now.chosen
+ended-chosen d ended now later stands has_ended config same kept given done h =
+    let k = kept given done (omega (arith, h.read.stands.few)) (settled-read d ended later stands given done h) in
+    subst (λ (c : Configuration). IsChosen c given now.chosen) (config ∙ later.config)
+    (subst (λ (l : List ℕ). IsChosen now.config l now.chosen) (append-nil given) (k.at_end (same ∙ has_ended)))
 
 -- the first of all, where the taker fails before the end
 pub ended-prefix : {T : Type 0} (took broke : T → Handed WindowBlock → T → Type 0) (d ended : InnerDecoding)
@@ -318,24 +208,25 @@ ended-prefix took broke d ended taker last later stands h given done stood =
 
 -- all was handed over, the last block after what was due
 pub ended-all : {T : Type 0} (took : T → Handed WindowBlock → T → Type 0) (d ended now : InnerDecoding)
-    → IsLater d ended → Settles d ended → IsSameDecoder ended now → ended.has_ended ≡ true
-    → ((given : List ℕ) (done : List (Handed WindowBlock)) → HasRead ended given done → IsKept now given)
-    → (taker middle : T) (ready : List WindowBlock) (left bits : ℕ) (slips : Option ℕ) (lost : ℕ)
-    (h : Hands took HasRead ended now taker middle []) → unread now ≡ None → Ends now ready left bits slips lost
+    → IsLater d ended → Settles d ended → ended.has_ended ≡ true → (taker middle : T)
+    (r : ReadsDue took ended now taker middle []) (ready : List WindowBlock) (left bits : ℕ) (slips : Option ℕ)
+    (lost : ℕ) → Ends now ready left bits slips lost
     → (given : List ℕ) (done : List (Handed WindowBlock)) → HasHanded d given done
-    → AreHanded d.config given (done ++ (h.more ++ map Item ready)) left
-    × (bits ≡ length (inner_bits d.config given (items_of (done ++ (h.more ++ map Item ready)))))
-    × (slips ≡ reported_slips d.config (items_of (done ++ (h.more ++ map Item ready))))
-ended-all took d ended now later stands same has_ended kept taker middle ready left bits slips lost h all ends given done
-    stood =
+    → AreHanded d.config given (done ++ (r.read.more ++ map Item ready)) left
+    × (bits ≡ length (inner_bits d.config given (items_of (done ++ (r.read.more ++ map Item ready)))))
+    × (slips ≡ reported_slips d.config (items_of (done ++ (r.read.more ++ map Item ready))))
+ended-all took d ended now later stands has_ended taker middle r ready left bits slips lost ends given done stood =
     let Said : Configuration → List (Handed WindowBlock) → Type 0 = λ c handed. AreHanded c given handed left
     × (bits ≡ length (inner_bits c given (items_of handed))) × (slips ≡ reported_slips c (items_of handed)) in
-    let r = settled-read d ended later stands given done stood in
-    subst (λ (c : Configuration). Said c (done ++ (h.more ++ map Item ready))) (same.config ∙ later.config)
-    (subst (Said now.config) (append_assoc done h.more (map Item ready))
-    (ended-handed now ready left bits slips lost ends all given (done ++ h.more)
-    (read-before took ended now taker middle h given done r)
-    ((kept given done r).at_end (same.ended ∙ has_ended))))
+    let was = settled-read d ended later stands given done stood in
+    let few : length given + 0 < 2 ^ 60 = omega (arith, was.stands.few) in
+    let read = subst (λ (l : List ℕ). HasRead now l (done ++ r.read.more)) (append-nil given)
+    (r.read.stands given done few was) in
+    let chosen = subst (λ (l : List ℕ). IsChosen now.config l now.chosen) (append-nil given)
+    ((r.kept given done few was).at_end (r.ended ∙ has_ended)) in
+    subst (λ (c : Configuration). Said c (done ++ (r.read.more ++ map Item ready))) (r.config ∙ later.config)
+    (subst (Said now.config) (append_assoc done r.read.more (map Item ready))
+    (ended-handed now ready left bits slips lost ends r.all given (done ++ r.read.more) read chosen))
 
 -- all is a prefix of all
 pub all-prefix : (c : Configuration) (given : List ℕ) (handed : List (Handed WindowBlock)) (left : ℕ)

@@ -1,10 +1,11 @@
 -- What is given one piece after another.
-use Rattle.std.proofs.Common.{◌≡◌, ℕ, ◌-◌, ◌≤◌, min, inl, inr, length-drop, false, List, [], ◌∷◌, ◌++◌, length, drop, map, refl, sym, ap, ◌∙◌, subst, arith, append_assoc, length-append, Err, IsErrOf}
+use Rattle.std.proofs.Common.{◌≡◌, ℕ, ◌+◌, ◌-◌, ◌<◌, ◌≤◌, min, inl, inr, length-drop, false, List, [], ◌∷◌, ◌++◌, length, drop, take, map, refl, sym, ap, ◌∙◌, subst, arith, append_assoc, length-append, length-take, Err, IsErrOf}
 use Rattle.std.proofs.lemmas.Bool.{cases_lt}
-use Rattle.std.proofs.lemmas.List.{append-nil, drop_all, drop-map, length-map, map-append}
+use Rattle.std.proofs.lemmas.List.{append-nil, drop_all, drop-map, length-map, map-append, take_all}
 use Rattle.tm_base.specs.SoftForm.{from_form}
 use Rattle.tm_base.proofs.Handing.{HandedOver-append, HandedPart-after}
 use Rattle.tm_config.specs.Configuration.{Configuration, is_signed}
+use Rattle.tm_viterbi.specs.WindowSizes.{stream_bound}
 use Rattle.tm_windows.specs.declared.decoder.FeedError.{FeedError}
 use Rattle.tm_windows.specs.declared.decoder.FeedError.TheVariants.{Taker, Stopped}
 use Rattle.tm_inner.specs.Inner.{soft_value, soft_octets}
@@ -40,6 +41,15 @@ hands-more took Stands a b c taker middle now first second p q = record {
       (subst (Stands c ((given ++ first) ++ second)) (append_assoc done p.more q.more) last);
 }
 
+-- with no octets more
+pub hands-then : {T I S : Type 0} (took : T → I → T → Type 0) (Stands : S → List ℕ → List I → Type 0) (a b c : S)
+    (taker middle now : T) (octets : List ℕ)
+    → Hands took Stands a b taker middle octets → Hands took Stands b c middle now []
+    → Hands took Stands a c taker now octets
+hands-then took Stands a b c taker middle now octets p q =
+    subst (Hands took Stands a c taker now) (append-nil octets)
+    (hands-more took Stands a b c taker middle now octets [] p q)
+
 pub hands-prefix : {T I S : Type 0} (took broke : T → I → T → Type 0) (Stands : S → List ℕ → List I → Type 0)
     (First : List ℕ → List I → Type 0)
     (a b : S) (taker middle now : T) (first second : List ℕ)
@@ -72,6 +82,36 @@ hands-longer took broke Stands First a taker now first second stay p = record {
       let there = p.first given done (omega (arith, few, length-append first second)) stood in
       subst (λ (l : List ℕ). First l (done ++ p.tried)) (append_assoc given first second)
       (stay (given ++ first) second (done ++ p.tried) there);
+}
+
+-- octets that are all below the bound are all taken
+pub hands-whole : {T I S : Type 0} (took : T → I → T → Type 0) (Stands : S → List ℕ → List I → Type 0) (before now : S)
+    (taker taker_now : T) (octets : List ℕ) (n : ℕ)
+    → ((given : List ℕ) (done : List I) → length given + length octets < stream_bound → Stands before given done
+    → length octets ≤ n)
+    → Hands took Stands before now taker taker_now (take n octets)
+    → Hands took Stands before now taker taker_now octets
+hands-whole took Stands before now taker taker_now octets n whole h = record {
+  more = h.more;
+  handed = h.handed;
+  stands = λ given done few stood.
+      subst (λ (l : List ℕ). Stands now (given ++ l) (done ++ h.more))
+      (take_all n octets (whole given done few stood))
+      (h.stands given done (omega (arith, few, length-take n octets)) stood);
+}
+
+pub prefix-whole : {T I S : Type 0} (took broke : T → I → T → Type 0) (Stands : S → List ℕ → List I → Type 0)
+    (First : List ℕ → List I → Type 0) (before : S) (taker taker_now : T) (octets : List ℕ) (n : ℕ)
+    → ((given : List ℕ) (done : List I) → length given + length octets < stream_bound → Stands before given done
+    → length octets ≤ n)
+    → HandsPrefix took broke Stands First before taker taker_now (take n octets)
+    → HandsPrefix took broke Stands First before taker taker_now octets
+prefix-whole took broke Stands First before taker taker_now octets n whole h = record {
+  tried = h.tried;
+  handed = h.handed;
+  first = λ given done few stood.
+      subst (λ (l : List ℕ). First (given ++ l) (done ++ h.tried)) (take_all n octets (whole given done few stood))
+      (h.first given done (omega (arith, few, length-take n octets)) stood);
 }
 
 -- of two causes the other

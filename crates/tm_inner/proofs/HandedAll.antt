@@ -1,5 +1,5 @@
 -- What is due, and then the rest of all that is handed over.
-use Rattle.std.proofs.Common.{◌≡◌, ℕ, List, ◌++◌, subst}
+use Rattle.std.proofs.Common.{ℕ, List, ◌++◌, subst}
 use Rattle.tm_base.specs.Handed.{Handed}
 use Rattle.tm_config.specs.Accepted.{IsAccepted}
 use Rattle.tm_config.specs.Configuration.{Configuration}

@@ -19,6 +19,7 @@ pub mod HandedPieces
 pub mod DecoderCalls
 pub mod DecoderReads
 pub mod DecoderPieces
+pub mod ReadOctets
 mod Receivers
 pub mod HandedBits
 pub mod WorkedBits
@@ -29,4 +30,3 @@ mod DueWindows
 pub mod ToldWindows
 pub mod DecodedWindows
 pub mod HandedAll
-pub mod ReadOctets

@@ -14,7 +14,7 @@ ghost use Rattle.tm_inner.specs.Phase.{IsChosen, IsChosenSoFar, phase_octets, wi
 ghost use Rattle.tm_inner.specs.InnerDecoding.{IsDrained, IsSameDecoder, has_phase_now, held_in, unread};
 ghost use Rattle.tm_inner.specs.Receiving.{Hands, HandsPrefix, HasHanded, HasRead, InnerReceiverStandsFor};
 ghost use Rattle.tm_inner.specs.Calls.{Feeds, Finishes};
-ghost use Rattle.tm_inner.specs.Handing.{AreHanded, AreHandedFirst, AreHandedPrefix, IsKept, IsReadPart};
+ghost use Rattle.tm_inner.specs.Handing.{AreHanded, AreHandedFirst, AreHandedPrefix, IsKept, IsReadPart, ReadsDue};
 
 use crate::decoder::{InnerDecoder, InnerEnd};
 use std::alloc::Global;
@@ -36,7 +36,6 @@ pub struct InnerReceiver {
 
 impl Model for InnerReceiver {
     ghost use Rattle.std.specs.Prelude.{◌≡◌, false};
-    ghost use Rattle.tm_inner.specs.InnerDecoding.{IsDrained};
     ghost use Rattle.tm_inner.specs.Receiving.{InnerReceiving};
 
     ghost Value = { InnerReceiving };
@@ -49,8 +48,7 @@ impl Model for InnerReceiver {
       has_stopped = r.has_stopped;
     } };
 
-    ghost invariant = { λ r. r.has_stopped ≡ false
-        → (r.decoder.has_ended ≡ false) × IsDrained r.decoder.queue };
+    ghost invariant = { λ r. r.has_stopped ≡ false → r.decoder.has_ended ≡ false };
 }
 
 impl InnerReceiver {
@@ -192,10 +190,8 @@ fn take<B: BlockTaker>(
     octets: &[u8],
     blocks: &mut B,
 ) -> Result<(), Failed>
-    requires drained { IsDrained decoder.old.queue }
-    requires going { decoder.old.has_ended ≡ false }
+    requires { decoder.old.has_ended ≡ false }
     ensures kept { (decoder.new.config ≡ decoder.old.config) × (decoder.new.has_ended ≡ false) }
-    ensures drained { OnOk result (IsDrained decoder.new.queue) }
     ensures handed { OnOk result (Hands (on_handed B.took_phase B.took) HasHanded decoder.old decoder.new
         blocks.old blocks.new octets.now) }
     ensures prefix { OnErr result (HandsPrefix (on_handed B.took_phase B.took) (on_handed B.broke_phase B.broke)
@@ -205,60 +201,38 @@ fn take<B: BlockTaker>(
     ensures cause { HasCause (B.faults blocks.old) (B.faults blocks.new) (B.is_last blocks.new) result }
 {
     let within = decoder.within(octets.len());
-    take_within(decoder, &octets[..within], blocks)
+    hand_due(decoder, &octets[..within], blocks)
 }
 
-// Puts octets in, fewer than 2^60 with those before, and hands over what is due with them.
-fn take_within<B: BlockTaker>(
+// Puts octets in, and hands over the phase, once it is chosen, and the blocks of the windows that are closed.
+fn hand_due<B: BlockTaker>(
     decoder: &mut InnerDecoder,
     octets: &[u8],
     blocks: &mut B,
 ) -> Result<(), Failed>
-    requires drained { IsDrained decoder.old.queue }
-    requires going { decoder.old.has_ended ≡ false }
-    ensures kept { (decoder.new.config ≡ decoder.old.config) × (decoder.new.has_ended ≡ false) }
-    ensures drained { OnOk result (IsDrained decoder.new.queue) }
-    ensures handed { OnOk result (Hands (on_handed B.took_phase B.took) HasHanded decoder.old decoder.new
+    requires { 0 < length octets.now → decoder.old.has_ended ≡ false }
+    ensures same { (decoder.new.config ≡ decoder.old.config) × (decoder.new.has_ended ≡ decoder.old.has_ended) }
+    ensures read { OnOk result (ReadsDue (on_handed B.took_phase B.took) decoder.old decoder.new
         blocks.old blocks.new octets.now) }
     ensures prefix { OnErr result (HandsPrefix (on_handed B.took_phase B.took) (on_handed B.broke_phase B.broke)
-        HasHanded (AreHandedFirst decoder.old.config) decoder.old blocks.old blocks.new octets.now) }
+        HasRead (IsReadPart decoder.old) decoder.old blocks.old blocks.new octets.now) }
     ensures chosen { (given : List ℕ) (done : List (Handed WindowBlock))
-        → length given + length octets.now < stream_bound → HasHanded decoder.old given done
-        → IsChosenSoFar decoder.old.config (given ++ octets.now) decoder.new.chosen }
+        → length given + length octets.now < stream_bound → HasRead decoder.old given done
+        → IsKept decoder.new (given ++ octets.now) }
     ensures cause { HasCause (B.faults blocks.old) (B.faults blocks.new) (B.is_last blocks.new) result }
 {
     let mut done = 0;
-    while done < octets.len() {
-        done += decoder.fill(&octets[done..]);
-        match hand_due(decoder, blocks) {
-            Ok(()) => {}
-            Err(Failed) => return Err(Failed),
-        }
-    }
-    Ok(())
-}
-
-// Hands over the phase, where it is chosen now, and the blocks of the windows that are closed.
-fn hand_due<B: BlockTaker>(decoder: &mut InnerDecoder, blocks: &mut B) -> Result<(), Failed>
-    ensures kept { IsSameDecoder decoder.old decoder.new }
-    ensures drained { OnOk result (IsDrained decoder.new.queue × (unread decoder.new ≡ None)) }
-    ensures handed { OnOk result (Hands (on_handed B.took_phase B.took) HasRead decoder.old decoder.new
-        blocks.old blocks.new []) }
-    ensures prefix { OnErr result (HandsPrefix (on_handed B.took_phase B.took) (on_handed B.broke_phase B.broke)
-        HasRead (IsReadPart decoder.old) decoder.old blocks.old blocks.new []) }
-    ensures chosen { (given : List ℕ) (done : List (Handed WindowBlock)) → HasRead decoder.old given done
-        → IsKept decoder.new given }
-    ensures cause { HasCause (B.faults blocks.old) (B.faults blocks.new) (B.is_last blocks.new) result }
-{
     'runs: loop {
-        match hand_run(decoder, blocks) {
-            Ok(count) => {
-                if count == 0 {
-                    return Ok(());
-                }
-            }
-            Err(Failed) => return Err(Failed),
+        let Ok(count) = hand_run(decoder, blocks) else {
+            return Err(Failed);
+        };
+        if count > 0 {
+            continue;
         }
+        if done == octets.len() {
+            return Ok(());
+        }
+        done += decoder.fill(&octets[done..]);
     }
 }
 
@@ -268,6 +242,7 @@ fn hand_run<B: BlockTaker>(decoder: &mut InnerDecoder, blocks: &mut B) -> Result
     ensures kept { IsSameDecoder decoder.old decoder.new }
     ensures drained { IfOk result (λ count. (count ≡ 0 → IsDrained decoder.new.queue)
         × (unread decoder.new ≡ None)) }
+    ensures moved { length (held_in decoder.new.queue) ≤ length (held_in decoder.old.queue) }
     ensures shorter { IfOk result (λ count. 0 < count
         → length (held_in decoder.new.queue) < length (held_in decoder.old.queue)) }
     ensures handed { OnOk result (Hands (on_handed B.took_phase B.took) HasRead decoder.old decoder.new
@@ -323,7 +298,7 @@ fn end<B: BlockTaker>(decoder: &mut InnerDecoder, blocks: &mut B) -> Result<Inne
     ensures cause { HasCause (B.faults blocks.old) (B.faults blocks.new) (B.is_last blocks.new) result }
 {
     decoder.settle();
-    match hand_due(decoder, blocks) {
+    match hand_due(decoder, &[], blocks) {
         Ok(()) => {}
         Err(Failed) => return Err(Failed),
     }

@@ -21,7 +21,7 @@ module _ (g : Over) (c : After-hand_due g) where
       → IsChosen c.args.decoder.now.config given c.hand_due.new.decoder.chosen
   chosen =
       ended-chosen c.args.decoder.now c.settle.new.self c.hand_due.new.decoder later c.settle.ensures.stands
-      c.hand_due.ensures.kept c.settle.ensures.ended c.hand_due.ensures.chosen
+      c.settle.ensures.ended c.hand_due.ensures.same.0 c.hand_due.ensures.same.1 c.hand_due.ensures.chosen
 
 pub returns-in-Err-clause-prefix : goal.returns-in-Err-clause-prefix
 returns-in-Err-clause-prefix g c =
@@ -52,35 +52,35 @@ returns-in-Err-hand-clause-chosen g c =
 pub returns-in-Ok-hand-clause-handed : goal.returns-in-Ok-hand-clause-handed
 returns-in-Ok-hand-clause-handed g c =
     let t = g.B.BlockTaker in
-    let h = c.in-Ok.ensures.handed in
+    let k = (goal.at.returns-in-Ok-hand-clause-handed g c).After-hand_due in
+    let h = c.in-Ok.ensures.read in
     let end = c.last-end.result in
     let ready = ready_in c.last-end.new.self.queue in (
-      h.more ++ map Item ready,
-      HandedOver-append (on_handed t.took_phase t.took) c.args.blocks.now c.hand_due.new.blocks c.hand.new.blocks h.more
-          (map Item ready) h.handed
+      h.read.more ++ map Item ready,
+      HandedOver-append (on_handed t.took_phase t.took) c.args.blocks.now c.hand_due.new.blocks c.hand.new.blocks
+          h.read.more (map Item ready) h.read.handed
           (HandedOver-items t.took_phase t.took c.hand_due.new.blocks c.hand.new.blocks ready c.in-Ok-hand.ensures.ok),
-      ended-all (on_handed t.took_phase t.took) c.args.decoder.now c.settle.new.self c.hand_due.new.decoder
-          (later g (goal.at.returns-in-Ok-hand-clause-handed g c).After-hand_due) c.settle.ensures.stands
-          c.hand_due.ensures.kept c.settle.ensures.ended c.hand_due.ensures.chosen c.args.blocks.now c.hand_due.new.blocks
-          ready end.leftover end.bits end.slips (lost_in c.last-end.new.self.queue) h c.in-Ok.ensures.drained.1 c.last-end.ensures.ends,
+      ended-all (on_handed t.took_phase t.took) c.args.decoder.now c.settle.new.self c.hand_due.new.decoder (later g k)
+          c.settle.ensures.stands c.settle.ensures.ended c.args.blocks.now c.hand_due.new.blocks h ready end.leftover
+          end.bits end.slips (lost_in c.last-end.new.self.queue) c.last-end.ensures.ends,
     )
 
 pub returns-in-Err-hand-clause-prefix : goal.returns-in-Err-hand-clause-prefix
 returns-in-Err-hand-clause-prefix g c =
     let t = g.B.BlockTaker in
-    let h = c.in-Ok.ensures.handed in
+    let k = (goal.at.returns-in-Err-hand-clause-prefix g c).After-hand_due in
+    let h = c.in-Ok.ensures.read in
     let end = c.last-end.result in
     let ready = ready_in c.last-end.new.self.queue in
-    let tried = h.more ++ map Item ready in (
+    let tried = h.read.more ++ map Item ready in (
       tried,
       HandedPart-after (on_handed t.took_phase t.took) (on_handed t.broke_phase t.broke) c.args.blocks.now
-          c.hand_due.new.blocks c.hand.new.blocks h.more (map Item ready) h.handed
+          c.hand_due.new.blocks c.hand.new.blocks h.read.more (map Item ready) h.read.handed
           (HandedPart-items t.took_phase t.broke_phase t.took t.broke c.hand_due.new.blocks c.hand.new.blocks ready
           c.in-Err-hand.ensures.err),
       λ given done stood. all-prefix c.args.decoder.now.config given (done ++ tried) end.leftover
           (ended-all (on_handed t.took_phase t.took) c.args.decoder.now c.settle.new.self c.hand_due.new.decoder
-          (later g (goal.at.returns-in-Err-hand-clause-prefix g c).After-hand_due) c.settle.ensures.stands
-          c.hand_due.ensures.kept c.settle.ensures.ended c.hand_due.ensures.chosen c.args.blocks.now
-          c.hand_due.new.blocks ready end.leftover end.bits end.slips (lost_in c.last-end.new.self.queue) h c.in-Ok.ensures.drained.1
-          c.last-end.ensures.ends given done stood).0,
+          (later g k) c.settle.ensures.stands c.settle.ensures.ended c.args.blocks.now c.hand_due.new.blocks h ready
+          end.leftover end.bits end.slips (lost_in c.last-end.new.self.queue) c.last-end.ensures.ends given done
+          stood).0,
     )
