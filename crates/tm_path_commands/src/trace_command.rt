@@ -1,13 +1,12 @@
 // The command `trace`: the symbol phase, where it is to be found, and the windows of the soft decoder, a line each.
-ghost use Rattle.std.specs.Prelude.{◌≡◌, ℕ, ◌+◌, ◌<◌, ◌≤◌, ◌++◌, List, None, true, false, [], length, slice_index_or, OnErr, IfOk};
+ghost use Rattle.std.specs.Prelude.{◌≡◌, ℕ, ◌+◌, ◌<◌, ◌≤◌, List, None, true, false, [], length, slice_index_or, OnErr, IfOk};
 ghost use Rattle.tm_base.specs.Handed.{Handed};
 ghost use Rattle.tm_base.specs.Takers.{HandedOver};
 ghost use Rattle.tm_driver.specs.Answered.{AnsweredAlone};
 ghost use Rattle.tm_driver.specs.Courses.{sink_call, source_call};
 ghost use Rattle.tm_viterbi.specs.WindowBlock.{WindowBlock};
-ghost use Rattle.tm_viterbi.specs.WindowSizes.{stream_bound};
-ghost use Rattle.tm_inner.specs.Handing.{IsKept};
-ghost use Rattle.tm_inner.specs.InnerDecoding.{IsDrained, IsSameDecoder, IsSettledQueue, has_phase_now, held_in, ready_in, unread};
+ghost use Rattle.tm_inner.specs.Handing.{IsKept, ReadsDue};
+ghost use Rattle.tm_inner.specs.InnerDecoding.{IsDrained, IsSameDecoder, has_phase_now, held_in, ready_in, unread};
 ghost use Rattle.tm_inner.specs.Phase.{with_phase};
 ghost use Rattle.tm_inner.specs.Receiving.{Hands, HasRead};
 ghost use Rattle.tm_path_commands.specs.Trace.{trace_meaning};
@@ -66,15 +65,8 @@ fn trace_octets<W: TextTaker>(
     texts: &mut W,
 )
     requires { 0 < length octets.now → inner.old.has_ended ≡ false }
-    ensures config { inner.new.config ≡ inner.old.config }
-    ensures ended { inner.new.has_ended ≡ inner.old.has_ended }
-    ensures still { length octets.now ≡ 0 → IsSettledQueue inner.old.queue → IsSettledQueue inner.new.queue }
-    ensures drained { IsDrained inner.new.queue × (unread inner.new ≡ None) }
-    ensures read { Hands (traced_handed W.took) HasRead inner.old inner.new (tracing tally.old texts.old)
+    ensures { ReadsDue (traced_handed W.took) inner.old inner.new (tracing tally.old texts.old)
         (tracing tally.new texts.new) octets.now }
-    ensures chosen { (given : List ℕ) (done : List (Handed WindowBlock))
-        → length given + length octets.now < stream_bound → HasRead inner.old given done
-        → IsKept inner.new (given ++ octets.now) }
 {
     let mut done = 0;
     'runs: loop {

@@ -1,13 +1,9 @@
-use Rattle.std.proofs.Common.{◌∙◌, ◌++◌, ℕ, List, map, refl, subst, arith}
-use Rattle.std.proofs.lemmas.List.{append-nil}
-use Rattle.tm_base.specs.Handed.{Handed, Item}
+use Rattle.std.proofs.Common.{◌∙◌, ◌++◌, map, refl, subst}
+use Rattle.tm_base.specs.Handed.{Item}
 use Rattle.tm_base.proofs.Handing.{HandedOver-append}
 use Rattle.tm_base.proofs.HandedItems.{HandedOver-items}
 use Rattle.tm_driver.specs.Writing.{Out}
-use Rattle.tm_viterbi.specs.WindowBlock.{WindowBlock}
-use Rattle.tm_inner.specs.Handing.{IsKept}
 use Rattle.tm_inner.specs.InnerDecoding.{lost_in, ready_in}
-use Rattle.tm_inner.specs.Receiving.{HasRead}
 use Rattle.tm_inner.proofs.DecoderPieces.{IsLater, ended-all}
 use Rattle.tm_path_commands.specs.Tracing.{traced, traced_handed, traced_phase, tracing}
 use Rattle.tm_path_commands.proofs.TraceStage.{traces-end}
@@ -20,15 +16,11 @@ returns g c =
     let d = s.inner in
     let ended = c.settle.new.self in
     let r = c.trace_octets in
-    let e = r.ensures in
-    let h = e.read in
+    let h = r.ensures.read in
     let ready = ready_in c.last-end.new.self.queue in
     let end = c.last-end.result in
     let later : IsLater d ended =
     record { config = c.settle.ensures.config; phase = c.settle.ensures.phase; stays = c.settle.ensures.stays } in
-    let kept : (given : List ℕ) (done : List (Handed WindowBlock)) → HasRead ended given done → IsKept r.new.inner given
-    = λ given done k. subst (IsKept r.new.inner) (append-nil given)
-    (e.chosen given done (omega (arith, k.stands.few)) k) in
     let start = tracing s.tally c.args.texts.now in
     let middle = tracing r.new.tally r.new.texts in
     let now = tracing c.trace_ready.new.tally c.trace_ready.new.texts in
@@ -40,10 +32,9 @@ returns g c =
     (subst (λ l. took c.trace_ready.new.texts (Out l) c.out.new.self)
     (c.octets.ensures ∙ c.trace_end_text.ensures) c.out.ensures)
     (λ given done stood.
-    let w = ended-all (traced_handed took) d ended r.new.inner later c.settle.ensures.stands
-    (record { config = e.config; ended = e.ended; settled = e.still refl }) c.settle.ensures.ended kept start middle
-    ready end.leftover end.bits end.slips (lost_in c.last-end.new.self.queue) h e.drained.1 c.last-end.ensures.ends
-    given done stood in (w.0, w.1)) in
+    let w = ended-all (traced_handed took) d ended r.new.inner later c.settle.ensures.stands c.settle.ensures.ended
+    start middle r.ensures ready end.leftover end.bits end.slips (lost_in c.last-end.new.self.queue)
+    c.last-end.ensures.ends given done stood in (w.0, w.1)) in
     record {
       texts = m.0;
       handed = m.1;
