@@ -1,5 +1,6 @@
--- A stage that was fed one more turn, or the end.
-use Rattle.std.proofs.Common.{◌≡◌, ◌⊎◌, inl, inr, ℕ, ◌+◌, ◌≤◌, Bool, true, false, List, ◌++◌, length, take, refl, sym, ap, subst, arith, length-append, length-take}
+-- What a stage gives, piece after piece, and at the end.
+use Rattle.std.proofs.Common.{◌≡◌, ◌⊎◌, inl, inr, ℕ, ◌+◌, ◌≤◌, Bool, true, false, List, [], ◌++◌, length, take, append_assoc, refl, sym, ap, subst, arith, length-append, length-take}
+use Rattle.std.proofs.lemmas.List.{append-nil}
 use Rattle.tm_base.specs.Limits.{most_limit}
 use Rattle.tm_base.specs.Takers.{HandedOver}
 use Rattle.tm_base.proofs.Handing.{HandedOver-append}
@@ -9,10 +10,38 @@ use Rattle.tm_driver.specs.Writing.{Text}
 use Rattle.tm_driver.specs.declared.ending.Outcome.{Outcome}
 use Rattle.tm_driver.specs.declared.ending.Outcome.TheVariants.{Done, Bad, LeftOver}
 
+-- of no octets a stage gives nothing
+pub takes-none : {S T : Type 0} (took : T → Text → T → Type 0) (A : S → S → List ℕ → List Text → Type 0) (stage : S)
+    (taker : T) → Takes took A A stage stage taker taker []
+takes-none took A stage taker = record {
+  texts = [];
+  handed = refl;
+  stands = λ new given done few stood.
+      subst (λ (o : List ℕ). A new stage o (done ++ [])) (sym (append-nil given))
+      (subst (A new stage given) (sym (append-nil done)) stood);
+}
+
+-- of octets, and of more after them
+pub takes-more : {S T : Type 0} (took : T → Text → T → Type 0) (A B C : S → S → List ℕ → List Text → Type 0)
+    (before middle now : S) (taker taker_middle taker_now : T) (first more : List ℕ)
+    → Takes took A B before middle taker taker_middle first → Takes took B C middle now taker_middle taker_now more
+    → Takes took A C before now taker taker_now (first ++ more)
+takes-more took A B C before middle now taker taker_middle taker_now first more p q = record {
+  texts = p.texts ++ q.texts;
+  handed = HandedOver-append took taker taker_middle taker_now p.texts q.texts p.handed q.handed;
+  stands = λ new given done few stood.
+      let size = length-append first more in
+      subst (λ (o : List ℕ). C new now o (done ++ (p.texts ++ q.texts))) (append_assoc given first more)
+      (subst (C new now ((given ++ first) ++ more)) (append_assoc done p.texts q.texts)
+      (q.stands new (given ++ first) (done ++ p.texts) (omega (arith, few, size, length-append given first))
+      (p.stands new given done (omega (arith, few, size)) stood)));
+}
+
 module _ {S T : Type 0} (took : T → Text → T → Type 0) (Stands : S → S → List ℕ → List Text → Type 0)
     (new before now : S) (taker middle last : T) (limit : ℕ) (octets : List ℕ) (all : List Text)
     (stood : Stands new before (take limit octets) all) (handed : HandedOver took taker all middle)
     (most : limit ≤ most_limit) where
+  -- it was fed one more turn
   pub fed-turn : (After : S → S → List ℕ → List Text → Type 0) (turn piece : List ℕ)
       → take limit (octets ++ turn) ≡ take limit octets ++ piece
       → Takes took Stands After before now middle last piece

@@ -1,6 +1,6 @@
 mod OneTurn
 mod Stopped
-mod FedStage
+pub mod FedStage
 pub mod SinkTexts
 pub mod HandedAlong
 pub mod TwoSinks

@@ -1,5 +1,5 @@
 -- What the sinks of a writer took of texts.
-use Rattle.std.proofs.Common.{◌≡◌, inl, inr, ℕ, Bool, true, false, List, [], ◌∷◌, ◌++◌, take, refl, sym, ◌∙◌, ap, subst, append_assoc, arith, Option}
+use Rattle.std.proofs.Common.{◌≡◌, ◌⊎◌, inl, inr, ℕ, Bool, true, false, List, [], ◌∷◌, ◌++◌, take, refl, sym, ◌∙◌, ap, subst, append_assoc, arith, Option}
 use Rattle.std.proofs.lemmas.List.{append-nil, take_all}
 use Rattle.tm_base.specs.Takers.{HandedOver}
 use Rattle.tm_base.specs.Written.{Wrote, WrotePrefix}
@@ -238,6 +238,39 @@ stops-longer texts more taken stops = record {
   split = ap (λ l. l ++ more) stops.split ∙ append_assoc stops.first (stops.next ∷ stops.rest) more;
   part = stops.part;
 }
+
+-- ---- where a sink fails
+
+-- an element of two lists is of the first or of the second
+split-at : {A : Type 0} (xs ys first rest : List A) (next : A) → xs ++ ys ≡ first ++ next ∷ rest
+    → ((more : List A) × (xs ≡ first ++ next ∷ more))
+    ⊎ ((middle : List A) × (first ≡ xs ++ middle) × (ys ≡ middle ++ next ∷ rest))
+split-at [] ys first rest next same = inr (first, refl, same)
+split-at (x ∷ xs) ys [] rest next same = inl (xs, cc)
+split-at (x ∷ xs) ys (z ∷ first) rest next same =
+    elim (split-at xs ys first rest next (cc)) [ inl p ↦ inl (p.0, cc) | inr p ↦ inr (p.0, cc, p.2) ]
+
+-- it fails in first texts, or in those after them, once the first were written
+pub stops-split : (xs ys : List Text) (taken : Taken) → StopsIn (xs ++ ys) taken → StopsIn xs taken
+    ⊎ ((middle : List Text) × (next : Text) × (rest : List Text) × (ys ≡ middle ++ next ∷ rest)
+    × TookPart (xs ++ middle) next taken)
+stops-split xs ys taken stops =
+    elim (split-at xs ys stops.first stops.rest stops.next stops.split) [
+      | inl p ↦ inl (record {
+        first = stops.first;
+        next = stops.next;
+        rest = p.0;
+        split = p.1;
+        part = stops.part;
+      })
+      | inr p ↦ inr (
+        p.0,
+        stops.next,
+        stops.rest,
+        p.2,
+        subst (λ (l : List Text). TookPart l stops.next taken) p.1 stops.part,
+      )
+    ]
 
 -- ---- a command without notes
 
