@@ -1,5 +1,5 @@
 -- What a stage gives, piece after piece, and at the end.
-use Rattle.std.proofs.Common.{◌≡◌, ◌⊎◌, inl, inr, ℕ, ◌+◌, ◌≤◌, Bool, true, false, List, [], ◌++◌, length, take, append_assoc, refl, sym, ap, subst, arith, length-append, length-take}
+use Rattle.std.proofs.Common.{◌≡◌, ◌⊎◌, inl, inr, ℕ, ◌+◌, ◌-◌, ◌≤◌, Bool, true, false, List, [], ◌++◌, length, take, drop, append_assoc, refl, sym, ap, subst, arith, length-append, length-take}
 use Rattle.std.proofs.lemmas.List.{append-nil}
 use Rattle.tm_base.specs.Limits.{most_limit}
 use Rattle.tm_base.specs.Takers.{HandedOver}
@@ -9,6 +9,7 @@ use Rattle.tm_driver.specs.Statuses.{ending_at_end}
 use Rattle.tm_driver.specs.Writing.{Text}
 use Rattle.tm_driver.specs.declared.ending.Outcome.{Outcome}
 use Rattle.tm_driver.specs.declared.ending.Outcome.TheVariants.{Done, Bad, LeftOver}
+use Rattle.tm_driver.proofs.Pieces.{piece-more}
 
 -- of no octets a stage gives nothing
 pub takes-none : {S T : Type 0} (took : T → Text → T → Type 0) (A : S → S → List ℕ → List Text → Type 0) (stage : S)
@@ -35,6 +36,31 @@ takes-more took A B C before middle now taker taker_middle taker_now first more 
       (subst (C new now ((given ++ first) ++ more)) (append_assoc done p.texts q.texts)
       (q.stands new (given ++ first) (done ++ p.texts) (omega (arith, few, size, length-append given first))
       (p.stands new given done (omega (arith, few, size)) stood)));
+}
+
+-- the same where no octets follow
+pub takes-then : {S T : Type 0} (took : T → Text → T → Type 0) (A B C : S → S → List ℕ → List Text → Type 0)
+    (before middle now : S) (taker taker_middle taker_now : T) (octets : List ℕ)
+    → Takes took A B before middle taker taker_middle octets → Takes took B C middle now taker_middle taker_now []
+    → Takes took A C before now taker taker_now octets
+takes-then took A B C before middle now taker taker_middle taker_now octets p q =
+    subst (Takes took A C before now taker taker_now) (append-nil octets)
+    (takes-more took A B C before middle now taker taker_middle taker_now octets [] p q)
+
+-- of a piece up to a place, and further octets of it, for which nothing is given
+pub takes-step : {S T : Type 0} (took : T → Text → T → Type 0) (A B C : S → S → List ℕ → List Text → Type 0)
+    (before middle now : S) (taker taker_now : T) (piece : List ℕ) (at count : ℕ)
+    → ((new : S) (given : List ℕ) (done : List Text) → B new middle given done
+    → C new now (given ++ take count (take (length piece - at) (drop at piece))) done)
+    → Takes took A B before middle taker taker_now (take at piece)
+    → Takes took A C before now taker taker_now (take (at + count) piece)
+takes-step took A B C before middle now taker taker_now piece at count step t = record {
+  texts = t.texts;
+  handed = t.handed;
+  stands = λ new given done few stood.
+      subst (λ (o : List ℕ). C new now o (done ++ t.texts)) (piece-more given piece at count)
+      (step new (given ++ take at piece) (done ++ t.texts)
+      (t.stands new given done (omega (arith, few, length-take at piece, length-take (at + count) piece)) stood));
 }
 
 module _ {S T : Type 0} (took : T → Text → T → Type 0) (Stands : S → S → List ℕ → List Text → Type 0)
