@@ -272,6 +272,25 @@ stops-split xs ys taken stops =
       )
     ]
 
+last-alone : {A : Type 0} (x next : A) (middle rest : List A) → x ∷ [] ≡ middle ++ next ∷ rest
+    → (middle ≡ []) × (next ≡ x)
+last-alone x next [] rest same = (refl, cc)
+last-alone x next (y ∷ []) rest same = absurd cc
+last-alone x next (y ∷ z ∷ middle) rest same = absurd cc
+
+-- it fails in first texts or in the last one
+pub stops-last : (texts : List Text) (last : Text) (taken : Taken) → StopsIn (texts ++ last ∷ []) taken
+    → StopsIn texts taken ⊎ TookPart texts last taken
+stops-last texts last taken stops =
+    elim (stops-split texts (last ∷ []) taken stops) [
+      | inl s ↦ inl s
+      | inr p ↦
+          let alone = last-alone last p.1 p.0 p.2 p.3 in
+          let first : texts ++ p.0 ≡ texts = ap (λ (l : List Text). texts ++ l) alone.0 ∙ append-nil texts in
+          inr (subst (λ (l : List Text). TookPart l last taken) first
+          (subst (λ (t : Text). TookPart (texts ++ p.0) t taken) alone.1 p.4))
+    ]
+
 -- ---- a command without notes
 
 nothing-both : {A : Type 0} (xs ys : List A) → xs ++ ys ≡ [] → (xs ≡ []) × (ys ≡ [])

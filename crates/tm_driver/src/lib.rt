@@ -16,7 +16,7 @@ pub use driver::{TURN, drive};
 pub use ending::{Ending, Outcome, Stop};
 pub use feed::Feed;
 pub use line::Line;
-pub use lines::{add_slips, phase_line, phase_text, report_rest};
+pub use lines::{add_slips, note_rest, phase_line, phase_text, report_rest};
 pub use stage::{Stage, drive_stage};
 pub use text_taker::TextTaker;
 pub use writer::Writer;

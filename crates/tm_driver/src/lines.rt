@@ -3,16 +3,16 @@ ghost use Rattle.std.specs.Prelude.{◌≡◌, ◌+◌, ◌≤◌, ◌++◌, len
 ghost use Rattle.tm_base.specs.Outside.{HasCause};
 ghost use Rattle.tm_base.specs.Written.{Wrote, WrotePrefix};
 ghost use Rattle.tm_driver.specs.Lines.{left_over_text, line_room, outcome_by, phase_text, slips_text};
+ghost use Rattle.tm_driver.specs.Writing.{Note};
 
 use crate::ending::Outcome;
 use crate::line::Line;
+use crate::text_taker::TextTaker;
 use tm_base::{Failed, Sink};
 
-// Writes how many octets follow the last whole frame or record, where there are some.
-fn left_over_line<N: Sink>(notes: &mut N, rest: u32) -> Result<(), Failed>
-    ensures ok { OnOk result (Wrote (N.taken notes.old) (N.taken notes.new) (left_over_text rest)) }
-    ensures err { OnErr result (WrotePrefix (N.taken notes.old) (N.taken notes.new) (left_over_text rest)) }
-    ensures cause { HasCause (N.faults notes.old) (N.faults notes.new) (N.is_last notes.new) result }
+// How many octets follow the last whole frame or record, where there are some.
+fn left_over_text(rest: u32) -> Line
+    ensures { result ≡ left_over_text rest }
 {
     let mut line = Line::new();
     if rest != 0 {
@@ -20,7 +20,18 @@ fn left_over_line<N: Sink>(notes: &mut N, rest: u32) -> Result<(), Failed>
         line.number(rest as u64);
         line.text(b"\n");
     }
-    line.put(notes)
+    line
+}
+
+// What comes of an input by that.
+fn outcome_by(rest: u32) -> Outcome
+    ensures { result ≡ outcome_by rest }
+{
+    if rest == 0 {
+        Outcome::Done
+    } else {
+        Outcome::LeftOver
+    }
 }
 
 /// Writes how many octets follow the last whole frame or record, where there are some, and returns what came of the
@@ -31,11 +42,20 @@ pub fn report_rest<N: Sink>(notes: &mut N, rest: u32) -> Result<Outcome, Failed>
     ensures err { OnErr result (WrotePrefix (N.taken notes.old) (N.taken notes.new) (left_over_text rest)) }
     ensures cause { HasCause (N.faults notes.old) (N.faults notes.new) (N.is_last notes.new) result }
 {
-    match left_over_line(notes, rest) {
-        Ok(()) if rest == 0 => Ok(Outcome::Done),
-        Ok(()) => Ok(Outcome::LeftOver),
+    match left_over_text(rest).put(notes) {
+        Ok(()) => Ok(outcome_by(rest)),
         Err(Failed) => Err(Failed),
     }
+}
+
+/// Gives to the notes how many octets follow the last whole frame or record, where there are some, and returns what came
+/// of the input by that.
+pub fn note_rest<W: TextTaker>(texts: &mut W, rest: u32) -> Outcome
+    ensures outcome { result ≡ outcome_by rest }
+    ensures given { W.took texts.old (Note (left_over_text rest)) texts.new }
+{
+    texts.note(left_over_text(rest).octets());
+    outcome_by(rest)
 }
 
 /// The symbol phase that was chosen: `phase S cost C`, with the octets skipped and the cost of the best path after
