@@ -1,72 +1,65 @@
--- A certificate, window by window, and what is written for it.
-use Rattle.std.proofs.Common.{◌≡◌, inl, inr, ℕ, suc, ◌+◌, ◌^◌, ◌-◌, ◌<◌, ◌≤◌, List, [], ◌∷◌, ◌++◌, length, take, drop, min, Option, sym, ap, ◌∙◌, subst, arith, append_assoc, length-append, take-append-drop}
-use Rattle.std.proofs.lemmas.List.{append-nil, drop_all, length-drop, length-take-le, take_rest, take-append-le}
-use Rattle.tm_base.specs.Written.{Wrote}
+-- A certificate, window by window, and the texts that are given for it.
+use Rattle.std.proofs.Common.{◌≡◌, ℕ, suc, ◌+◌, ◌^◌, ◌-◌, ◌≤◌, Bool, List, [], ◌∷◌, ◌++◌, length, take, drop, min, refl, sym, ap, ◌∙◌, subst, append_assoc, arith, length-append, length-take, take-append-drop}
+use Rattle.std.proofs.lemmas.List.{length-drop, take-append-le}
+use Rattle.tm_base.specs.Limits.{most_limit}
+use Rattle.tm_base.proofs.Handing.{HandedOver-push}
 use Rattle.tm_conv.specs.declared.rates.Rate.{Rate}
 use Rattle.tm_cert_file.specs.declared.seen.Reason.{Reason}
 use Rattle.tm_cert_file.specs.declared.seen.Seen.{Seen}
 use Rattle.tm_cert_file.specs.declared.seen.Seen.TheVariants.{More, Passed, Failed}
-use Rattle.tm_cert_file.specs.Window.{Window, kept_in, steps_in, window_size}
+use Rattle.tm_cert_file.specs.Window.{Window, kept_in, steps_in, window_in, window_size}
 use Rattle.tm_cert_file.specs.Before.{Rules, Before, at_first, after_window}
 use Rattle.tm_cert_file.specs.Seen.{IsSeen}
-use Rattle.tm_cert_file.specs.File.{ArePassed, IsRead, all_kept, kept_octets}
-use Rattle.tm_cert_file.specs.Reading.{Reading, HasPassed, IsOpen, ReaderStandsFor}
+use Rattle.tm_cert_file.specs.File.{ArePassed, IsBroken, IsRead, all_kept, is_cut, kept_octets}
+use Rattle.tm_cert_file.specs.Reading.{Reading, HasPassed, ReaderStandsFor}
 use Rattle.tm_cert_file.proofs.Stages.{Holds-from_none}
-use Rattle.tm_cert_file.proofs.Looking.{Shaped-from_shape, seen_none}
-use Rattle.tm_cert_file.proofs.Passing.{passed-push}
+use Rattle.tm_cert_file.proofs.Looking.{Shaped-from_shape}
 use Rattle.tm_driver.specs.Driven.{but_last_turn}
-use Rattle.tm_driver.specs.Texts.{StopsAt}
-use Rattle.tm_driver.specs.declared.ending.Stop.{Stop}
-use Rattle.tm_driver.specs.declared.ending.Stop.TheVariants.{BadWindow, SinkFault}
-use Rattle.tm_driver.proofs.SinkTexts.{wrote-then}
-use Rattle.tm_path_commands.specs.Check.{bits_kept, windows_text}
-use Rattle.tm_path_commands.specs.Checking.{Passes, Breaks, Fails, NoneFails, StopsBy, WroteBy, TookAfter, TookPartAfter, WroteWindow, WroteWindowPrefix, window_of}
+use Rattle.tm_driver.specs.Staged.{Takes}
+use Rattle.tm_driver.specs.Writing.{Text, Out, Note, notes_of, out_of}
+use Rattle.tm_driver.proofs.Pieces.{piece-all}
+use Rattle.tm_path_commands.specs.Check.{bits_kept, end_text, windows_text}
+use Rattle.tm_path_commands.specs.Checking.{Checks, ChecksAll, Passes, StopsChecking, window_texts}
 use Rattle.tm_path_commands.specs.Lines.{bad_text, window_text}
-use Rattle.tm_path_commands.specs.declared.check_command.Progress.{Progress}
+use Rattle.tm_path_commands.specs.declared.check_command.Checking.{Checking}
 
--- ---- the octets and the lines of windows
+-- ---- the texts of windows
 
-pub windows_text-append : (number : ℕ) (xs ys : List Window)
-    → windows_text number (xs ++ ys) ≡ windows_text number xs ++ windows_text (number + length xs) ys
-windows_text-append number [] ys = let same : number ≡ number + 0 = omega arith in ap (λ n. windows_text n ys) same
-windows_text-append number (w ∷ xs) ys =
-    let line = window_text number w.steps w.kept w.metric in
+texts-append : (rate : Rate) (number t : ℕ) (xs ys : List Window)
+    → window_texts rate number t (xs ++ ys)
+    ≡ window_texts rate number t xs ++ window_texts rate (number + length xs) (t + bits_kept xs) ys
+texts-append rate number t [] ys =
+    let same : number ≡ number + 0 = omega arith in
+    let at : t ≡ t + 0 = omega arith in
+    (λ i. window_texts rate (same i) (at i) ys)
+texts-append rate number t (w ∷ xs) ys =
     let same : number + 1 + length xs ≡ number + suc (length xs) = omega arith in
-    ap (λ l. line ++ l) (windows_text-append (number + 1) xs ys
-    ∙ ap (λ n. windows_text (number + 1) xs ++ windows_text n ys) same)
-    ∙ sym (append_assoc line (windows_text (number + 1) xs) (windows_text (number + suc (length xs)) ys))
+    let at : t + w.kept + bits_kept xs ≡ t + (w.kept + bits_kept xs) = omega arith in
+    ap (λ (l : List Text). Out (kept_octets rate t w) ∷ Note (window_text number w.steps w.kept w.metric) ∷ l)
+    (texts-append rate (number + 1) (t + w.kept) xs ys
+    ∙ (λ i. window_texts rate (number + 1) (t + w.kept) xs ++ window_texts rate (same i) (at i) ys))
 
-pub all_kept-append : (rate : Rate) (t : ℕ) (xs ys : List Window)
-    → all_kept rate t (xs ++ ys) ≡ all_kept rate t xs ++ all_kept rate (t + bits_kept xs) ys
-all_kept-append rate t [] ys = let same : t ≡ t + 0 = omega arith in ap (λ n. all_kept rate n ys) same
-all_kept-append rate t (w ∷ xs) ys =
-    let kept = kept_octets rate t w in
-    let same : t + w.kept + bits_kept xs ≡ t + (w.kept + bits_kept xs) = omega arith in
-    ap (λ l. kept ++ l) (all_kept-append rate (t + w.kept) xs ys
-    ∙ ap (λ n. all_kept rate (t + w.kept) xs ++ all_kept rate n ys) same)
-    ∙ sym (append_assoc kept (all_kept rate (t + w.kept) xs) (all_kept rate (t + (w.kept + bits_kept xs)) ys))
+pub texts-more : (rate : Rate) (xs ys : List Window) → window_texts rate 0 0 (xs ++ ys)
+    ≡ window_texts rate 0 0 xs ++ window_texts rate (length xs) (bits_kept xs) ys
+texts-more rate xs ys =
+    let same : 0 + length xs ≡ length xs = omega arith in
+    let at : 0 + bits_kept xs ≡ bits_kept xs = omega arith in
+    texts-append rate 0 0 xs ys ∙ (λ i. window_texts rate 0 0 xs ++ window_texts rate (same i) (at i) ys)
+
+-- their octets, and their lines
+pub texts-are : (rate : Rate) (number t : ℕ) (windows : List Window)
+    → (out_of (window_texts rate number t windows) ≡ all_kept rate t windows)
+    × (notes_of (window_texts rate number t windows) ≡ windows_text number windows)
+texts-are rate number t [] = (refl, refl)
+texts-are rate number t (w ∷ windows) =
+    let rest = texts-are rate (number + 1) (t + w.kept) windows in (
+      ap (λ l. kept_octets rate t w ++ l) rest.0,
+      ap (λ l. window_text number w.steps w.kept w.metric ++ l) rest.1,
+    )
 
 bits_kept-append : (xs ys : List Window) → bits_kept (xs ++ ys) ≡ bits_kept xs + bits_kept ys
 bits_kept-append [] ys = omega arith
 bits_kept-append (w ∷ xs) ys = omega (arith, bits_kept-append xs ys)
-
-pub from-none : (n : ℕ) → 0 + n ≡ n
-from-none n = omega arith
-
--- of one window more
-pub line-more : (windows : List Window) (w : Window) → windows_text 0 (windows ++ w ∷ []) ≡ windows_text 0 windows
-    ++ window_text (length windows) w.steps w.kept w.metric
-line-more windows w =
-    windows_text-append 0 windows (w ∷ []) ∙ ap (λ l. windows_text 0 windows ++ l)
-    (ap (λ n. windows_text n (w ∷ [])) (from-none (length windows))
-    ∙ append-nil (window_text (length windows) w.steps w.kept w.metric))
-
-pub kept-more : (rate : Rate) (windows : List Window) (w : Window)
-    → all_kept rate 0 (windows ++ w ∷ []) ≡ all_kept rate 0 windows ++ kept_octets rate (bits_kept windows) w
-kept-more rate windows w =
-    all_kept-append rate 0 windows (w ∷ []) ∙ ap (λ l. all_kept rate 0 windows ++ l)
-    (ap (λ n. all_kept rate n (w ∷ [])) (from-none (bits_kept windows))
-    ∙ append-nil (kept_octets rate (bits_kept windows) w))
 
 -- ---- how many they are
 
@@ -105,156 +98,88 @@ few-are rules from to octets rest (w ∷ windows) are =
     (drop (window_size rules.rate from.t w.steps) octets) rest windows are.2 in
     (omega (arith, later.0), omega (arith, later.1))
 
--- ---- a window that passes
+-- ---- what is read
 
-module _ (rules : Rules) (r : Reading) (p : Progress) (start taken taken_now was noted noted_now : Option (List ℕ))
-    (given : List ℕ) (passed : HasPassed r)
-    (h : Passes rules r p start taken was noted given) where
-  -- the step at which it begins
-  at-place : r.before.t ≡ bits_kept h.windows
-  at-place =
-      place-is r.rules (at_first r.rules) r.before given r.octets h.windows h.stands ∙ from-none (bits_kept h.windows)
-
-  few : (bits_kept h.windows + length r.octets ≤ length given) × (length h.windows + length r.octets ≤ length given)
-  few = few-are r.rules (at_first r.rules) r.before given r.octets h.windows h.stands
-
-  keeps : kept_in r.octets ≤ length r.octets
-  keeps = let whole = passed.passed.whole in omega (arith, kept-within r.rules r.before r.octets passed.passed)
-
-  kept-same : kept_octets r.rules.rate r.before.t (window_of r)
-      ≡ kept_octets rules.rate (bits_kept h.windows) (window_of r)
-  kept-same = (λ i. kept_octets (h.same i).rate (at-place i) (window_of r))
-
-  line-same : window_text p.count (window_of r).steps (window_of r).kept (window_of r).metric
-      ≡ window_text (length h.windows) (window_of r).steps (window_of r).kept (window_of r).metric
-  line-same = ap (λ n. window_text n (window_of r).steps (window_of r).kept (window_of r).metric) h.count
-
-  -- it is taken to the others
-  pub passes-now : (after : Reading) (now : Progress) → length given < 2 ^ 43 → after.rules ≡ r.rules
-      → ((windows : List Window) → r.before.t + kept_in r.octets ≤ 2 ^ 43 → ReaderStandsFor r given windows
-      → ReaderStandsFor after given (windows ++ window_of r ∷ []))
-      → now.count ≡ min (p.count + 1) (2 ^ 64 - 1) → now.bits ≡ min (p.bits + kept_in r.octets) (2 ^ 64 - 1)
-      → WroteWindow r p.count taken taken_now noted noted_now
-      → Passes rules after now start taken_now was noted_now given
-  passes-now after now short same stands count bits wrote = record {
-    same = same ∙ h.same;
-    windows = h.windows ++ window_of r ∷ [];
-    stands = stands h.windows (omega (arith, at-place, few.0, keeps)) h.stands;
-    wrote = record {
-      out =
-          subst (Wrote start taken_now)
-          (ap (λ l. all_kept rules.rate 0 h.windows ++ l) kept-same
-          ∙ sym (kept-more rules.rate h.windows (window_of r)))
-          (wrote-then start taken taken_now (all_kept rules.rate 0 h.windows)
-          (kept_octets r.rules.rate r.before.t (window_of r)) h.wrote.out wrote.0);
-      notes =
-          subst (Wrote was noted_now)
-          (ap (λ l. windows_text 0 h.windows ++ l) line-same ∙ sym (line-more h.windows (window_of r)))
-          (wrote-then was noted noted_now (windows_text 0 h.windows)
-          (window_text p.count (window_of r).steps (window_of r).kept (window_of r).metric) h.wrote.notes
-          wrote.1);
-    };
-    count = count ∙ omega (arith, h.count, few.1, length-append h.windows (window_of r ∷ []));
-    bits = bits ∙ omega (arith, h.bits, few.0, keeps) ∙ sym (bits_kept-append h.windows (window_of r ∷ []));
-  }
-
-  -- all octets are read, and nothing is left of them
-  read-now : IsRead rules given (h.windows ++ window_of r ∷ []) More
-  read-now = subst (λ (k : Rules). IsRead k given (h.windows ++ window_of r ∷ []) More) h.same (record {
-    before = after_window r.rules r.before (window_of r);
-    rest = drop (window_size r.rules.rate r.before.t (steps_in r.octets)) r.octets;
-    passed = passed-push r.rules (at_first r.rules) r.before given r.octets h.windows h.stands passed.passed;
-    is_seen =
-        seen_none r.rules (after_window r.rules r.before (window_of r))
-        (drop (window_size r.rules.rate r.before.t (steps_in r.octets)) r.octets)
-        (drop_all (window_size r.rules.rate r.before.t (steps_in r.octets)) r.octets (omega (arith, passed.just)));
-    stops = λ no. cc no;
-  })
-
-  -- a sink failed in what is written for it
-  pub breaks-now : WroteWindowPrefix r p.count taken taken_now noted noted_now
-      → Breaks rules start taken_now was noted_now given
-  breaks-now part = record {
-    prefix = given;
-    rest = [];
-    split = sym (append-nil given);
-    windows = h.windows;
-    last = window_of r;
-    read = read-now;
-    stops =
-        elim part as (λ _. StopsAt (all_kept rules.rate 0 h.windows) (windows_text 0 h.windows)
-        (kept_octets rules.rate (bits_kept h.windows) (window_of r))
-        (window_text (length h.windows) (window_of r).steps (window_of r).kept (window_of r).metric) start taken_now
-        was noted_now) [
-          | inl q ↦ inl (
-            (
-              q.0.0,
-              subst (λ l. Wrote start taken_now (all_kept rules.rate 0 h.windows ++ take q.0.0 l)) kept-same
-                  (wrote-then start taken taken_now (all_kept rules.rate 0 h.windows)
-                  (take q.0.0 (kept_octets r.rules.rate r.before.t (window_of r))) h.wrote.out q.0.1),
-            ),
-            subst (Wrote was noted_now) (append-nil (windows_text 0 h.windows))
-                (wrote-then was noted noted_now (windows_text 0 h.windows) [] h.wrote.notes q.1),
-          )
-          | inr q ↦ inr (
-            subst (λ l. Wrote start taken_now (all_kept rules.rate 0 h.windows ++ l)) kept-same
-                (wrote-then start taken taken_now (all_kept rules.rate 0 h.windows)
-                (kept_octets r.rules.rate r.before.t (window_of r)) h.wrote.out q.0),
-            (
-              q.1.0,
-              subst (λ l. Wrote was noted_now (windows_text 0 h.windows ++ take q.1.0 l)) line-same
-                  (wrote-then was noted noted_now (windows_text 0 h.windows)
-                  (take q.1.0 (window_text p.count (window_of r).steps (window_of r).kept (window_of r).metric))
-                  h.wrote.notes q.1.1),
-            ),
-          )
-        ];
-  }
-
--- ---- more octets
-
--- nothing more is seen of the window
-pub passes-more : (rules : Rules) (r after : Reading) (p : Progress) (start taken was noted : Option (List ℕ))
-    (given more : List ℕ) → after.rules ≡ r.rules
-    → ((windows : List Window) → ReaderStandsFor r given windows → ReaderStandsFor after (given ++ more) windows)
-    → Passes rules r p start taken was noted given → Passes rules after p start taken was noted (given ++ more)
-passes-more rules r after p start taken was noted given more same stands h = record {
-  same = same ∙ h.same;
-  windows = h.windows;
-  stands = stands h.windows h.stands;
-  wrote = h.wrote;
-  count = h.count;
-  bits = h.bits;
+-- more octets, by which nothing is seen of the next window before the last of them
+pub passes-more : (new before now : Checking) (given more : List ℕ) (texts : List Text)
+    → now.reader.rules ≡ before.reader.rules → now.tally ≡ before.tally
+    → ((windows : List Window) → ReaderStandsFor before.reader given windows
+    → ReaderStandsFor now.reader (given ++ more) windows)
+    → Passes new before given texts → Passes new now (given ++ more) texts
+passes-more new before now given more texts rules tally stands p = record {
+  rules = rules ∙ p.rules;
+  windows = p.windows;
+  stands = stands p.windows p.stands;
+  blocks = ap (λ t. t.blocks) tally ∙ p.blocks;
+  bits = ap (λ t. t.bits) tally ∙ p.bits;
+  are = p.are;
 }
 
--- a sink failed before
-pub breaks-longer : (rules : Rules) (start taken was noted : Option (List ℕ)) (given more : List ℕ)
-    → Breaks rules start taken was noted given → Breaks rules start taken was noted (given ++ more)
-breaks-longer rules start taken was noted given more b = record {
-  prefix = b.prefix;
-  rest = b.rest ++ more;
-  split = ap (λ l. l ++ more) b.split ∙ append_assoc b.prefix b.rest more;
-  windows = b.windows;
-  last = b.last;
-  read = b.read;
-  stops = b.stops;
-}
+-- the window that passed, in a reader's octets
+abbrev pub window_of : Reading → Window
+window_of r = window_in r.rules.rate r.before.t r.octets
+
+abbrev pub texts_of : Checking → List Text
+texts_of k =
+    let w = window_of k.reader in
+    Out (kept_octets k.reader.rules.rate k.reader.before.t w)
+    ∷ Note (window_text k.tally.blocks w.steps w.kept w.metric) ∷ []
+
+-- a window that passed, once its texts were given, and it was counted
+pub passes-window : (new before now : Checking) (given : List ℕ) (texts : List Text) → length given ≤ most_limit
+    → HasPassed before.reader → now.reader.rules ≡ before.reader.rules
+    → ((windows : List Window) → before.reader.before.t + kept_in before.reader.octets ≤ 2 ^ 43
+    → ReaderStandsFor before.reader given windows
+    → ReaderStandsFor now.reader given (windows ++ window_of before.reader ∷ []))
+    → now.tally.blocks ≡ min (before.tally.blocks + 1) (2 ^ 64 - 1)
+    → now.tally.bits ≡ min (before.tally.bits + kept_in before.reader.octets) (2 ^ 64 - 1)
+    → Passes new before given texts → Passes new now given (texts ++ texts_of before)
+passes-window new before now given texts short passed same stands blocks bits p =
+    let r = before.reader in
+    let w = window_of r in
+    let place : r.before.t ≡ bits_kept p.windows =
+    omega (arith, place-is r.rules (at_first r.rules) r.before given r.octets p.windows p.stands) in
+    let few = few-are r.rules (at_first r.rules) r.before given r.octets p.windows p.stands in
+    let whole = passed.passed.whole in
+    let keeps : kept_in r.octets ≤ length r.octets =
+    omega (arith, kept-within r.rules r.before r.octets passed.passed) in
+    record {
+      rules = same ∙ p.rules;
+      windows = p.windows ++ w ∷ [];
+      stands = stands p.windows (omega (arith, place, few.0, keeps)) p.stands;
+      blocks = blocks ∙ omega (arith, p.blocks, few.1, length-append p.windows (w ∷ []));
+      bits = bits ∙ omega (arith, p.bits, few.0, keeps, bits_kept-append p.windows (w ∷ []));
+      are = (λ i. p.are i ++ Out (kept_octets (p.rules i).rate (place i) w)
+          ∷ Note (window_text (p.blocks i) w.steps w.kept w.metric) ∷ [])
+          ∙ sym (texts-more new.reader.rules.rate p.windows (w ∷ []));
+    }
+
+-- what is seen is seen by a reader as it is now
+pub seen-now : (r now : Reading) (seen other : Seen) → now.rules ≡ r.rules → now.before ≡ r.before → seen ≡ other
+    → IsSeen r.rules r.before now.octets seen → IsSeen now.rules now.before now.octets other
+seen-now r now seen other rules before same is =
+    subst (λ k. IsSeen k now.before now.octets other) (sym rules)
+    (subst (λ b. IsSeen r.rules b now.octets other) (sym before)
+    (subst (IsSeen r.rules r.before now.octets) same is))
 
 -- what is read of octets so far
-abbrev pub read-so_far : (rules : Rules) (r : Reading) (p : Progress) (start taken was noted : Option (List ℕ))
-    (given : List ℕ) (seen : Seen)
-    → (h : Passes rules r p start taken was noted given) → IsSeen r.rules r.before r.octets seen → (seen ≡ Passed → ⊥)
-    → IsRead rules given h.windows seen
-read-so_far rules r p start taken was noted given seen h is stops =
+abbrev pub read-so_far : (new now : Checking) (given : List ℕ) (texts : List Text) (seen : Seen)
+    → (p : Passes new now given texts) → IsSeen now.reader.rules now.reader.before now.reader.octets seen
+    → (seen ≡ Passed → ⊥) → IsRead new.reader.rules given p.windows seen
+read-so_far new now given texts seen p is stops =
     record {
-      before = r.before;
-      rest = r.octets;
-      passed = subst (λ (k : Rules). ArePassed k (at_first k) given h.windows r.before r.octets) h.same h.stands;
-      is_seen = subst (λ (k : Rules). IsSeen k r.before r.octets seen) h.same is;
+      before = now.reader.before;
+      rest = now.reader.octets;
+      passed =
+          subst (λ (k : Rules). ArePassed k (at_first k) given p.windows now.reader.before now.reader.octets) p.rules
+          p.stands;
+      is_seen = subst (λ (k : Rules). IsSeen k now.reader.before now.reader.octets seen) p.rules is;
       stops = stops;
     }
 
--- whatever octets come, a window that fails does so
+-- ---- a window that fails
+
+-- whatever octets come, it does so
 abbrev pub ReadStays : Type 0
 ReadStays =
     (rules : Rules) (octets more : List ℕ) (windows : List Window) (reason : Reason)
@@ -267,73 +192,74 @@ ReadOne =
     (read : IsRead rules octets windows seen) (again : IsRead rules octets others other)
     → (windows ≡ others) × (seen ≡ other) × (read.before ≡ again.before) × (read.rest ≡ again.rest)
 
--- while a window is read none fails before
-pub none-fails : ReadStays → ReadOne → (rules : Rules) (r : Reading) (p : Progress)
-    (start taken was noted : Option (List ℕ)) (given piece : List ℕ) → length piece ≤ 4096
-    → IsOpen r → Passes rules r p start taken was noted given → NoneFails rules (but_last_turn (given ++ piece))
-none-fails stays one rules r p start taken was noted given piece few is_open h = λ windows reason broken.
+-- none fails before the last turn, in which nothing was seen of the next window at first
+none-fails : ReadStays → ReadOne → (new now : Checking) (given piece : List ℕ) (texts : List Text)
+    → length piece ≤ 4096 → Checks new now given texts → (windows : List Window) (reason : Reason)
+    → IsBroken new.reader.rules (but_last_turn (given ++ piece)) windows reason → ⊥
+none-fails stays one new now given piece texts few c windows reason broken =
+    let rules = new.reader.rules in
     let n = length (given ++ piece) - 4096 in
     let prefix = take-append-le n given piece (omega (arith, length-append given piece)) in
     let early = stays rules (take n given) (drop n given) windows reason
     (subst (λ o. IsRead rules o windows (Failed reason)) prefix broken) in
     let all = subst (λ o. IsRead rules o windows (Failed reason)) (take-append-drop n given) early in
-    let same = one rules given windows h.windows (Failed reason) More all
-    (read-so_far rules r p start taken was noted given More h is_open (λ no. cc no)) in
+    let same = one rules given windows c.1.windows (Failed reason) More all
+    (read-so_far new now given texts More c.1 c.0 (λ no. cc no)) in
     cc same.1
 
--- the window fails, and something was taken of the line that says so
-fails-now : (Took : (before now : Option (List ℕ)) → (first text : List ℕ) → Type 0) → ReadStays
-    → (rules : Rules) (r : Reading) (p : Progress)
-    (start taken was noted noted_now : Option (List ℕ)) (given more : List ℕ) (reason : Reason)
-    → IsSeen r.rules r.before r.octets (Failed reason)
-    → (h : Passes rules r p start taken was noted given) → NoneFails rules (but_last_turn (given ++ more))
-    → Took was noted_now (windows_text 0 h.windows) (bad_text (length h.windows) reason)
-    → Fails Took rules start taken was noted_now (given ++ more)
-fails-now Took stays rules r p start taken was noted noted_now given more reason is h late took = record {
-  windows = h.windows;
-  reason = reason;
-  broken = stays rules given more h.windows reason
-      (read-so_far rules r p start taken was noted given (Failed reason) h is (λ no. cc no));
-  out = h.wrote.out;
-  notes = took;
-  late = late;
-}
-
--- checking stops by it
-pub stops-now : ReadStays → (stop : Stop) (rules : Rules) (r : Reading) (p : Progress)
-    (start taken was noted noted_now : Option (List ℕ)) (given more : List ℕ)
-    (reason : Reason) → IsSeen r.rules r.before r.octets (Failed reason) → Passes rules r p start taken was noted given
-    → NoneFails rules (but_last_turn (given ++ more)) → WroteBy stop noted noted_now (bad_text p.count reason)
-    → StopsBy stop rules start taken was noted_now (given ++ more)
-stops-now stays BadWindow rules r p start taken was noted noted_now given more reason is h late reported =
-    fails-now TookAfter stays rules r p start taken was noted noted_now given more reason is h late
-    (wrote-then was noted noted_now (windows_text 0 h.windows) (bad_text (length h.windows) reason) h.wrote.notes
-    (subst (λ (n : ℕ). Wrote noted noted_now (bad_text n reason)) h.count reported))
-stops-now stays SinkFault rules r p start taken was noted noted_now given more reason is h late reported =
-    inr (fails-now TookPartAfter stays rules r p start taken was noted noted_now given more reason is h late (
-      reported.0,
-      wrote-then was noted noted_now (windows_text 0 h.windows)
-          (take reported.0 (bad_text (length h.windows) reason)) h.wrote.notes
-          (subst (λ (n : ℕ). Wrote noted noted_now (take reported.0 (bad_text n reason))) h.count reported.1),
-    ))
-
--- what is seen is seen by the reader as it is now
-pub seen-now : (r after : Reading) (seen other : Seen) → after.rules ≡ r.rules → after.before ≡ r.before
-    → seen ≡ other → IsSeen r.rules r.before after.octets seen
-    → IsSeen after.rules after.before after.octets other
-seen-now r after seen other rules before same is =
-    subst (λ k. IsSeen k after.before after.octets other) (sym rules)
-    (subst (λ b. IsSeen r.rules b after.octets other) (sym before)
-    (subst (IsSeen r.rules r.before after.octets) same is))
-
--- the octets before and after a place are as few as all
-pub rest-short : (given piece : List ℕ) (at : ℕ) → at ≤ length piece → length given + length piece < 2 ^ 43
-    → length (given ++ take at piece) + length (take (length piece - at) (drop at piece)) < 2 ^ 43
-rest-short given piece at within short =
-    omega (
-      arith,
-      length-append given (take at piece),
-      length-take-le at piece within,
-      ap length (take_rest piece at),
-      length-drop at piece,
+-- checking stops by it, in a piece that follows these octets, of which `more` was not taken
+stops-now : ReadStays → ReadOne → (new before now : Checking) (given piece taken more : List ℕ)
+    (texts texts_now : List Text) (reason : Reason)
+    → length piece ≤ 4096 → given ++ piece ≡ taken ++ more → Checks new before given texts
+    → Passes new now taken texts_now → IsSeen now.reader.rules now.reader.before now.reader.octets (Failed reason)
+    → StopsChecking new now (given ++ piece) (texts_now ++ Note (bad_text now.tally.blocks reason) ∷ [])
+stops-now stays one new before now given piece taken more texts texts_now reason few same c p is =
+    let rules = new.reader.rules in
+    let read : IsRead rules (given ++ piece) p.windows (Failed reason) =
+    subst (λ o. IsRead rules o p.windows (Failed reason)) (sym same)
+    (stays rules taken more p.windows reason (read-so_far new now taken texts_now (Failed reason) p is (λ no. cc no)))
+    in (
+      (
+        reason,
+        is_cut read.before.next read.rest,
+        record {
+          windows = p.windows;
+          read = read;
+          ends = refl;
+          are = (λ i. p.are i ++ Note (bad_text (p.blocks i) reason) ∷ []);
+        },
+      ),
+      none-fails stays one new before given piece texts few c,
     )
+
+-- it fails by the last octets that were taken of a piece
+pub takes-failing : {T : Type 0} (took : T → Text → T → Type 0) → ReadStays → ReadOne → (before now : Checking)
+    (taker middle taker_now : T) (piece : List ℕ) (count : ℕ) (reason : Reason) → length piece ≤ 4096
+    → IsSeen now.reader.rules now.reader.before now.reader.octets (Failed reason)
+    → took middle (Note (bad_text now.tally.blocks reason)) taker_now
+    → Takes took Checks Passes before now taker middle (take count piece)
+    → Takes took Checks StopsChecking before now taker taker_now piece
+takes-failing took stays one before now taker middle taker_now piece count reason small is noted t =
+    let line : Text = Note (bad_text now.tally.blocks reason) in record {
+      texts = t.texts ++ line ∷ [];
+      handed = HandedOver-push took taker middle taker_now t.texts line t.handed noted;
+      stands = λ new given done few stood.
+          subst (StopsChecking new now (given ++ piece)) (append_assoc done t.texts (line ∷ []))
+          (stops-now stays one new before now given piece (given ++ take count piece) (drop count piece) done
+          (done ++ t.texts) reason small (sym (piece-all given piece count)) stood
+          (t.stands new given done (omega (arith, few, length-take count piece)) stood) is);
+    }
+
+-- ---- the end
+
+-- the certificate is cut, or it is whole
+pub checks-all : (new now : Checking) (given : List ℕ) (texts : List Text) (cut : Bool) (end : List ℕ)
+    → is_cut now.reader.before.next now.reader.octets ≡ cut → (c : Checks new now given texts)
+    → end ≡ end_text More cut c.1.windows
+    → ChecksAll new.reader.rules More cut given (texts ++ Note end ∷ [])
+checks-all new now given texts cut end is c same = record {
+  windows = c.1.windows;
+  read = read-so_far new now given texts More c.1 c.0 (λ no. cc no);
+  ends = is;
+  are = (λ i. c.1.are i ++ Note (same i) ∷ []);
+}

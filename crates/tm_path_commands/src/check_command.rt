@@ -1,282 +1,95 @@
 // The command `check`: a certificate is read, and each of its windows is checked.
-ghost use Rattle.std.specs.Prelude.{◌≡◌, ◌≢◌, ℕ, ◌+◌, ◌<◌, ◌≤◌, List, ◌++◌, length, take, true, Option, None, OnOk, OnErr, IfOk, IfErr};
-ghost use Rattle.tm_base.specs.Outside.{HasCause};
+ghost use Rattle.std.specs.Prelude.{◌≡◌, ◌≢◌, [], true, None, OnErr, IfOk};
 ghost use Rattle.tm_driver.specs.Answered.{Answered};
-ghost use Rattle.tm_driver.specs.Courses.{SinkWent, SinksWent, sink_call, source_call};
-ghost use Rattle.tm_driver.specs.Statuses.{ending_at_end, ending_of_stop, failed_at_end, failed_in_piece, is_sink_fault};
-ghost use Rattle.tm_driver.specs.Driven.{turn_size};
-ghost use Rattle.tm_driver.specs.declared.ending.Ending.TheVariants.{SinkFault};
-ghost use Rattle.tm_driver.specs.declared.ending.Outcome.TheVariants.{Bad};
-ghost use Rattle.tm_cert_file.specs.Before.{Rules, most_kept};
+ghost use Rattle.tm_driver.specs.Courses.{sink_call, source_call};
+ghost use Rattle.tm_driver.specs.Staged.{Takes};
 ghost use Rattle.tm_cert_file.specs.Passes.{starts_by};
 ghost use Rattle.tm_cert_file.specs.Reading.{HasPassed, IsOpen};
 ghost use Rattle.tm_path_commands.specs.Check.{check_meaning};
-ghost use Rattle.tm_path_commands.specs.Checking.{Passes, Breaks, EndsBy, StopsBy, WroteBy, WroteWindow, WroteWindowPrefix};
-ghost use Rattle.tm_path_commands.specs.Lines.{bad_text};
+ghost use Rattle.tm_path_commands.specs.Checking.{Checks, Passes};
 
-use crate::window_lines::{bad_line, blocks_line, cut_line, window_line};
+use crate::tally::Tally;
+use crate::window_lines::{bad_text, cut_text, trace_end_text, window_text};
 use std::alloc::Global;
-use tm_base::{Failed, NoMemory, Sink, Source, put_all};
-use tm_cert_file::{Reader, Reason, Seen, read_law};
+use tm_base::{NoMemory, Sink, Source};
+use tm_cert_file::{Reader, Seen, read_law};
 use tm_config::Config;
-use tm_driver::{Ending, Feed, Outcome, Stop, drive};
+use tm_driver::{Ending, Outcome, Stage, TextTaker, drive_stage};
 use tm_inner::{is_inverted, rate_of};
 use tm_path_cert::Starts;
 use tm_viterbi::Start;
 
-/// The windows that passed, and how many of their steps are kept.
-#[derive(Clone, Copy)]
-pub struct Progress {
-    pub count: u64,
-    pub bits: u64,
+// A certificate that is being read, and the windows that passed, with the steps that they keep.
+#[derive(Drop)]
+struct Checking {
+    reader: Reader,
+    tally: Tally,
 }
 
-// Writes the soft octets of the kept steps of the window that passed, and its line.
-fn write_window<O: Sink, N: Sink>(
-    reader: &Reader,
-    number: u64,
-    out: &mut O,
-    notes: &mut N,
-) -> Result<(), Failed>
-    requires { HasPassed reader.now }
-    ensures ok { OnOk result (WroteWindow reader.now number (O.taken out.old) (O.taken out.new) (N.taken notes.old)
-        (N.taken notes.new)) }
-    ensures err { OnErr result (WroteWindowPrefix reader.now number (O.taken out.old) (O.taken out.new)
-        (N.taken notes.old) (N.taken notes.new)) }
-    ensures sinks { SinksWent (failed_at_end result) (sink_call O.taken O.faults O.is_last out.old out.new)
-        (sink_call N.taken N.faults N.is_last notes.old notes.new) }
-{
-    match put_all(out, reader.kept_octets()) {
-        Ok(()) => window_line(
-            notes,
-            number,
-            reader.steps(),
-            reader.kept(),
-            reader.metric(),
-        ),
-        Err(Failed) => Err(Failed),
+impl Checking {
+    // Gives the soft octets of the kept steps of the window that passed, and its line, counts it, and begins the next.
+    fn give_window<W: TextTaker>(&mut self, texts: &mut W)
+        requires { HasPassed self.old.reader }
+        ensures open { IsOpen self.new.reader }
+        ensures given { Takes W.took Passes Checks self.old self.new texts.old texts.new [] }
+    {
+        texts.out(self.reader.kept_octets());
+        let line = window_text(
+            self.tally.blocks,
+            self.reader.steps(),
+            self.reader.kept(),
+            self.reader.metric(),
+        );
+        texts.note(line.octets());
+        self.tally = Tally {
+            blocks: self.tally.blocks.saturating_add(1),
+            bits: self
+                .tally
+                .bits
+                .saturating_add(u64::from(self.reader.kept())),
+        };
+        self.reader.next_window();
     }
 }
 
-// Writes what the window that passed gives, counts it, and begins the next one.
-fn end_window<O: Sink, N: Sink>(
-    reader: &mut Reader,
-    progress: &mut Progress,
-    out: &mut O,
-    notes: &mut N,
-) -> Result<(), Failed>
-    requires { HasPassed reader.old }
-    ensures open { OnOk result (IsOpen reader.new) }
-    ensures ok { OnOk result ((rules : Rules) (start noted : Option (List ℕ)) (given : List ℕ)
-        → length given < most_kept
-        → Passes rules reader.old progress.old start (O.taken out.old) noted (N.taken notes.old) given
-        → Passes rules reader.new progress.new start (O.taken out.new) noted (N.taken notes.new) given) }
-    ensures err { OnErr result ((rules : Rules) (start noted : Option (List ℕ)) (given : List ℕ)
-        → length given < most_kept
-        → Passes rules reader.old progress.old start (O.taken out.old) noted (N.taken notes.old) given
-        → Breaks rules start (O.taken out.new) noted (N.taken notes.new) given) }
-    ensures sinks { SinksWent (failed_at_end result) (sink_call O.taken O.faults O.is_last out.old out.new)
-        (sink_call N.taken N.faults N.is_last notes.old notes.new) }
-{
-    match write_window(reader, progress.count, out, notes) {
-        Ok(()) => {
-            progress.count = progress.count.saturating_add(1);
-            progress.bits = progress.bits.saturating_add(u64::from(reader.kept()));
-            reader.next_window();
-            Ok(())
-        }
-        Err(Failed) => Err(Failed),
-    }
-}
-
-// Writes which window fails, and why. Returns what checking stops by then.
-fn write_failed<N: Sink>(number: u64, reason: Reason, notes: &mut N) -> Stop
-    ensures line { WroteBy result (N.taken notes.old) (N.taken notes.new) (bad_text number reason) }
-    ensures course { SinkWent (is_sink_fault (ending_of_stop result))
-        (sink_call N.taken N.faults N.is_last notes.old notes.new) }
-{
-    match bad_line(notes, number, reason) {
-        Ok(()) => Stop::BadWindow,
-        Err(Failed) => Stop::SinkFault,
-    }
-}
-
-// Takes octets of a certificate from the start of `piece`, until something is seen of its next window, and returns how
-// many. It stops where this window fails, which the notes then say, or a sink.
-fn check_window<O: Sink, N: Sink>(
-    reader: &mut Reader,
-    progress: &mut Progress,
-    out: &mut O,
-    notes: &mut N,
-    piece: &[u8],
-) -> Result<usize, Stop>
-    requires open { IsOpen reader.old }
-    requires some { 0 < length piece.now }
-    requires few { length piece.now ≤ turn_size }
-    ensures open { OnOk result (IsOpen reader.new) }
-    ensures count { IfOk result (λ count. (0 < count) × (count ≤ length piece.now)) }
-    ensures ok { IfOk result (λ count. (rules : Rules) (start noted : Option (List ℕ)) (given : List ℕ)
-        → length given + length piece.now < most_kept
-        → Passes rules reader.old progress.old start (O.taken out.old) noted (N.taken notes.old) given
-        → Passes rules reader.new progress.new start (O.taken out.new) noted (N.taken notes.new)
-        (given ++ take count piece.now)) }
-    ensures stopped { IfErr result (λ stop. (rules : Rules) (start noted : Option (List ℕ)) (given : List ℕ)
-        → length given + length piece.now < most_kept
-        → Passes rules reader.old progress.old start (O.taken out.old) noted (N.taken notes.old) given
-        → StopsBy stop rules start (O.taken out.new) noted (N.taken notes.new) (given ++ piece.now)) }
-    ensures sinks { SinksWent (failed_in_piece result) (sink_call O.taken O.faults O.is_last out.old out.new)
-        (sink_call N.taken N.faults N.is_last notes.old notes.new) }
-{
-    read_law();
-    let (taken, seen) = reader.push(piece);
-    match seen {
-        Seen::More => Ok(taken),
-        Seen::Passed => match end_window(reader, progress, out, notes) {
-            Ok(()) => Ok(taken),
-            Err(Failed) => Err(Stop::SinkFault),
-        },
-        Seen::Failed(reason) => Err(write_failed(progress.count, reason, notes)),
-    }
-}
-
-// Takes the next octets of a certificate, and writes what each window gives that passes. It stops at the first one that
-// fails, which the notes then say, or where a sink fails.
-fn check_octets<O: Sink, N: Sink>(
-    reader: &mut Reader,
-    progress: &mut Progress,
-    out: &mut O,
-    notes: &mut N,
-    octets: &[u8],
-) -> Result<(), Stop>
-    requires open { IsOpen reader.old }
-    requires few { length octets.now ≤ turn_size }
-    ensures open { OnOk result (IsOpen reader.new) }
-    ensures ok { OnOk result ((rules : Rules) (start noted : Option (List ℕ)) (given : List ℕ)
-        → length given + length octets.now < most_kept
-        → Passes rules reader.old progress.old start (O.taken out.old) noted (N.taken notes.old) given
-        → Passes rules reader.new progress.new start (O.taken out.new) noted (N.taken notes.new)
-        (given ++ octets.now)) }
-    ensures stopped { IfErr result (λ stop. (rules : Rules) (start noted : Option (List ℕ)) (given : List ℕ)
-        → length given + length octets.now < most_kept
-        → Passes rules reader.old progress.old start (O.taken out.old) noted (N.taken notes.old) given
-        → StopsBy stop rules start (O.taken out.new) noted (N.taken notes.new) (given ++ octets.now)) }
-    ensures sinks { SinksWent (failed_in_piece result) (sink_call O.taken O.faults O.is_last out.old out.new)
-        (sink_call N.taken N.faults N.is_last notes.old notes.new) }
-{
-    let mut at = 0;
-    while at < octets.len() {
-        match check_window(reader, progress, out, notes, &octets[at..]) {
-            Ok(taken) => at += taken,
-            Err(stop) => return Err(stop),
-        }
-    }
-    Ok(())
-}
-
-// Writes where the certificate is cut at its end, or what it comes to. Returns what came of it by that.
-fn write_end<N: Sink>(reader: &Reader, progress: Progress, notes: &mut N) -> Result<Outcome, Failed>
-    requires { IsOpen reader.now }
-    ensures finished { IfOk result (λ outcome. (out : Option (List ℕ))
-        → EndsBy (ending_at_end outcome) reader.now progress out (N.taken notes.old) out (N.taken notes.new)) }
-    ensures not_bad { IfOk result (λ outcome. outcome ≡ Bad → ⊥) }
-    ensures failed { OnErr result ((out : Option (List ℕ))
-        → EndsBy SinkFault reader.now progress out (N.taken notes.old) out (N.taken notes.new)) }
-    ensures cause { HasCause (N.faults notes.old) (N.faults notes.new) (N.is_last notes.new) result }
-{
-    read_law();
-    if reader.is_cut() {
-        match cut_line(notes, progress.count) {
-            Ok(()) => Ok(Outcome::LeftOver),
-            Err(Failed) => Err(Failed),
-        }
-    } else {
-        match blocks_line(notes, progress.count, progress.bits, 0) {
-            Ok(()) => Ok(Outcome::Done),
-            Err(Failed) => Err(Failed),
-        }
-    }
-}
-
-// A certificate that is being read, how far it is checked, and what its windows are written to.
-struct Checking<'a, 'b, 'c, O, N> {
-    reader: &'a mut Reader,
-    progress: Progress,
-    out: &'b mut O,
-    notes: &'c mut N,
-}
-
-impl<'a, 'b, 'c, O: Sink, N: Sink> Feed for Checking<'a, 'b, 'c, O, N> {
-    ghost use Rattle.std.specs.Prelude.{◌≡◌, ◌<◌, ◌++◌, length, refl};
-    ghost use Rattle.std.proofs.Common.{◌∙◌, subst, sym, append_assoc};
-    ghost use Rattle.std.proofs.lemmas.List.{append-nil};
-    ghost use Rattle.tm_driver.specs.Courses.{SinksWent, sink_call};
-    ghost use Rattle.tm_driver.specs.Statuses.{ending_at_end};
-    ghost use Rattle.tm_driver.specs.declared.ending.Ending.TheVariants.{SinkFault};
-    ghost use Rattle.tm_driver.specs.declared.ending.Outcome.TheVariants.{Bad};
-    ghost use Rattle.tm_driver.proofs.TwoSinks.{fault-after};
+impl Stage for Checking {
     ghost use Rattle.tm_cert_file.specs.Reading.{IsOpen};
-    ghost use Rattle.tm_cert_file.specs.Before.{most_kept};
-    ghost use Rattle.tm_path_commands.specs.Checking.{EndsBy, Passes, PassesMore, StopsBy, StopsInPiece};
+    ghost use Rattle.tm_path_commands.specs.Checking.{Checks, EndsChecking, StopsChecking};
 
-    ghost fed = { λ a b octets. IsOpen b.reader.now
-        × PassesMore a.reader.now a.progress (O.taken a.out.now) (N.taken a.notes.now)
-        b.reader.now b.progress (O.taken b.out.now) (N.taken b.notes.now) octets };
+    ghost stands = { Checks };
 
-    ghost stopped = { λ a b octets stop. StopsInPiece stop a.reader.now a.progress (O.taken a.out.now)
-        (N.taken a.notes.now)
-        (O.taken b.out.now) (N.taken b.notes.now) octets };
+    ghost stopped = { StopsChecking };
 
-    ghost finished = { λ a b outcome. (outcome ≡ Bad → ⊥)
-        × EndsBy (ending_at_end outcome) a.reader.now a.progress (O.taken a.out.now) (N.taken a.notes.now)
-        (O.taken b.out.now) (N.taken b.notes.now) };
+    ghost finished = { EndsChecking };
 
-    ghost failed = { λ a b. EndsBy SinkFault a.reader.now a.progress (O.taken a.out.now) (N.taken a.notes.now)
-        (O.taken b.out.now) (N.taken b.notes.now) };
+    ghost is_ready = { λ t. IsOpen t.reader };
 
-    ghost sinks = { λ a b failed. SinksWent failed (sink_call O.taken O.faults O.is_last a.out.now b.out.now)
-        (sink_call N.taken N.faults N.is_last a.notes.now b.notes.now) };
-
-    ghost same = { λ a b. (b.reader.ghost_name ≡ a.reader.ghost_name) × (b.out.ghost_name ≡ a.out.ghost_name)
-        × (b.notes.ghost_name ≡ a.notes.ghost_name) };
-
-    ghost is_ready = { λ e. IsOpen e.reader.now };
-
-    ghost same_none = { λ a. (refl, refl, refl) };
-
-    ghost same_more = { λ a b c p q. (q.0 ∙ p.0, q.1 ∙ p.1, q.2 ∙ p.2) };
-
-    ghost fed_none = { λ a ready. (
-      ready,
-      λ rules start noted given.
-          subst (λ o. length o < most_kept → Passes rules a.reader.now a.progress start (O.taken a.out.now) noted
-          (N.taken a.notes.now) o) (sym (append-nil given)),
-    ) };
-
-    ghost fed_more = { λ a b last first second p q. (
-      q.0,
-      λ rules start noted given was.
-          subst (λ o. length o < most_kept
-          → Passes rules last.reader.now last.progress start (O.taken last.out.now) noted
-          (N.taken last.notes.now) o)
-          (append_assoc given first second) (q.1 rules start noted (given ++ first) (p.1 rules start noted given was)),
-    ) };
-
-    ghost stopped_more = { λ a b last first second stop p q. λ rules start noted given was.
-        subst (λ o. length o < most_kept → StopsBy stop rules start (O.taken last.out.now) noted
-        (N.taken last.notes.now) o)
-        (append_assoc given first second) (q rules start noted (given ++ first) (p.1 rules start noted given was)) };
-
-    ghost sinks_none = { λ a. (refl, refl) };
-
-    ghost sinks_more = { λ a b c failed p q. fault-after failed _ _ _ (O.is_last b.out.now) (O.is_last c.out.now)
-        _ _ _ (N.is_last b.notes.now) (N.is_last c.notes.now) p q };
-
-    fn feed(&mut self, piece: &[u8]) -> Result<(), Stop> {
-        check_octets(self.reader, &mut self.progress, self.out, self.notes, piece)
+    // Takes no more at the first window that fails, which the notes then say.
+    fn feed<W: TextTaker>(&mut self, piece: &[u8], texts: &mut W) -> bool {
+        read_law();
+        let mut at = 0;
+        while at < piece.len() {
+            let (taken, seen) = self.reader.push(&piece[at..]);
+            at += taken;
+            match seen {
+                Seen::More => {}
+                Seen::Passed => self.give_window(texts),
+                Seen::Failed(reason) => {
+                    texts.note(bad_text(self.tally.blocks, reason).octets());
+                    return false;
+                }
+            }
+        }
+        true
     }
 
-    fn finish(&mut self) -> Result<Outcome, Failed> {
-        write_end(self.reader, self.progress, self.notes)
+    fn finish<W: TextTaker>(&mut self, texts: &mut W) -> Outcome {
+        if self.reader.is_cut() {
+            texts.note(cut_text(self.tally.blocks).octets());
+            return Outcome::LeftOver;
+        }
+        texts.note(trace_end_text(self.tally.blocks, self.tally.bits, 0).octets());
+        Outcome::Done
     }
 }
 
@@ -315,7 +128,7 @@ pub fn check<S: Source, O: Sink, N: Sink>(
     let keep = config.keep() as u32;
     let ahead = config.ahead() as u32;
     let rate = rate_of(config).unwrap();
-    let Ok(mut reader) = Reader::open(
+    let Ok(reader) = Reader::open(
         alloc,
         rate,
         is_inverted(rate, config.values().invert),
@@ -326,17 +139,8 @@ pub fn check<S: Source, O: Sink, N: Sink>(
         return Err(NoMemory);
     };
     let mut checking = Checking {
-        reader: &mut reader,
-        progress: Progress { count: 0, bits: 0 },
-        out,
-        notes,
+        reader,
+        tally: Tally { blocks: 0, bits: 0 },
     };
-    let ending = drive(config.limit(), source, &mut checking);
-    let Checking {
-        reader: _,
-        progress: _,
-        out: _,
-        notes: _,
-    } = checking;
-    Ok(ending)
+    Ok(drive_stage(config.limit(), source, &mut checking, out, notes))
 }

@@ -1,4 +1,4 @@
-// How far the windows of a trace are reported.
+// How far windows are reported.
 
 /// The windows that were reported, and the bits that they keep, each up to 2^64-1.
 #[derive(Clone, Copy, Debug, PartialEq, Eq)]

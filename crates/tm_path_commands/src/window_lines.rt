@@ -11,23 +11,13 @@ use tm_cert_file::Reason;
 use tm_driver::{Line, add_slips};
 use tm_viterbi::Block;
 
-/// Writes a window, the one of this number: `block K steps n kept m metric M`. `Failed` comes only where the sink's
-/// count of faults rose.
-pub fn window_line<O: Sink>(
-    out: &mut O,
-    number: u64,
-    steps: u32,
-    kept: u32,
-    metric: u64,
-) -> Result<(), Failed>
-    ensures ok { OnOk result (Wrote (O.taken out.old) (O.taken out.new) (window_text number steps kept metric)) }
-    ensures err { OnErr result (WrotePrefix (O.taken out.old) (O.taken out.new)
-        (window_text number steps kept metric)) }
-    ensures cause { HasCause (O.faults out.old) (O.faults out.new) (O.is_last out.new) result }
+/// A window, the one of this number: `block K steps n kept m metric M`.
+pub fn window_text(number: u64, steps: u32, kept: u32, metric: u64) -> Line
+    ensures { result ≡ window_text number steps kept metric }
 {
     let mut line = Line::new();
     add_window(&mut line, number, steps, kept, metric);
-    line.put(out)
+    line
 }
 
 // Adds a window.
@@ -157,13 +147,10 @@ fn add_reason(line: &mut Line, reason: Reason)
     }
 }
 
-/// Writes which window of a certificate fails, and why: `bad K shape`, `bad K joint`, `bad K edge T S` with the column
-/// and the register, or `bad K sum C` with what the path costs. `Failed` comes only where the sink's count of faults
-/// rose.
-pub fn bad_line<N: Sink>(notes: &mut N, number: u64, reason: Reason) -> Result<(), Failed>
-    ensures ok { OnOk result (Wrote (N.taken notes.old) (N.taken notes.new) (bad_text number reason)) }
-    ensures err { OnErr result (WrotePrefix (N.taken notes.old) (N.taken notes.new) (bad_text number reason)) }
-    ensures cause { HasCause (N.faults notes.old) (N.faults notes.new) (N.is_last notes.new) result }
+/// Which window of a certificate fails, and why: `bad K shape`, `bad K joint`, `bad K edge T S` with the column and the
+/// register, or `bad K sum C` with what the path costs.
+pub fn bad_text(number: u64, reason: Reason) -> Line
+    ensures { result ≡ bad_text number reason }
 {
     let mut line = Line::new();
     line.text(b"bad ");
@@ -171,19 +158,16 @@ pub fn bad_line<N: Sink>(notes: &mut N, number: u64, reason: Reason) -> Result<(
     line.text(b" ");
     add_reason(&mut line, reason);
     line.text(b"\n");
-    line.put(notes)
+    line
 }
 
-/// Writes which window of a certificate is not whole or missing: `cut at block K`. `Failed` comes only where the sink's
-/// count of faults rose.
-pub fn cut_line<N: Sink>(notes: &mut N, number: u64) -> Result<(), Failed>
-    ensures ok { OnOk result (Wrote (N.taken notes.old) (N.taken notes.new) (cut_text number)) }
-    ensures err { OnErr result (WrotePrefix (N.taken notes.old) (N.taken notes.new) (cut_text number)) }
-    ensures cause { HasCause (N.faults notes.old) (N.faults notes.new) (N.is_last notes.new) result }
+/// Which window of a certificate is not whole or missing: `cut at block K`.
+pub fn cut_text(number: u64) -> Line
+    ensures { result ≡ cut_text number }
 {
     let mut line = Line::new();
     line.text(b"cut at block ");
     line.number(number);
     line.text(b"\n");
-    line.put(notes)
+    line
 }
