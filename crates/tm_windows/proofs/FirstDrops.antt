@@ -64,12 +64,16 @@ none_in_both l first middle last none other k from less = elim (cases_lt k middl
 
 -- ---- the looks of a queue
 
+-- the octets that it holds
+abbrev pub held_of : Inside → List ℕ
+held_of v = drop v.passed v.held.octets
+
 -- they are over its octets, before the windows from the next one on
 pub record AreLooksOf (v : Inside) (l : Looks) : Type 0 where
   pub shape : l.shape ≡ v.settings.shape
   pub steps : v.seen ≡ Some l.steps
   pub t : l.t ≡ v.t
-  pub octets : l.octets.now ≡ v.held.octets
+  pub octets : l.octets.now ≡ held_of v
 
 -- nothing is dropped before window `number`, as a look over `steps` steps says: window 0 has this shape, step and octets
 abbrev Still : ℕ → ℕ → WindowShape × ℕ × List ℕ → Type 0
@@ -80,16 +84,16 @@ abbrev beginning : WindowShape → ℕ → List ℕ → WindowShape × ℕ × Li
 beginning shape t octets = (shape, t, octets)
 
 of_queue : (v : Inside) (l : Looks) → AreLooksOf v l
-    → beginning l.shape l.t l.octets.now ≡ beginning v.settings.shape v.t v.held.octets
+    → beginning l.shape l.t l.octets.now ≡ beginning v.settings.shape v.t (held_of v)
 of_queue v l are = λ i. beginning (are.shape i) (are.t i) (are.octets i)
 
 pub undropped-there : (v : Inside) (l : Looks) (number : ℕ) → AreLooksOf v l → HoldLooks l (number + 1)
     → IsUndroppedAt l number → IsUndropped (windows_of v.settings v.seen) (v.t + number * v.settings.shape.keep)
-    (drop (steps_size v.settings.shape.rate v.t (number * v.settings.shape.keep)) v.held.octets)
+    (drop (steps_size v.settings.shape.rate v.t (number * v.settings.shape.keep)) (held_of v))
 undropped-there v l number are holds still = λ steps is. subst (λ (n : ℕ).
     (octets_seen v.settings.shape.rate (v.t + number * v.settings.shape.keep) n
-    ≤ length (drop (steps_size v.settings.shape.rate v.t (number * v.settings.shape.keep)) v.held.octets))
-    × Still n number (beginning v.settings.shape v.t v.held.octets))
+    ≤ length (drop (steps_size v.settings.shape.rate v.t (number * v.settings.shape.keep)) (held_of v)))
+    × Still n number (beginning v.settings.shape v.t (held_of v)))
     (let same : l.steps ≡ steps = (let both = sym are.steps ∙ is in cc) in same) (
       subst (λ (x : WindowShape × ℕ × List ℕ). octets_seen x.0.rate (x.1 + number * x.0.keep) l.steps
           ≤ length (drop (steps_size x.0.rate x.1 (number * x.0.keep)) x.2)) (of_queue v l are)
@@ -99,7 +103,7 @@ undropped-there v l number are holds still = λ steps is. subst (λ (n : ℕ).
 
 pub undropped-look : (v : Inside) (l : Looks) (number : ℕ) → AreLooksOf v l
     → IsUndropped (windows_of v.settings v.seen) (v.t + number * v.settings.shape.keep)
-    (drop (steps_size v.settings.shape.rate v.t (number * v.settings.shape.keep)) v.held.octets)
+    (drop (steps_size v.settings.shape.rate v.t (number * v.settings.shape.keep)) (held_of v))
     → IsUndroppedAt l number
 undropped-look v l number are undropped =
     subst (Still l.steps number) (sym (of_queue v l are)) (undropped l.steps are.steps).1

@@ -1,5 +1,5 @@
 -- The blocks of all octets that were put into a queue, once its last window is decoded.
-use Rattle.std.proofs.Common.{◌≡◌, ℕ, zero, suc, ◌+◌, ◌-◌, ◌*◌, ◌<◌, ◌≤◌, ◌∙◌, ◌++◌, refl, sym, ap, subst, arith, unwrap_or, List, [], ◌∷◌, length, take}
+use Rattle.std.proofs.Common.{◌≡◌, ℕ, zero, suc, ◌+◌, ◌-◌, ◌*◌, ◌<◌, ◌≤◌, ◌∙◌, ◌++◌, refl, sym, ap, subst, arith, unwrap_or, List, [], ◌∷◌, length, slice_index_or, take}
 use Rattle.std.proofs.lemmas.List.{append-nil}
 use Rattle.tm_conv.specs.Path.{farthest_step, steps_size}
 use Rattle.tm_conv.proofs.Sizes.{steps_size-add, steps_size-most}
@@ -101,20 +101,33 @@ ends-one q n size k read ready block b left given done slips lost is chosen es e
 
 -- its octets are there
 pub last-there : (q : Queueing) (n size k : ℕ) (read : List ℕ) (ready : List WindowBlock) (block : WindowBlock)
-    → IsLastBlock q n size k read ready block → (left : List ℕ) (slips lost : ℕ) → q.t + n ≤ farthest_step
+    → IsLastBlock q n size k read ready block → (left : List ℕ) (slips lost : ℕ)
+    → q.t + length q.held ≤ farthest_step
     → IsThere (after_last q n slips lost left read ready)
 last-there q n size k read ready block b left slips lost few =
     let s = q.windows.settings in
     let all : kept_of (block ∷ []) ≡ n = omega (arith, b.kept) in
+    let inside : steps_size s.rate q.t block.steps ≤ length read =
+    omega (arith, ap (steps_size s.rate q.t) steps, b.whole.is, b.whole.whole, ap length b.read_is) in
     subst (λ (v : List WindowBlock). IsThere (after_last q n slips lost left read v)) (sym b.one) (record {
-      some = omega (arith, all, b.some);
-      octets = omega (arith, ap (steps_size s.rate q.t) all, b.whole.is, b.whole.whole, ap length b.read_is);
+      octets = each inside;
       few = omega (arith, all);
-      bound = few;
-      paths = path-last s q.starts q.t n q.held block b.is;
+      bound = omega (arith, ap length b.read_is, few);
+      paths = path-last s q.starts q.t n q.held block (omega (arith, inside, ap length b.read_is)) b.is;
       kept = none-before;
     })
   where
+    steps : block.steps ≡ n
+    steps = omega (arith, b.is.steps, b.whole.few)
+
+    each : steps_size q.windows.settings.rate q.t block.steps ≤ length read → (index : ℕ) (d : WindowBlock)
+        → index < length (block ∷ []) → steps_size q.windows.settings.rate q.t
+        (kept_of (take index (block ∷ [])) + (slice_index_or (block ∷ []) index d).steps) ≤ length read
+    each inside zero d less =
+        let sum : 0 + block.steps ≡ block.steps = omega arith in
+        omega (arith, inside, ap (steps_size q.windows.settings.rate q.t) sum)
+    each inside (suc n) d less = absurd (omega (arith, less))
+
     none-before : (index : ℕ) → index < length (block ∷ []) → kept_of (take index (block ∷ []))
         ≡ index * q.windows.settings.keep
     none-before zero less = omega arith
@@ -130,6 +143,5 @@ last-read q n size k read ready block b left given done slips lost chosen stands
     record {
       step = sym r.kept;
       octets =
-          read-octets q given read done ready size n k r b.drops (omega (arith, ap dropped_of b.one, b.dropped))
-          (omega (arith, ap kept_of b.one, b.kept)) b.whole.is (ap (take size) b.read_is);
+          read-octets q given read done ready k r b.drops (omega (arith, ap dropped_of b.one, b.dropped)) b.read_is;
     }

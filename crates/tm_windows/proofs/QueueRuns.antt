@@ -1,7 +1,7 @@
 -- Runs of windows that are decoded at once, of which the first may begin after dropped octets.
-use Rattle.std.proofs.Common.{◌≡◌, ◌⊎◌, inl, inr, Bool, true, false, ℕ, ◌+◌, ◌*◌, ◌<◌, ◌≤◌, ◌∙◌, ◌++◌, refl, sym, ap, subst, arith, List, [], ◌∷◌, Option, Some, None, is_some, drop, length, length-drop, map, mul-le-mul_right, set, get_or, take, unwrap_or}
+use Rattle.std.proofs.Common.{◌≡◌, ◌⊎◌, inl, inr, Bool, true, false, ℕ, ◌+◌, ◌*◌, ◌<◌, ◌≤◌, ◌∙◌, ◌++◌, refl, sym, ap, subst, arith, List, [], ◌∷◌, Option, Some, None, is_some, drop, length, length-drop, map, mul-le-mul_right, set, get_or, slice_index_or, take, unwrap_or}
 use Rattle.std.specs.Option.{ForSome}
-use Rattle.std.proofs.lemmas.List.{drop-append-le, length-take-le, take-append-drop, take-take}
+use Rattle.std.proofs.lemmas.List.{drop-append-le, length-take-le, take-append-drop}
 use Rattle.tm_conv.specs.Path.{farthest_step, steps_size}
 use Rattle.tm_conv.proofs.Sizes.{steps_size-le, steps_size-add, steps_size-least}
 use Rattle.tm_viterbi.specs.WindowBlock.{WindowBlock}
@@ -9,7 +9,7 @@ use Rattle.tm_viterbi.specs.Due.{Place, Closed, after_block}
 use Rattle.tm_viterbi.specs.declared.window_decoder.WindowShape.{WindowShape}
 use Rattle.tm_viterbi.proofs.Closing.{Closed-append, kept_is, more_octets}
 use Rattle.tm_windows.specs.Candidates.{ClosedWith, after_windows, block_of}
-use Rattle.tm_windows.specs.Queue.{Queueing, AfterPhase, AwaitsPhase, HoldsNoMore, HoldsRun, IsAt, IsOpen, IsRead, IsThere, QueueStandsFor, phase_size, skip_of}
+use Rattle.tm_windows.specs.Queue.{Queueing, AfterPhase, AwaitsPhase, HoldsNoMore, HoldsRun, IsAt, IsOpen, IsRead, IsThere, QueueStandsFor, phase_size, shape_of, skip_of}
 use Rattle.tm_windows.specs.Phase.{most_period_size}
 use Rattle.tm_windows.specs.Slip.{octets_seen}
 use Rattle.tm_windows.specs.Windows.{Windows, Spot, Begins, Followed, AreUndropped, IsSeen, dropped_at, dropped_of, first_spot, kept_of, slip_at, slips_of, undecided}
@@ -18,6 +18,7 @@ use Rattle.tm_windows.proofs.FollowedExists.{seen-first}
 use Rattle.tm_windows.proofs.FollowedRuns.{place_of, at-undecided, closed-dropped, closed-kept, closed-slips, closed-steps, closes-dropped, dropped-append, followed-both, kept-append, later-undropped, next-undropped, run-followed, slips-append, undropped-begins}
 use Rattle.tm_windows.proofs.HeldOctets.{held_place}
 use Rattle.tm_windows.proofs.ReadOctets.{kept-ready, paths-ready, read-octets}
+use Rattle.tm_windows.proofs.Runs.{more_times}
 
 -- ---- the octets of a run
 
@@ -166,15 +167,6 @@ decided_after q given done k is (inl before) =
     absurd (let both : Some k ≡ None = sym is ∙ before.undecided in cc)
 decided_after q given done k is (inr after) = after
 
--- how its windows are cut
-abbrev pub shape_of : Queueing → WindowShape
-shape_of q = record {
-  rate = q.windows.settings.rate;
-  invert = q.windows.settings.invert;
-  keep = q.windows.settings.keep;
-  ahead = q.windows.settings.ahead;
-}
-
 -- the run's windows are closed with these blocks by the first octets
 abbrev pub ClosesRun : Queueing → (count m : ℕ) → List WindowBlock → Option ℕ → Type 0
 ClosesRun q count m blocks next = ClosedWith (shape_of q) (place_of q.starts q.t (take m q.held)) blocks
@@ -256,55 +248,55 @@ run-decoded q given done k count m slips lost next dropped left read x xs ready 
 -- ---- the octets of a run
 
 -- they are there once its windows are decoded
-pub run-there : (q : Queueing) (k count m size slips lost : ℕ) (next dropped : Option ℕ) (left read : List ℕ)
-    (x : WindowBlock) (xs ready : List WindowBlock) → IsRun q k count
-    → m ≡ steps_size q.windows.settings.rate q.t (count * q.windows.settings.keep + q.windows.settings.ahead + 1)
-    → size ≡ steps_size q.windows.settings.rate q.t (count * q.windows.settings.keep) → read ≡ take size q.held
+pub run-there : (q : Queueing) (k count m slips lost : ℕ) (next dropped : Option ℕ) (left read : List ℕ)
+    (x : WindowBlock) (xs ready : List WindowBlock) → IsRun q k count → read ≡ q.held
     → ready ≡ dropped_at k x ∷ xs → length ready ≡ count → ClosesRun q count m (x ∷ xs) next
     → q.t + length q.held < farthest_step
     → IsThere (after_run q count slips lost next dropped left read ready)
-run-there q k count m size slips lost next dropped left read x xs ready run is size_is read_is are long closes few =
+run-there q k count m slips lost next dropped left read x xs ready run read_is are long closes few =
     let s = q.windows.settings in
-    let cut = is_cut q count m size run.wide run.some run.room is size_is in
     let from = place_of q.starts q.t (take m q.held) in
     let to = after_windows (shape_of q) q.t (take m q.held) count next in
     let many : length (x ∷ xs) ≡ count = sym (ap length are) ∙ long in
     let kept : kept_of (x ∷ xs) ≡ count * s.keep =
     closed-steps s from to (x ∷ xs) closes ∙ ap (λ (n : ℕ). n * s.keep) many in
-    let all : length read ≡ size =
-    ap length read_is ∙ length-take-le size q.held (omega (arith, cut.within, cut.inside)) in
+    let before = kept-ready s k from to x xs closes in
+    let paths = paths-ready s k from to x xs closes in
     subst (λ (v : List WindowBlock). IsThere (after_run q count slips lost next dropped left read v)) (sym are)
     (record {
-      some = omega (arith, kept, cut.wide);
-      octets = omega (arith, all, size_is, ap (steps_size s.rate q.t) kept);
+      octets = λ index block less.
+          let n : ℕ = kept_of (take index (dropped_at k x ∷ xs))
+          + (slice_index_or (dropped_at k x ∷ xs) index block).steps in
+          let more : (index + 1) * s.keep ≤ count * s.keep =
+          mul-le-mul_right s.keep (let le : index + 1 ≤ count = omega (arith, less, many) in le) in
+          omega (
+            arith,
+            run.room,
+            ap length read_is,
+            steps_size-le s.rate q.t n (count * s.keep + s.ahead + 1)
+                (omega (arith, before index less, (paths index block less).few, more_times index s.keep, more)),
+          );
       few = omega (arith, kept);
-      bound = omega (arith, cut.long, cut.within, cut.inside, few);
-      paths = paths-ready s k from to x xs closes;
-      kept = kept-ready s k from to x xs closes;
+      bound = omega (arith, ap length read_is, few);
+      paths = paths;
+      kept = before;
     })
 
 -- and they are those that were put in
-pub run-read : (q : Queueing) (given : List ℕ) (done : List WindowBlock) (k count m size slips lost : ℕ)
+pub run-read : (q : Queueing) (given : List ℕ) (done : List WindowBlock) (k count m slips lost : ℕ)
     (next dropped : Option ℕ) (left read : List ℕ) (x : WindowBlock) (xs ready : List WindowBlock) → IsRun q k count
-    → size ≡ steps_size q.windows.settings.rate q.t (count * q.windows.settings.keep) → read ≡ take size q.held
-    → ready ≡ dropped_at k x ∷ xs → length ready ≡ count → ClosesRun q count m (x ∷ xs) next
-    → AfterPhase q given done
+    → read ≡ q.held → ready ≡ dropped_at k x ∷ xs → ClosesRun q count m (x ∷ xs) next → AfterPhase q given done
     → IsRead (after_run q count slips lost next dropped left read ready) given done
-run-read q given done k count m size slips lost next dropped left read x xs ready run size_is read_is are long
-    closes r =
-    let s = q.windows.settings in
+run-read q given done k count m slips lost next dropped left read x xs ready run read_is are closes r =
     let from = place_of q.starts q.t (take m q.held) in
     let to = after_windows (shape_of q) q.t (take m q.held) count next in
-    let many : length (x ∷ xs) ≡ count = sym (ap length are) ∙ long in
-    let kept : kept_of ready ≡ count * s.keep =
-    ap kept_of are ∙ closed-steps s from to (x ∷ xs) closes ∙ ap (λ (n : ℕ). n * s.keep) many in
     let lost_is : dropped_of ready ≡ k =
-    omega (arith, ap dropped_of are, closed-dropped s from to (x ∷ xs) closes) in
+    omega (arith, ap dropped_of are, closed-dropped q.windows.settings from to (x ∷ xs) closes) in
     record {
       step = sym r.kept;
       octets =
-          read-octets q given read done ready size (count * s.keep) k r (sym (ap (λ (o : Option ℕ). unwrap_or o 0)
-          run.dropped)) lost_is kept size_is (ap (take size) read_is ∙ take-take size size q.held (omega arith));
+          read-octets q given read done ready k r (sym (ap (λ (o : Option ℕ). unwrap_or o 0) run.dropped)) lost_is
+          read_is;
     }
 
 -- ---- what a queue stands for

@@ -1,16 +1,20 @@
 -- The octets of windows that were decoded, among those that were put in.
 use Rattle.std.proofs.Common.{◌≡◌, ◌⊎◌, inl, inr, ℕ, zero, suc, ◌+◌, ◌*◌, ◌<◌, ◌≤◌, ◌∙◌, ◌++◌, refl, sym, ap, subst, arith, List, [], ◌∷◌, All, Option, Some, None, drop, drop-drop, take, length, slice_index_or, unwrap_or}
+use Rattle.std.proofs.lemmas.Bool.Decides.{nat_tests}
+use Rattle.std.proofs.lemmas.List.{length-take-le}
 use Rattle.std.proofs.lemmas.List.Elements.{All-cons, All-nil, All-take}
 use Rattle.tm_conv.specs.Path.{farthest_step, steps_size}
-use Rattle.tm_conv.proofs.Paths.{steps_size-zero}
-use Rattle.tm_conv.proofs.Sizes.{steps_size-add, steps_size-le}
+use Rattle.tm_conv.proofs.Clean.{digits}
+use Rattle.tm_conv.proofs.Paths.{length-path, steps_size-zero}
+use Rattle.tm_conv.proofs.Sizes.{same_from_steps_size, steps_size-add, steps_size-le, steps_size-least}
 use Rattle.tm_viterbi.specs.WindowBlock.{WindowBlock}
-use Rattle.tm_viterbi.specs.Blocks.{IsBlock}
-use Rattle.tm_viterbi.specs.Due.{Place, Closed, after_block}
+use Rattle.tm_viterbi.specs.Blocks.{IsBlock, kept_steps, window_steps}
+use Rattle.tm_viterbi.specs.Due.{Place, Closed, Closes, after_block}
 use Rattle.tm_viterbi.specs.Settings.{Settings}
+use Rattle.tm_viterbi.proofs.CleanBlocks.{register-small}
 use Rattle.tm_viterbi.proofs.Closing.{kept_is}
 use Rattle.tm_windows.specs.Windows.{Windows, Beginning, Spot, first_spot, DropsBy, BeginsBy, Followed, spot_after, dropped_at, dropped_of, kept_of, undropped}
-use Rattle.tm_windows.specs.Queue.{Queueing, AfterPhase, IsAt, IsPathOf, IsThere, skip_of, step_of}
+use Rattle.tm_windows.specs.Queue.{Queueing, AfterPhase, IsAt, IsThere, IsWindowPath, skip_of, window_size}
 use Rattle.tm_windows.proofs.Beginnings.{begins-within}
 use Rattle.tm_windows.proofs.FollowedRuns.{place_of, dropped-append}
 use Rattle.tm_windows.proofs.Runs.{more_times}
@@ -115,24 +119,16 @@ held-octets q given done a = go q.dropped refl a.at
         there k (begins-octets w a.to.decided a.to.place (record { dropped = k; place = place_of q.starts q.t q.held })
         past.plain at)
 
--- so the octets of blocks that were decoded of them are those that were put in
-pub read-octets : (q : Queueing) (given read : List ℕ) (done ready : List WindowBlock) (size n k : ℕ)
-    → AfterPhase q given done → k ≡ unwrap_or q.dropped 0 → dropped_of ready ≡ k → kept_of ready ≡ n
-    → size ≡ steps_size q.windows.settings.rate q.t n → take size read ≡ take size q.held
-    → take (steps_size q.windows.settings.rate (kept_of done) (kept_of ready)) read
-    ≡ take (steps_size q.windows.settings.rate (kept_of done) (kept_of ready))
-    (drop (skip_of q.chosen + dropped_of (done ++ ready)
-    + steps_size q.windows.settings.rate 0 (kept_of done)) given)
-read-octets q given read done ready size n k a ek dropped kept es same =
-    let rate = q.windows.settings.rate in
-    let here : steps_size rate (kept_of done) (kept_of ready) ≡ size =
-    (λ i. steps_size rate (a.kept i) (kept i)) ∙ sym es in
-    let past : skip_of q.chosen + (dropped_of done + unwrap_or q.dropped 0) + steps_size rate 0 (kept_of done)
-    ≡ skip_of q.chosen + dropped_of (done ++ ready) + steps_size rate 0 (kept_of done) =
-    omega (arith, ek, dropped, dropped-append done ready) in
-    subst (λ (m : ℕ). take m read ≡ take m (drop (skip_of q.chosen + dropped_of (done ++ ready)
-    + steps_size rate 0 (kept_of done)) given)) (sym here)
-    (same ∙ ap (take size) (held-octets q given done a ∙ ap (λ (m : ℕ). drop m given) past))
+-- so the octets from which blocks were decoded are those that were put in
+pub read-octets : (q : Queueing) (given read : List ℕ) (done ready : List WindowBlock) (k : ℕ)
+    → AfterPhase q given done → k ≡ unwrap_or q.dropped 0 → dropped_of ready ≡ k → read ≡ q.held
+    → read ≡ drop (skip_of q.chosen + dropped_of (done ++ ready)
+    + steps_size q.windows.settings.rate 0 (kept_of done)) given
+read-octets q given read done ready k a ek dropped is =
+    let size : ℕ = steps_size q.windows.settings.rate 0 (kept_of done) in
+    let past : skip_of q.chosen + (dropped_of done + unwrap_or q.dropped 0) + size
+    ≡ skip_of q.chosen + dropped_of (done ++ ready) + size = omega (arith, ek, dropped, dropped-append done ready) in
+    is ∙ held-octets q given done a ∙ ap (λ (m : ℕ). drop m given) past
 
 -- ---- the octets of what is ready are there
 
@@ -158,30 +154,67 @@ pub kept-ready : (s : Settings) (k : ℕ) (from to : Place) (x : WindowBlock) (x
 kept-ready s k from to x xs h zero less = kept-before s from to (x ∷ xs) h zero less
 kept-ready s k from to x xs h (suc n) less = kept-before s from to (x ∷ xs) h (suc n) less
 
--- the best path of a window
-path-of : (s : Settings) (starts : Option ℕ) (t remaining : ℕ) (octets : List ℕ) (block : WindowBlock)
-    → IsBlock s.rate s.invert s.keep s.ahead starts t remaining octets block → IsPathOf block
-path-of s starts t remaining octets block is =
-    (is.best.candidate.register, All-take (λ bit. bit < 2) block.kept block.bits is.best.candidate.each)
+kept-within : (keep ahead n : ℕ) → kept_steps keep ahead n ≤ window_steps keep ahead n
+kept-within keep ahead n = grind (arith, nat_tests)
+
+-- the best path of a window, whatever is dropped before it
+path-of : (s : Settings) (starts : Option ℕ) (t remaining k : ℕ) (octets : List ℕ) (block : WindowBlock)
+    → steps_size s.rate t block.steps ≤ length octets
+    → IsBlock s.rate s.invert s.keep s.ahead starts t remaining octets block
+    → IsWindowPath (s.keep + s.ahead) (dropped_at k block)
+path-of s starts t remaining k octets block whole is =
+    let best = is.best.candidate in
+    let bits = All-take (λ bit. bit < 2) block.kept block.bits best.each in
+    let size : ℕ = steps_size s.rate t block.steps in
+    record {
+      start = best.register;
+      end = omega (
+        arith,
+        is.end_state,
+        register-small block.start (take block.kept block.bits) best.register
+            (digits (take block.kept block.bits) bits),
+      );
+      bits = bits;
+      long =
+          same_from_steps_size s.rate t (length block.bits) block.steps
+          (sym (length-path s.rate s.invert t block.start block.bits) ∙ best.covers
+          ∙ length-take-le size octets whole);
+      kept = omega (arith, is.kept, is.steps, kept-within s.keep s.ahead remaining);
+      few = omega (arith, is.steps);
+    }
+
+closed-path : (s : Settings) (k : ℕ) (from : Place) (block : WindowBlock)
+    → Closes s.rate s.invert s.keep s.ahead from block → IsWindowPath (s.keep + s.ahead) (dropped_at k block)
+closed-path s k from block h =
+    let n : ℕ = s.keep + s.ahead + 1 in
+    path-of s from.starts from.t n k from.octets block
+    (omega (
+      arith,
+      h.room,
+      steps_size-le s.rate from.t block.steps n (omega (arith, h.is_block.steps)),
+    )) h.is_block
 
 paths-of : (s : Settings) (from to : Place) (blocks : List WindowBlock)
-    → Closed s.rate s.invert s.keep s.ahead from blocks to → All IsPathOf blocks
-paths-of s from to [] h = All-nil IsPathOf
+    → Closed s.rate s.invert s.keep s.ahead from blocks to → All (IsWindowPath (s.keep + s.ahead)) blocks
+paths-of s from to [] h = All-nil (IsWindowPath (s.keep + s.ahead))
 paths-of s from to (x ∷ xs) h =
-    All-cons IsPathOf x xs (path-of s from.starts from.t (s.keep + s.ahead + 1) from.octets x h.0.is_block)
+    All-cons (IsWindowPath (s.keep + s.ahead)) x xs (closed-path s x.dropped from x h.0)
     (paths-of s (after_block s.rate from x) to xs h.1)
 
 pub paths-ready : (s : Settings) (k : ℕ) (from to : Place) (x : WindowBlock) (xs : List WindowBlock)
-    → Closed s.rate s.invert s.keep s.ahead from (x ∷ xs) to → All IsPathOf (dropped_at k x ∷ xs)
+    → Closed s.rate s.invert s.keep s.ahead from (x ∷ xs) to
+    → All (IsWindowPath (s.keep + s.ahead)) (dropped_at k x ∷ xs)
 paths-ready s k from to x xs h =
-    All-cons IsPathOf (dropped_at k x) xs
-    (path-of s from.starts from.t (s.keep + s.ahead + 1) from.octets x h.0.is_block)
+    All-cons (IsWindowPath (s.keep + s.ahead)) (dropped_at k x) xs (closed-path s k from x h.0)
     (paths-of s (after_block s.rate from x) to xs h.1)
 
 pub path-last : (s : Settings) (starts : Option ℕ) (t n : ℕ) (octets : List ℕ) (block : WindowBlock)
-    → IsBlock s.rate s.invert s.keep s.ahead starts t n octets (undropped block) → All IsPathOf (block ∷ [])
-path-last s starts t n octets block is =
-    All-cons IsPathOf block [] (path-of s starts t n octets (undropped block) is) (All-nil IsPathOf)
+    → steps_size s.rate t block.steps ≤ length octets
+    → IsBlock s.rate s.invert s.keep s.ahead starts t n octets (undropped block)
+    → All (IsWindowPath (s.keep + s.ahead)) (block ∷ [])
+path-last s starts t n octets block whole is =
+    All-cons (IsWindowPath (s.keep + s.ahead)) block []
+    (path-of s starts t n block.dropped octets (undropped block) whole is) (All-nil (IsWindowPath (s.keep + s.ahead)))
 
 -- ---- the octets of one of them
 
@@ -193,23 +226,47 @@ kept-to (suc n) (x ∷ xs) block less = omega (arith, kept-to n xs block (omega 
 
 -- its steps are counted
 pub first-few : (q : Queueing) (index : ℕ) (block : WindowBlock) → IsThere q → index < length q.ready
-    → q.run_t + index * q.windows.settings.keep + (slice_index_or q.ready index block).kept ≤ farthest_step
+    → q.run_t + index * q.windows.settings.keep + (slice_index_or q.ready index block).steps ≤ farthest_step
 first-few q index block there less =
-    omega (arith, kept-to index q.ready block less, there.kept index less, there.few, there.bound)
+    let n : ℕ = kept_of (take index q.ready) + (slice_index_or q.ready index block).steps in
+    omega (
+      arith,
+      there.octets index block less,
+      there.kept index less,
+      there.bound,
+      steps_size-least q.windows.settings.rate q.run_t n,
+    )
 
 -- its octets are among those that are there
 pub inside-read : (q : Queueing) (index : ℕ) (block : WindowBlock) → IsThere q → index < length q.ready
     → steps_size q.windows.settings.rate q.run_t (index * q.windows.settings.keep)
-    + steps_size q.windows.settings.rate (step_of q index) (slice_index_or q.ready index block).kept
-    ≤ length q.read
+    + window_size q index (slice_index_or q.ready index block) ≤ length q.read
 inside-read q index block there less =
     let rate = q.windows.settings.rate in
     let before : ℕ = kept_of (take index q.ready) in
-    let kept : ℕ = (slice_index_or q.ready index block).kept in
     omega (
       arith,
-      there.octets,
+      there.octets index block less,
       ap (steps_size rate q.run_t) (there.kept index less),
-      steps_size-add rate q.run_t before kept,
-      steps_size-le rate q.run_t (before + kept) (kept_of q.ready) (kept-to index q.ready block less),
+      steps_size-add rate q.run_t before (slice_index_or q.ready index block).steps,
     )
+
+-- whatever block it is
+no_block : WindowBlock
+no_block = record {
+  start = 0;
+  steps = 0;
+  kept = 0;
+  metric = 0;
+  bits = [];
+  end_state = 0;
+  dropped = 0;
+}
+
+pub step-few : (q : Queueing) (index : ℕ) → IsThere q → index < length q.ready
+    → q.run_t + index * q.windows.settings.keep ≤ farthest_step
+step-few q index there less = omega (arith, first-few q index no_block there less)
+
+pub place-inside : (q : Queueing) (index : ℕ) → IsThere q → index < length q.ready
+    → steps_size q.windows.settings.rate q.run_t (index * q.windows.settings.keep) ≤ length q.read
+place-inside q index there less = omega (arith, inside-read q index no_block there less)

@@ -1,11 +1,12 @@
 -- What contracts see of a queue of windows, and for which octets, put in so far, and which blocks,
 -- decoded so far, it stands.
-use Rattle.std.specs.Prelude.{ℕ, ◌≡◌, ◌⊎◌, ◌+◌, ◌*◌, ◌<◌, ◌≤◌, ◌++◌, Bool, true, false, List, [], drop, length, take, Option, Some, None}
+use Rattle.std.specs.Prelude.{ℕ, ◌≡◌, ◌⊎◌, ◌+◌, ◌*◌, ◌<◌, ◌≤◌, ◌++◌, Bool, true, false, List, [], drop, length, take, slice_index_or, Option, Some, None}
 use Rattle.std.specs.List.{All}
 use Rattle.tm_conv.specs.Path.{AreBits, farthest_step, registers, steps_size}
 use Rattle.tm_viterbi.specs.Due.{Place}
 use Rattle.tm_viterbi.specs.Starts.{first_start}
 use Rattle.tm_viterbi.specs.WindowBlock.{WindowBlock}
+use Rattle.tm_viterbi.specs.declared.window_decoder.WindowShape.{WindowShape}
 use Rattle.tm_windows.specs.Phase.{IsPhase, octets_needed}
 use Rattle.tm_windows.specs.Sharing.{least_shared_ahead, most_window_steps, worker_steps}
 use Rattle.tm_windows.specs.Slip.{octets_seen}
@@ -56,6 +57,15 @@ pub record Queueing : Type 0 where
   -- as no more are put in
   pub run_t : ℕ
   pub read : List ℕ
+
+-- the shape of its windows
+abbrev pub shape_of : Queueing → WindowShape
+shape_of q = record {
+  rate = q.windows.settings.rate;
+  invert = q.windows.settings.invert;
+  keep = q.windows.settings.keep;
+  ahead = q.windows.settings.ahead;
+}
 
 -- ---- the symbol phase
 
@@ -199,25 +209,32 @@ abbrev pub octets_of : Queueing → (index : ℕ) → List ℕ
 octets_of q index =
     drop (steps_size q.windows.settings.rate q.run_t (kept_of (take index q.ready))) q.read
 
--- a path's start and bits
-abbrev pub IsPathOf : WindowBlock → Type 0
-IsPathOf block = (block.start < registers) × AreBits (take block.kept block.bits)
+-- how many octets the steps of its window have
+abbrev pub window_size : Queueing → (index : ℕ) → WindowBlock → ℕ
+window_size q index block = steps_size q.windows.settings.rate (step_of q index) block.steps
 
--- blocks are ready, and the octets of the steps that they keep are there: none was put in since
+-- the path of a window of at most so many steps
+pub record IsWindowPath (most : ℕ) (block : WindowBlock) : Type 0 where
+  pub start : block.start < registers
+  pub end : block.end_state < registers
+  pub bits : AreBits (take block.kept block.bits)
+  pub long : length block.bits ≡ block.steps
+  pub kept : block.kept ≤ block.steps
+  pub few : block.steps ≤ most
+
+-- the octets of all steps of the windows of the ready blocks are there: none was put in since
 pub record IsThere (q : Queueing) : Type 0 where
-  pub some : 0 < kept_of q.ready
-  pub octets : steps_size q.windows.settings.rate q.run_t (kept_of q.ready) ≤ length q.read
+  pub octets : (index : ℕ) (block : WindowBlock) → index < length q.ready
+      → steps_size q.windows.settings.rate q.run_t
+      (kept_of (take index q.ready) + (slice_index_or q.ready index block).steps) ≤ length q.read
   pub few : q.run_t + kept_of q.ready ≤ q.t
-  pub bound : q.t ≤ farthest_step
-  pub paths : All IsPathOf q.ready
+  pub bound : q.run_t + length q.read ≤ farthest_step
+  pub paths : All (IsWindowPath (q.windows.settings.keep + q.windows.settings.ahead)) q.ready
   pub kept : (index : ℕ) → index < length q.ready
       → kept_of (take index q.ready) ≡ index * q.windows.settings.keep
 
 -- they come after these blocks, and their octets are those that were put in
 pub record IsRead (q : Queueing) (given : List ℕ) (done : List WindowBlock) : Type 0 where
   pub step : q.run_t ≡ kept_of done
-  pub octets :
-      take (steps_size q.windows.settings.rate (kept_of done) (kept_of q.ready)) q.read
-      ≡ take (steps_size q.windows.settings.rate (kept_of done) (kept_of q.ready))
-      (drop (skip_of q.chosen + dropped_of (done ++ q.ready)
-      + steps_size q.windows.settings.rate 0 (kept_of done)) given)
+  pub octets : q.read ≡ drop (skip_of q.chosen + dropped_of (done ++ q.ready)
+      + steps_size q.windows.settings.rate 0 (kept_of done)) given

@@ -70,14 +70,16 @@ pub struct WindowQueue {
     // Before how many of the windows so far octets were dropped, and how many.
     slips: u64,
     lost: u64,
+    // The octets that were put in, and after how many of them the next window begins.
     held: Held,
+    passed: usize,
     decoders: Vec<WindowDecoder>,
     candidates: Vec<Candidate>,
     // No octets come any more.
     has_ended: bool,
     // How many candidates are the blocks of the last run.
     ready: usize,
-    // The step at which it begins, and where its octets stand among those that were dropped last.
+    // The step at which it begins, and after how many of the octets.
     run_t: u64,
     run_at: usize,
     // By how many workers at most: what clauses alone read.
@@ -85,7 +87,7 @@ pub struct WindowQueue {
 }
 
 impl Model for WindowQueue {
-    ghost use Rattle.std.specs.Prelude.{◌≡◌, ◌⊎◌, ◌+◌, ◌*◌, ◌^◌, ◌<◌, ◌≤◌, None, Some, drop, map, take, true, vec_len};
+    ghost use Rattle.std.specs.Prelude.{◌≡◌, ◌⊎◌, ◌+◌, ◌*◌, ◌^◌, ◌<◌, ◌≤◌, None, Some, drop, length, map, take, true, vec_len};
     ghost use Rattle.std.specs.List.{All};
     ghost use Rattle.std.specs.Option.{ForSome};
     ghost use Rattle.tm_base.specs.Limits.{most_workers};
@@ -110,12 +112,12 @@ impl Model for WindowQueue {
       dropped = q.dropped;
       slips = q.slips;
       lost = q.lost;
-      held = q.held.octets;
+      held = drop q.passed q.held.octets;
       has_ended = q.has_ended;
       ready = map block_of (take q.ready q.candidates.items);
       by = q.by;
       run_t = q.run_t;
-      read = drop q.run_at q.held.behind;
+      read = drop q.run_at q.held.octets;
     } };
 
     ghost invariant = { λ q.
@@ -132,7 +134,7 @@ impl Model for WindowQueue {
         × (q.slips ≤ q.t) × (q.ready ≤ vec_len q.candidates)
         × ForSome q.dropped (λ count. count ≤ most_period_size) × (q.lost ≤ most_period_size * q.t)
         × (2 * (vec_len q.candidates * q.settings.shape.keep + q.settings.shape.ahead + 1) ≤ q.held.room)
-        × (q.held.room ≤ 2 ^ 40) };
+        × (q.held.room ≤ 2 ^ 40) × (q.run_at ≤ q.passed) × (q.passed ≤ length q.held.octets) };
 }
 
 // `count` decoders of windows of one shape.
@@ -269,8 +271,27 @@ fn convert(held: &mut Held, is_signed: bool, first: usize)
     }
 }
 
+// The octets from number `first` on.
+fn octets_from(held: &Held, first: usize) -> &[u8]
+    requires { first ≤ length held.now.octets }
+    ensures octets { result.now ≡ drop first held.now.octets }
+    ensures room { length result.now ≤ held.now.room }
+{
+    &held.as_slice()[first..]
+}
+
+// After how many octets those stand that come after the next `count`, or after all, where fewer are there.
+fn passed_by(held: &Held, passed: usize, count: usize) -> usize
+    requires { passed ≤ length held.now.octets }
+    ensures octets { drop result held.now.octets ≡ drop count (drop passed held.now.octets) }
+    ensures inside { (passed ≤ result) × (result ≤ length held.now.octets) }
+{
+    let left = held.as_slice().len() - passed;
+    passed + left.min(count)
+}
+
 impl WindowQueue {
-    ghost use Rattle.tm_windows.specs.Queue.{AfterPhase, AwaitsPhase, BeforePhase, HoldsRun, IsOpen, IsRead, IsSameQueue, IsThere, QueueEndsFor, QueueStandsFor, SharesAmong, fill_room, octets_of, phase_size, reached, skip_of, step_of, windows_of};
+    ghost use Rattle.tm_windows.specs.Queue.{AfterPhase, AwaitsPhase, BeforePhase, HoldsRun, IsOpen, IsRead, IsSameQueue, IsThere, QueueEndsFor, QueueStandsFor, SharesAmong, fill_room, octets_of, phase_size, reached, shape_of, skip_of, step_of, window_size, windows_of};
     ghost use Rattle.tm_windows.specs.Windows.{AreDueIn, AreUndropped, block_counts};
     ghost use Rattle.tm_windows.specs.declared.choosing.Chosen.{Chosen};
 
@@ -320,6 +341,7 @@ impl WindowQueue {
             slips: 0,
             lost: 0,
             held,
+            passed: 0,
             decoders,
             candidates,
             has_ended: false,
@@ -374,9 +396,12 @@ impl WindowQueue {
         ensures ended { self.new.has_ended ≡ self.old.has_ended }
         ensures same { IsSameQueue self.old self.new }
     {
+        let most = self.room();
+        self.held.drop_first(self.passed);
+        self.run_at = 0;
+        self.passed = 0;
         let before = self.held.as_slice().len();
-        let room = self.room().saturating_sub(before);
-        let count = self.held.fill(octets, room);
+        let count = self.held.fill(octets, most.saturating_sub(before));
         convert(&mut self.held, is_signed, before);
         count
     }
@@ -443,7 +468,7 @@ impl WindowQueue {
             return true;
         }
         if self.awaits_phase() {
-            if self.held.as_slice().len() < self.phase_size() {
+            if octets_from(&self.held, self.passed).len() < self.phase_size() {
                 return false;
             }
             self.choose();
@@ -453,13 +478,13 @@ impl WindowQueue {
             return true;
         };
         let shape = self.settings.shape;
-        let octets = self.held.as_slice();
+        let octets = octets_from(&self.held, self.passed);
         if octets.len() < octets_seen(shape.rate, self.t, steps) {
             return false;
         }
         let count = slip(shape.rate, shape.invert, self.t, steps, octets);
         self.starts = starts_after(self.starts, count);
-        self.held.drop_first(usize::from(count));
+        self.passed = passed_by(&self.held, self.passed, usize::from(count));
         self.dropped = Some(count);
         true
     }
@@ -479,8 +504,9 @@ impl WindowQueue {
     {
         let shape = self.settings.shape;
         let window = (shape.keep + shape.ahead) as u32;
-        let chosen = choose(shape.rate, shape.invert, window, self.held.as_slice());
-        self.held.drop_first(usize::from(chosen.skip));
+        let octets = octets_from(&self.held, self.passed);
+        let chosen = choose(shape.rate, shape.invert, window, octets);
+        self.passed = passed_by(&self.held, self.passed, usize::from(chosen.skip));
         self.chosen = Some(chosen);
         self.dropped = Some(0);
     }
@@ -516,7 +542,7 @@ impl WindowQueue {
             → AreUndropped self.now.windows self.now.t self.now.held (result + 1) → ⊥ }
     {
         let shape = self.settings.shape;
-        let octets = self.held.as_slice();
+        let octets = octets_from(&self.held, self.passed);
         let most = closed_windows(shape, self.t, octets.len(), self.candidates.len());
         if most < 2 {
             return most;
@@ -563,15 +589,16 @@ impl WindowQueue {
             shape,
             starts: self.starts,
             t: self.t,
-            octets: &self.held.as_slice()[..size],
+            octets: &octets_from(&self.held, self.passed)[..size],
         };
         let dropped = self.dropped.unwrap_or(0);
         let decoders = self.decoders.as_mut_slice();
         let candidates = self.candidates.as_mut_slice();
         self.starts = decode_windows(crew, decoders, candidates, count, &run, dropped);
         self.run_t = self.t;
-        self.run_at = self.held.behind().len();
-        self.held.drop_first(steps_len(shape.rate, self.t, steps));
+        self.run_at = self.passed;
+        let size = steps_len(shape.rate, self.t, steps);
+        self.passed = passed_by(&self.held, self.passed, size);
         self.t += steps as u64;
         self.slips += slip_at(dropped);
         self.lost += u64::from(dropped);
@@ -598,13 +625,13 @@ impl WindowQueue {
         ensures same { IsSameQueue self.old self.new }
     {
         let shape = self.settings.shape;
-        let octets = self.held.as_slice();
+        let octets = octets_from(&self.held, self.passed);
         let limit = shape.keep + shape.ahead;
         let steps = whole_steps(shape.rate, self.t, octets.len(), limit);
         let left = (octets.len() - steps_len(shape.rate, self.t, steps)) as u8;
         self.ready = 0;
         if steps == 0 {
-            self.held.clear();
+            self.passed = self.held.as_slice().len();
             return left;
         }
         let run = WindowRun {
@@ -621,13 +648,20 @@ impl WindowQueue {
             dropped,
         );
         self.run_t = self.t;
-        self.run_at = self.held.behind().len();
+        self.run_at = self.passed;
+        self.passed = self.held.as_slice().len();
         self.t += steps as u64;
         self.slips += slip_at(dropped);
         self.lost += u64::from(dropped);
         self.ready = 1;
-        self.held.clear();
         left
+    }
+
+    /// The shape of its windows.
+    pub fn shape(&self) -> WindowShape
+        ensures { result ≡ shape_of self.now }
+    {
+        self.settings.shape
     }
 
     /// How many blocks are ready.
@@ -666,9 +700,41 @@ impl WindowQueue {
         let register = self.block(index).start;
         let bits = self.kept_bits(index);
         let t = self.step(index);
-        let read = &self.held.behind()[self.run_at..];
-        let octets = &read[steps_len(shape.rate, self.run_t, index * shape.keep)..];
-        symbol_counts(shape.rate, shape.invert, t, register, bits, octets)
+        symbol_counts(
+            shape.rate,
+            shape.invert,
+            t,
+            register,
+            bits,
+            self.read_from(index),
+        )
+    }
+
+    /// The soft octets of the steps of its window. No octet may have been put in since it was decoded.
+    pub fn octets(&self, index: usize) -> &[u8]
+        requires index { index < length self.now.ready }
+        requires there { IsThere self.now }
+        ensures octets { (block : WindowBlock) → result.now
+            ≡ take (window_size self.now index (slice_index_or self.now.ready index block)) (octets_of self.now index) }
+        ensures size { (block : WindowBlock) → length result.now
+            ≡ window_size self.now index (slice_index_or self.now.ready index block) }
+    {
+        let steps = self.block(index).steps as usize;
+        let size = steps_len(self.settings.shape.rate, self.step(index), steps);
+        &self.read_from(index)[..size]
+    }
+
+    // The octets from the first step of its window on.
+    fn read_from(&self, index: usize) -> &[u8]
+        requires index { index < length self.now.ready }
+        requires there { IsThere self.now }
+        ensures octets { result.now ≡ octets_of self.now index }
+        ensures room { (block : WindowBlock) → window_size self.now index (slice_index_or self.now.ready index block)
+            ≤ length result.now }
+    {
+        let shape = self.settings.shape;
+        let first = steps_len(shape.rate, self.run_t, index * shape.keep);
+        &octets_from(&self.held, self.run_at)[first..]
     }
 
     /// The step at which the window of a block that is ready begins.
@@ -714,7 +780,7 @@ impl WindowQueue {
         if self.awaits_phase() {
             return 0;
         }
-        let len = self.held.as_slice().len();
+        let len = octets_from(&self.held, self.passed).len();
         closed_windows(self.settings.shape, self.t, len, self.candidates.len())
     }
 

@@ -8,12 +8,12 @@ pub returns-clause-stands : goal.returns-clause-stands
 returns-clause-stands c = λ given done stands.
     let s = c.self.inside in
     let shape = s.settings.shape in
-    chosen-stands _ c.choose-chosen.result true c.drop_first.new.self.octets given _ done
+    chosen-stands _ c.choose-chosen.result true (drop c.passed_by-self-inside.result c.self.inside.held.octets) given _ done
     (omega (arith, c.self.invariant)) (omega (arith, c.self.invariant))
     (subst (λ (q : Queueing). AwaitsPhase q) (sym c.self.view_is) c.requires.awaits)
     (subst (λ (o : List ℕ). IsPhase shape.rate shape.invert (shape.keep + shape.ahead) o c.choose-chosen.result)
-    c.as_slice.ensures.octets c.choose-chosen.ensures)
-    (c.drop_first.ensures.octets ∙ ap (λ (n : ℕ). drop n s.held.octets) c.from.ensures)
+    c.octets_from-octets.ensures.octets c.choose-chosen.ensures)
+    (c.passed_by-self-inside.ensures.octets ∙ ap (λ (n : ℕ). drop n (drop s.passed s.held.octets)) c.from.ensures)
     (λ going. absurd (let never : true ≡ false = going in cc))
     (subst (λ (q : Queueing). QueueStandsFor q given done) (sym c.self.view_is) stands)
 
@@ -21,11 +21,11 @@ pub returns-clause-lasts : goal.returns-clause-lasts
 returns-clause-lasts c = λ many given done stands.
     let s = c.self.inside in
     let shape = s.settings.shape in
-    chosen-stands _ c.choose-chosen.result s.has_ended c.drop_first.new.self.octets given _ done
+    chosen-stands _ c.choose-chosen.result s.has_ended (drop c.passed_by-self-inside.result c.self.inside.held.octets) given _ done
     (omega (arith, c.self.invariant)) (omega (arith, c.self.invariant))
     (subst (λ (q : Queueing). AwaitsPhase q) (sym c.self.view_is) c.requires.awaits)
     (subst (λ (o : List ℕ). IsPhase shape.rate shape.invert (shape.keep + shape.ahead) o c.choose-chosen.result)
-    c.as_slice.ensures.octets c.choose-chosen.ensures)
-    (c.drop_first.ensures.octets ∙ ap (λ (n : ℕ). drop n s.held.octets) c.from.ensures)
+    c.octets_from-octets.ensures.octets c.choose-chosen.ensures)
+    (c.passed_by-self-inside.ensures.octets ∙ ap (λ (n : ℕ). drop n (drop s.passed s.held.octets)) c.from.ensures)
     (λ going. subst (λ (q : Queueing). phase_size q ≤ length q.held) (sym c.self.view_is) many)
     (subst (λ (q : Queueing). QueueStandsFor q given done) (sym c.self.view_is) stands)

@@ -9,7 +9,7 @@ use Rattle.tm_windows.proofs.queue.WindowQueue.count_closed.Goals as goal
 holds : (c : goal.After-closed_windows) → 0 < c.closed_windows.result → HoldsRun c.args.self.now c.closed_windows.result
 holds c some =
     subst (λ (q : Queueing). HoldsRun q c.closed_windows.result) c.self.view_is
-    (omega (arith, ap length c.as_slice-len.ensures.octets, c.closed_windows.ensures.room some))
+    (omega (arith, ap length c.octets_from-len.ensures.octets, c.closed_windows.ensures.room some))
 
 -- and no more of them than are decoded at a time
 closes-all : (c : goal.After-closed_windows) → c.closed_windows.result < c.args.self.now.most
@@ -18,7 +18,7 @@ closes-all c few =
     subst (λ (q : Queueing). c.closed_windows.result < q.most → IsMost q c.closed_windows.result) c.self.view_is
     (λ less. omega (
       arith,
-      ap length c.as_slice-len.ensures.octets,
+      ap length c.octets_from-len.ensures.octets,
       c.closed_windows.ensures.all (omega (arith, less, c.len.ensures)),
     )) few
 

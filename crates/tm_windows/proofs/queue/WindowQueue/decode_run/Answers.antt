@@ -1,5 +1,4 @@
 use Rattle.std.proofs.Common.{◌≡◌, ◌∙◌, ◌++◌, ◌∷◌, ◌+◌, ◌*◌, All, ℕ, List, Some, None, inr, sym, ap, subst, arith, drop, is_some, length, length-drop, map, take, unwrap_or}
-use Rattle.std.proofs.Math.Seq.{drop-append_seam}
 use Rattle.std.specs.Vec.{with_items}
 use Rattle.std.proofs.lemmas.List.{length-map, length-take-le, with_items_is}
 use Rattle.tm_conv.specs.Path.{steps_size}
@@ -15,7 +14,7 @@ use Rattle.tm_windows.proofs.queue.WindowQueue.decode_run.Given.{Over}
 use Rattle.tm_windows.proofs.queue.WindowQueue.decode_run.Goals as goal
 
 -- the run that is held
-is_run : (g : Over) (c : goal.After-self-10-1 g) → IsRun c.args.self.now c.unwrap_or-dropped.result c.args.count
+is_run : (g : Over) (c : goal.After-self-11-1 g) → IsRun c.args.self.now c.unwrap_or-dropped.result c.args.count
 is_run g c =
     let s = c.args.self.now in
     record {
@@ -30,56 +29,67 @@ is_run g c =
     }
 
 -- its octets
-held_is : (g : Over) (c : goal.After-self-10-1 g) → c.steps_len-size.result
+held_is : (g : Over) (c : goal.After-self-11-1 g) → c.steps_len-size.result
     ≡ steps_size c.args.self.now.windows.settings.rate c.args.self.now.t
     (c.args.count * c.args.self.now.windows.settings.keep + c.args.self.now.windows.settings.ahead + 1)
 held_is g c =
     subst (λ (q : Queueing). c.steps_len-size.result ≡ steps_size q.windows.settings.rate q.t
     (c.args.count * q.windows.settings.keep + q.windows.settings.ahead + 1)) c.self.view_is c.steps_len-size.ensures
 
-size_is : (g : Over) (c : goal.After-self-10-1 g) → c.steps_len.result
+size_is : (g : Over) (c : goal.After-self-11-1 g) → c.steps_len-size-2.result
     ≡ steps_size c.args.self.now.windows.settings.rate c.args.self.now.t
     (c.args.count * c.args.self.now.windows.settings.keep)
 size_is g c =
-    subst (λ (q : Queueing). c.steps_len.result ≡ steps_size q.windows.settings.rate q.t
-    (c.args.count * q.windows.settings.keep)) c.self.view_is c.steps_len.ensures
+    subst (λ (q : Queueing). c.steps_len-size-2.result ≡ steps_size q.windows.settings.rate q.t
+    (c.args.count * q.windows.settings.keep)) c.self.view_is c.steps_len-size-2.ensures
 
-cut : (g : Over) (c : goal.After-self-10-1 g)
-    → IsCut c.args.self.now c.args.count c.steps_len-size.result c.steps_len.result
+cut : (g : Over) (c : goal.After-self-11-1 g)
+    → IsCut c.args.self.now c.args.count c.steps_len-size.result c.steps_len-size-2.result
 cut g c =
     let is = is_run g c in
-    is_cut c.args.self.now c.args.count c.steps_len-size.result c.steps_len.result is.wide is.some is.room
+    is_cut c.args.self.now c.args.count c.steps_len-size.result c.steps_len-size-2.result is.wide is.some is.room
     (held_is g c) (size_is g c)
 
-left_is : (g : Over) (c : goal.After-self-10-1 g)
-    → length c.drop_first.new.self.octets + c.steps_len.result ≡ length c.args.self.now.held
-left_is g c =
-    let held = c.self.inside.held.octets in
+-- the octets that are left, and those of the run
+abbrev left_of : (g : Over) → goal.After-self-11-1 g → List ℕ
+left_of g c = drop c.passed_by-self-inside.result c.self.inside.held.octets
+
+abbrev read_of : (g : Over) → goal.After-self-11-1 g → List ℕ
+read_of g c = drop c.self.inside.passed c.self.inside.held.octets
+
+read_is : (g : Over) (c : goal.After-self-11-1 g) → read_of g c ≡ c.args.self.now.held
+read_is g c = ap (λ (q : Queueing). q.held) c.self.view_is
+
+left_is : (g : Over) (c : goal.After-self-11-1 g) → left_of g c ≡ drop c.steps_len-size-2.result c.args.self.now.held
+left_is g c = c.passed_by-self-inside.ensures.octets ∙ ap (drop c.steps_len-size-2.result) (read_is g c)
+
+left_few : (g : Over) (c : goal.After-self-11-1 g)
+    → length (left_of g c) + c.steps_len-size-2.result ≡ length c.args.self.now.held
+left_few g c =
     let are = cut g c in
     omega (
       arith,
-      ap length c.drop_first.ensures.octets,
-      length-drop c.steps_len.result held,
-      ap (λ (q : Queueing). length q.held) c.self.view_is,
+      ap length (left_is g c),
+      length-drop c.steps_len-size-2.result c.args.self.now.held,
       are.within,
       are.inside,
     )
 
 pub returns-clause-shorter : goal.returns-clause-shorter
-returns-clause-shorter g c = let are = cut g c in omega (arith, left_is g c, are.some)
+returns-clause-shorter g c = let are = cut g c in omega (arith, left_few g c, are.some)
 
 pub returns-clause-counted : goal.returns-clause-counted
 returns-clause-counted g c =
     let are = cut g c in
     omega (
       arith,
-      left_is g c,
+      left_few g c,
       are.long,
       ap (λ (q : Queueing). q.t) c.self.view_is,
       ap (λ (q : Queueing). c.args.count * q.windows.settings.keep) c.self.view_is,
     )
 
-candidates_is : (g : Over) (c : goal.After-self-10-1 g)
+candidates_is : (g : Over) (c : goal.After-self-11-1 g)
     → (with_items c.self.inside.candidates c.decode_windows-self-inside.new.candidates).items
     ≡ c.decode_windows-self-inside.new.candidates
 candidates_is g c =
@@ -119,8 +129,10 @@ invariant_of-self g c =
         are.wide,
         wide,
       ),
-      omega (arith, i.13, c.drop_first.ensures.room),
-      omega (arith, i.14, c.drop_first.ensures.room),
+      i.13,
+      i.14,
+      omega (arith, c.passed_by-self-inside.ensures.inside),
+      c.passed_by-self-inside.ensures.inside.1,
     )
 
 pub returns-clause-count : goal.returns-clause-count
@@ -143,17 +155,8 @@ returns-clause-later g c =
     later-undropped_of _ c.unwrap_or-dropped.result _ _ blocks.0 blocks.1 _
     (ap (λ (u : List Candidate). map block_of (take c.args.count u)) (candidates_is g c) ∙ blocks.2) blocks.3
 
--- the octets that are dropped with the run are those of its kept steps
-read_is : (g : Over) (c : goal.After-self-10-1 g)
-    → drop (length c.behind.result.now) c.drop_first.new.self.behind ≡ take c.steps_len.result c.args.self.now.held
-read_is g c =
-    let held = c.self.inside.held in
-    (λ i. drop (length (c.behind.ensures i)) (c.drop_first.ensures.behind i))
-    ∙ drop-append_seam held.behind (take c.steps_len.result held.octets)
-    ∙ ap (λ (q : Queueing). take c.steps_len.result q.held) c.self.view_is
-
 -- the candidates' blocks, of windows that the octets held close
-closes : (g : Over) (c : goal.After-self-10-1 g)
+closes : (g : Over) (c : goal.After-self-11-1 g)
     → (let blocks = c.decode_windows-self-inside.ensures.blocks in ClosesRun c.args.self.now c.args.count
     c.steps_len-size.result (blocks.0 ∷ blocks.1) c.decode_windows-self-inside.result)
 closes g c =
@@ -165,21 +168,18 @@ closes g c =
     let blocks = c.decode_windows-self-inside.ensures.blocks in
     subst (λ (q : Queueing). ClosesRun q count m (blocks.0 ∷ blocks.1) next) c.self.view_is
     (subst (λ (o : List ℕ). ClosedWith shape (place_of v.starts v.t (take m o)) (blocks.0 ∷ blocks.1)
-    (after_windows shape v.t (take m o) count next)) c.as_slice.ensures.octets blocks.3)
+    (after_windows shape v.t (take m o) count next)) c.octets_from.ensures.octets blocks.3)
 
--- the octets of the run, its blocks, and the queue with them
-abbrev read_of : (g : Over) → goal.After-self-10-1 g → List ℕ
-read_of g c = drop (length c.behind.result.now) c.drop_first.new.self.behind
-
-abbrev ready_of : (g : Over) → goal.After-self-10-1 g → List WindowBlock
+-- its blocks, and the queue with them
+abbrev ready_of : (g : Over) → goal.After-self-11-1 g → List WindowBlock
 ready_of g c = map block_of
     (take c.args.count (with_items c.self.inside.candidates c.decode_windows-self-inside.new.candidates).items)
 
-abbrev after_of : (g : Over) → goal.After-self-10-1 g → Queueing → Queueing
+abbrev after_of : (g : Over) → goal.After-self-11-1 g → Queueing → Queueing
 after_of g c q = after_run q c.args.count c.slip_at.result c.from.result c.decode_windows-self-inside.result
-    c.undecided-self-inside.result c.drop_first.new.self.octets (read_of g c) (ready_of g c)
+    c.undecided-self-inside.result (left_of g c) (read_of g c) (ready_of g c)
 
-ready_are : (g : Over) (c : goal.After-self-10-1 g)
+ready_are : (g : Over) (c : goal.After-self-11-1 g)
     → (let blocks = c.decode_windows-self-inside.ensures.blocks in
     ready_of g c ≡ dropped_at c.unwrap_or-dropped.result blocks.0 ∷ blocks.1)
 ready_are g c =
@@ -190,10 +190,9 @@ pub returns-clause-there : goal.returns-clause-there
 returns-clause-there g c =
     let blocks = c.decode_windows-self-inside.ensures.blocks in
     subst (λ (q : Queueing). IsThere (after_of g c q)) (sym c.self.view_is)
-    (run-there c.args.self.now c.unwrap_or-dropped.result c.args.count c.steps_len-size.result c.steps_len.result
-    c.slip_at.result c.from.result c.decode_windows-self-inside.result c.undecided-self-inside.result
-    c.drop_first.new.self.octets (read_of g c) blocks.0 blocks.1 (ready_of g c) (is_run g c) (held_is g c) (size_is g c)
-    (read_is g c) (ready_are g c) (returns-clause-count g c) (closes g c) (omega (arith, c.requires.few)))
+    (run-there c.args.self.now c.unwrap_or-dropped.result c.args.count c.steps_len-size.result c.slip_at.result c.from.result c.decode_windows-self-inside.result c.undecided-self-inside.result
+    (left_of g c) (read_of g c) blocks.0 blocks.1 (ready_of g c) (is_run g c) (read_is g c)
+    (ready_are g c) (returns-clause-count g c) (closes g c) (omega (arith, c.requires.few)))
 
 pub returns-clause-read : goal.returns-clause-read
 returns-clause-read g c = λ given done stands.
@@ -202,21 +201,19 @@ returns-clause-read g c = λ given done stands.
     let blocks = c.decode_windows-self-inside.ensures.blocks in
     let run = is_run g c in
     subst (λ (q : Queueing). IsRead (after_of g c q) given done) (sym c.self.view_is)
-    (run-read s given done k c.args.count c.steps_len-size.result c.steps_len.result c.slip_at.result c.from.result
-    c.decode_windows-self-inside.result c.undecided-self-inside.result c.drop_first.new.self.octets (read_of g c)
-    blocks.0 blocks.1 (ready_of g c) run (size_is g c) (read_is g c) (ready_are g c) (returns-clause-count g c) (closes g c)
+    (run-read s given done k c.args.count c.steps_len-size.result c.slip_at.result c.from.result
+    c.decode_windows-self-inside.result c.undecided-self-inside.result (left_of g c) (read_of g c)
+    blocks.0 blocks.1 (ready_of g c) run (read_is g c) (ready_are g c) (closes g c)
     (decided_after s given done k run.dropped stands))
 
 pub returns-clause-stands : goal.returns-clause-stands
 returns-clause-stands g c = λ given done stands.
     let s = c.args.self.now in
     let k = c.unwrap_or-dropped.result in
-    let left = c.drop_first.new.self.octets in
+    let left = left_of g c in
     let blocks = c.decode_windows-self-inside.ensures.blocks in
     let cut_off : left ≡ drop (steps_size s.windows.settings.rate s.t (c.args.count * s.windows.settings.keep)) s.held =
-    subst (λ (q : Queueing). left ≡ drop (steps_size q.windows.settings.rate q.t
-    (c.args.count * q.windows.settings.keep)) q.held) c.self.view_is
-    (c.drop_first.ensures.octets ∙ ap (λ (n : ℕ). drop n c.self.inside.held.octets) c.steps_len.ensures) in
+    left_is g c ∙ ap (λ (n : ℕ). drop n s.held) (size_is g c) in
     let undecided_is = subst (λ (q : Queueing). c.undecided-self-inside.result ≡ undecided (is_some q.windows.seen))
     c.self.view_is (c.undecided-self-inside.ensures ∙ ap undecided c.is_some.ensures) in
     let run = is_run g c in

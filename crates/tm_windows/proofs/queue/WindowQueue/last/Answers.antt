@@ -1,7 +1,6 @@
-use Rattle.std.proofs.Common.{◌-◌, ◌≤◌, ◌∙◌, ◌++◌, [], ℕ, List, length, drop, map, take, set, unwrap_or, sym, ap, subst, arith}
-use Rattle.std.proofs.Math.Seq.{drop-append_seam}
+use Rattle.std.proofs.Common.{◌-◌, ◌+◌, ◌≤◌, ◌∙◌, ◌++◌, [], ℕ, List, length, length-drop, drop, map, take, set, unwrap_or, sym, ap, subst, arith}
 use Rattle.std.proofs.lemmas.Grind.{take-set_at}
-use Rattle.tm_conv.proofs.Sizes.{steps_size-least}
+use Rattle.tm_conv.proofs.Sizes.{steps_size-least, steps_size-most}
 use Rattle.tm_viterbi.specs.Blocks.{IsBlock}
 use Rattle.tm_viterbi.specs.WindowBlock.{WindowBlock}
 use Rattle.tm_windows.specs.Candidates.{block_of}
@@ -9,24 +8,24 @@ use Rattle.tm_windows.specs.Windows.{undropped}
 use Rattle.tm_windows.specs.Queue.{Queueing, AwaitsPhase, IsOpen, IsRead, IsThere, QueueEndsFor}
 use Rattle.tm_windows.proofs.LastWindow.{AreWhole, IsLastBlock, after_last, are_whole, few_left, ends-none, ends-one, last-read, last-there}
 use Rattle.tm_windows.proofs.queue.WindowQueue.last.Goals as goal
-use Rattle.tm_windows.proofs.queue.WindowQueue.last.Goals.{After-clear-2, After-steps_len}
+use Rattle.tm_windows.proofs.queue.WindowQueue.last.Goals.{After-self-10-1, After-steps_len}
 
 whole : (c : After-steps_len) → AreWhole c.args.self.now c.whole_steps-steps.result c.steps_len.result
 whole c =
     let steps = c.whole_steps-steps in
-    let same = ap length c.as_slice-octets.ensures.octets in
+    let same = ap length c.octets_from-octets.ensures.octets in
     subst (λ (q : Queueing). AreWhole q steps.result c.steps_len.result) c.self.view_is
     (are_whole _ steps.result c.steps_len.result
     (subst (λ (q : Queueing). IsOpen q) (sym c.self.view_is) c.requires.is_open)
     (subst (λ (q : Queueing). AwaitsPhase q → ⊥) (sym c.self.view_is) c.requires.settled) c.steps_len.ensures
     (omega (arith, steps.ensures.whole, same)) steps.ensures.most (λ less. omega (arith, steps.ensures.all less, same)))
 
-few : (c : After-steps_len) → length c.as_slice-octets.result.now - c.steps_len.result ≤ 1
+few : (c : After-steps_len) → length c.octets_from-octets.result.now - c.steps_len.result ≤ 1
 few c =
     omega (
       arith,
       few_left c.args.self.now c.whole_steps-steps.result c.steps_len.result (whole c),
-      ap length c.as_slice-octets.ensures.octets,
+      ap length c.octets_from-octets.ensures.octets,
       ap (λ (q : Queueing). length q.held) c.self.view_is,
     )
 
@@ -39,29 +38,33 @@ returns-then-steps-eq0-clause-left c = few (goal.at.returns-then-steps-eq0-claus
 pub returns-then-steps-eq0-clause-ends : goal.returns-then-steps-eq0-clause-ends
 returns-then-steps-eq0-clause-ends c = λ given done stands.
     let k = (goal.at.returns-then-steps-eq0-clause-ends c).After-steps_len in
-    let held = c.clear.new.self.octets in
-    let read = drop c.self.inside.run_at c.clear.new.self.behind in
+    let octets = c.self.inside.held.octets in
+    let held = drop (length c.as_slice.result.now) octets in
+    let read = drop c.self.inside.run_at octets in
     let q = c.args.self.now in
     subst (λ (p : Queueing). QueueEndsFor (record p { held = held; ready = []; read = read }) given (done ++ [])
-    (length c.as_slice-octets.result.now - c.steps_len.result)) (sym c.self.view_is)
+    (length c.octets_from-octets.result.now - c.steps_len.result)) (sym c.self.view_is)
     (subst (λ (n : ℕ). QueueEndsFor (record q { held = held; ready = []; read = read }) given (done ++ [])
     (n - c.steps_len.result))
-    (ap (λ (p : Queueing). length p.held) (sym c.self.view_is) ∙ ap length (sym c.as_slice-octets.ensures.octets))
+    (ap (λ (p : Queueing). length p.held) (sym c.self.view_is) ∙ ap length (sym c.octets_from-octets.ensures.octets))
     (ends-none q held given read done [] c.whole_steps-steps.result c.steps_len.result (whole k) c.if-steps-eq0.true
     c.requires.is_open c.requires.settled stands))
 
 -- the octets that were held, the block that is ready, and the queue with them
-abbrev read_of : After-clear-2 → List ℕ
-read_of c = drop (length c.behind.result.now) c.clear-2.new.self.behind
+abbrev read_of : After-self-10-1 → List ℕ
+read_of c = drop c.self.inside.passed c.self.inside.held.octets
 
-abbrev ready_of : After-clear-2 → List WindowBlock
+abbrev left_of : After-self-10-1 → List ℕ
+left_of c = drop (length c.as_slice-2.result.now) c.self.inside.held.octets
+
+abbrev ready_of : After-self-10-1 → List WindowBlock
 ready_of c = map block_of (take 1 (set c.self.inside.candidates.items 0 c.decode_last.new.candidate))
 
-abbrev after_of : After-clear-2 → Queueing → Queueing
+abbrev after_of : After-self-10-1 → Queueing → Queueing
 after_of c q = after_last q c.whole_steps-steps.result c.slip_at.result c.from.result
-    c.clear-2.new.self.octets (read_of c) (ready_of c)
+    (left_of c) (read_of c) (ready_of c)
 
-is_last : (c : After-clear-2) → IsLastBlock c.args.self.now c.whole_steps-steps.result c.steps_len.result
+is_last : (c : After-self-10-1) → IsLastBlock c.args.self.now c.whole_steps-steps.result c.steps_len.result
     c.unwrap_or-dropped.result (read_of c) (ready_of c) (block_of c.decode_last.new.candidate)
 is_last c =
     let s = c.self.inside in
@@ -81,11 +84,9 @@ is_last c =
           p.windows.settings.keep p.windows.settings.ahead p.starts p.t n p.held (undropped (block_of last)))
           c.self.view_is
           (subst (λ (o : List ℕ). IsBlock s.settings.shape.rate s.settings.shape.invert s.settings.shape.keep
-          s.settings.shape.ahead s.starts s.t n o (undropped (block_of last))) c.as_slice-octets.ensures.octets
+          s.settings.shape.ahead s.starts s.t n o (undropped (block_of last))) c.octets_from-octets.ensures.octets
           c.decode_last.ensures.block);
-      read_is =
-          (λ i. drop (length (c.behind.ensures i)) (c.clear-2.ensures.behind i))
-          ∙ drop-append_seam s.held.behind s.held.octets ∙ ap (λ (p : Queueing). p.held) c.self.view_is;
+      read_is = ap (λ (p : Queueing). p.held) c.self.view_is;
     }
 
 pub returns-clause-left : goal.returns-clause-left
@@ -95,10 +96,10 @@ pub returns-clause-ends : goal.returns-clause-ends
 returns-clause-ends c = λ given done stands.
     let q = c.args.self.now in
     subst (λ (p : Queueing). QueueEndsFor (after_of c p) given (done ++ ready_of c)
-    (length c.as_slice-octets.result.now - c.steps_len.result)) (sym c.self.view_is)
+    (length c.octets_from-octets.result.now - c.steps_len.result)) (sym c.self.view_is)
     (subst (λ (m : ℕ). QueueEndsFor (after_of c q) given (done ++ ready_of c) (m - c.steps_len.result))
-    (ap (λ (p : Queueing). length p.held) (sym c.self.view_is) ∙ ap length (sym c.as_slice-octets.ensures.octets))
-    (ends-one q _ _ _ _ _ _ (is_last c) c.clear-2.new.self.octets given done c.slip_at.result c.from.result
+    (ap (λ (p : Queueing). length p.held) (sym c.self.view_is) ∙ ap length (sym c.octets_from-octets.ensures.octets))
+    (ends-one q _ _ _ _ _ _ (is_last c) (left_of c) given done c.slip_at.result c.from.result
     c.requires.is_open c.requires.settled c.slip_at.ensures.value c.from.ensures stands))
 
 pub returns-clause-counted : goal.returns-clause-counted
@@ -109,7 +110,8 @@ returns-clause-counted c =
       whole.is,
       whole.whole,
       steps_size-least c.args.self.now.windows.settings.rate c.args.self.now.t c.whole_steps-steps.result,
-      ap length c.clear-2.ensures.octets,
+      length-drop (length c.as_slice-2.result.now) c.self.inside.held.octets,
+      ap length c.as_slice-2.ensures.octets,
       ap (λ (q : Queueing). q.t) c.self.view_is,
     )
 
@@ -117,11 +119,13 @@ pub returns-clause-there : goal.returns-clause-there
 returns-clause-there c = λ some.
     let last = is_last c in
     subst (λ (p : Queueing). IsThere (after_of c p)) (sym c.self.view_is)
-    (last-there c.args.self.now _ _ _ _ _ _ last c.clear-2.new.self.octets c.slip_at.result c.from.result
+    (last-there c.args.self.now _ _ _ _ _ _ last (left_of c) c.slip_at.result c.from.result
     (omega (
       arith,
       c.requires.few,
       last.whole.few,
+      last.whole.most,
+      steps_size-most c.args.self.now.windows.settings.rate c.args.self.now.t (c.whole_steps-steps.result + 1),
       c.self.invariant.0,
       ap (λ (p : Queueing). p.windows.settings.keep) c.self.view_is,
       ap (λ (p : Queueing). p.windows.settings.ahead) c.self.view_is,
@@ -130,5 +134,5 @@ returns-clause-there c = λ some.
 pub returns-clause-read : goal.returns-clause-read
 returns-clause-read c = λ some given done stands.
     subst (λ (p : Queueing). IsRead (after_of c p) given done) (sym c.self.view_is)
-    (last-read c.args.self.now _ _ _ _ _ _ (is_last c) c.clear-2.new.self.octets given done c.slip_at.result
+    (last-read c.args.self.now _ _ _ _ _ _ (is_last c) (left_of c) given done c.slip_at.result
     c.from.result c.requires.settled stands)
