@@ -1,6 +1,6 @@
 -- What is said of windows hangs on the octets of the steps that they keep, and on none after them.
 use Rattle.std.proofs.Common.{◌≡◌, ◌∙◌, ℕ, ◌+◌, ◌<◌, ◌≤◌, ◌++◌, List, [], ◌∷◌, length, take, drop, map, refl, sym, ap, arith, inr, length-drop, length-take, Option, Some, None}
-use Rattle.std.proofs.lemmas.List.{drop-append-le, drop-take, length-map, map-append, take-append-le, take-take}
+use Rattle.std.proofs.lemmas.List.{drop-append-le, length-map, map-append, take-append-le, take-take}
 use Rattle.tm_config.specs.Configuration.{Configuration}
 use Rattle.tm_conv.specs.Cost.{distance}
 use Rattle.tm_conv.specs.Counts.{counts_by, counts_of, distances}
@@ -47,10 +47,6 @@ block-first s t xs ys block same =
       length-path s.rate s.invert t block.start bits,
       steps_size-le s.rate t (length bits) block.kept (omega (arith, length-take block.kept block.bits)),
     )) same
-
-pub first-after : (k n : ℕ) (xs ys : List ℕ) → take (k + n) xs ≡ take (k + n) ys
-    → take n (drop k xs) ≡ take n (drop k ys)
-first-after k n xs ys same = sym (drop-take k n xs) ∙ ap (drop k) same ∙ drop-take k n ys
 
 -- ---- octets come after those of the kept steps
 

@@ -1,11 +1,10 @@
 -- What a decoder says of the windows that are ready is what is said of them of received octets.
-use Rattle.std.proofs.Common.{◌≡◌, ◌∙◌, ℕ, suc, ◌+◌, ◌<◌, ◌≤◌, ◌++◌, Bool, List, [], ◌∷◌, length, take, drop, drop-drop, map, refl, sym, ap, arith, append_assoc, length-append, slice_index_or, Option, Some}
+use Rattle.std.proofs.Common.{◌≡◌, ◌∙◌, ℕ, suc, ◌+◌, ◌<◌, ◌++◌, Bool, List, [], ◌∷◌, length, take, drop, drop-drop, map, refl, sym, ap, arith, append_assoc, length-append, slice_index_or, Option, Some}
 use Rattle.std.proofs.Math.Seq.{get_or-append_seam, take-append_seam}
-use Rattle.std.proofs.lemmas.List.{append-nil, drop-map, take-take}
+use Rattle.std.proofs.lemmas.List.{append-nil, drop-map}
 use Rattle.tm_config.specs.Configuration.{Configuration}
 use Rattle.tm_conv.specs.Path.{steps_size}
 use Rattle.tm_conv.specs.declared.rates.Rate.{Rate}
-use Rattle.tm_conv.proofs.Sizes.{steps_size-add, steps_size-le}
 use Rattle.tm_viterbi.specs.Settings.{Settings}
 use Rattle.tm_viterbi.specs.WindowBlock.{WindowBlock}
 use Rattle.tm_windows.specs.Queue.{IsRead, IsSameQueue, QueueStandsFor, Queueing}
@@ -13,12 +12,12 @@ use Rattle.tm_windows.specs.Windows.{Windows, block_counts, dropped_of, kept_of}
 use Rattle.tm_windows.proofs.FollowedRuns.{dropped-append, kept-append}
 use Rattle.tm_inner.specs.Inner.{settings_of, soft_value}
 use Rattle.tm_inner.specs.InnerDecoding.{InnerDecoding, InnerDecoderStandsFor, IsQueueOf, ready_in}
-use Rattle.tm_inner.specs.InnerWindows.{counts_at, no_block, window_at, window_in, window_of, window_symbol, windows_after, windows_from, windows_in}
+use Rattle.tm_inner.specs.InnerWindows.{AreReadOf, counts_at, no_block, window_at, window_in, window_of, window_symbol, windows_after, windows_from, windows_in}
 use Rattle.tm_inner.specs.Phase.{phase_octets, skip_of, skipped_at}
 use Rattle.tm_inner.specs.SymbolPlaces.{origin_by, symbols_before}
 use Rattle.tm_inner.proofs.Decoders.{decoding}
 use Rattle.tm_inner.proofs.DecoderCalls.{of-same}
-use Rattle.tm_inner.proofs.KeptOctets.{block-first, first-after, steps-on}
+use Rattle.tm_inner.proofs.KeptOctets.{steps-on}
 
 -- blocks that come after these are ready, and their octets are those that were given; octets were
 -- dropped before the first of them alone
@@ -62,22 +61,10 @@ counts-read c q given blocks front rest x at a ready is =
     let d = kept_of blocks in
     let k = kept_of front in
     let m = steps_size s.rate d k in
-    let n = steps_size s.rate (d + k) x.kept in
-    let size = steps_size s.rate d (kept_of q.ready) in
     let from = skip_of q.chosen + dropped_of (blocks ++ q.ready) + steps_size s.rate 0 d in
     let skip = skipped_at c.inner c in
-    let soft = phase_octets c given in
     let read = a.read (omega (arith, ap length ready, length-append front (x ∷ rest))) in
     let sum : kept_of (blocks ++ front) ≡ d + k = kept-append blocks front in
-    let inside : m + n ≤ size = omega (
-      arith,
-      steps_size-add s.rate d k x.kept,
-      steps_size-le s.rate d (k + x.kept) (kept_of q.ready)
-          (omega (arith, ap kept_of ready, kept-append front (x ∷ rest))),
-    ) in
-    let there : take (m + n) q.read ≡ take (m + n) (drop from soft) =
-    sym (take-take (m + n) size q.read inside) ∙ ap (take (m + n)) read.octets
-    ∙ take-take (m + n) size (drop from soft) inside in
     let place : skip + (from + m) ≡ at = omega (
       arith,
       is,
@@ -85,14 +72,12 @@ counts-read c q given blocks front rest x at a ready is =
       ap (steps_size s.rate 0) sum,
       steps-on s.rate d k,
     ) in
-    let past : drop m (drop from soft) ≡ map f (drop at given) =
-    drop-drop m from soft ∙ drop-map f (from + m) (drop skip given)
-    ∙ ap (map f) (drop-drop (from + m) skip given ∙ ap (λ (j : ℕ). drop j given) place) in
     let octets = map f (drop at given) in
+    let there : drop m q.read ≡ octets =
+    ap (drop m) read.octets ∙ drop-drop m from (phase_octets c given) ∙ drop-map f (from + m) (drop skip given)
+    ∙ ap (map f) (drop-drop (from + m) skip given ∙ ap (λ (j : ℕ). drop j given) place) in
     ap (λ (t : ℕ). block_counts s (t + k) (drop (steps_size s.rate t k) q.read) x) read.step
-    ∙ block-first s (d + k) (drop m q.read) octets x
-    (first-after m n q.read (drop from soft) there ∙ ap (take n) past)
-    ∙ ap (λ (t : ℕ). block_counts s t octets x) (sym sum)
+    ∙ (let back = sym sum in λ i. block_counts s (back i) (there i) x)
     ∙ ap (λ (v : Settings). block_counts v (kept_of (blocks ++ front)) octets x) a.settings
     ∙ ap (λ (r : Option Rate). counts_at r c at given (blocks ++ front) x) (sym a.inner)
 
@@ -162,6 +147,11 @@ windows-read c q count has_phase ended given blocks a =
 abbrev pub Reads : InnerDecoding → InnerDecoding → Type 0
 Reads d now = (given : List ℕ) (blocks : List WindowBlock) → InnerDecoderStandsFor d given blocks
     → windows_in now ≡ windows_after now.config (skip_of now.chosen) given blocks (ready_in now.queue)
+
+-- and their octets are those that were put in
+abbrev pub ReadsOctets : InnerDecoding → InnerDecoding → Type 0
+ReadsOctets d now = (given : List ℕ) (blocks : List WindowBlock) → InnerDecoderStandsFor d given blocks
+    → AreReadOf now.queue (phase_octets now.config given) blocks
 
 pub reads-queue : (c : Configuration) (q now : Queueing) (count : ℕ) (has_phase ended : Bool) → IsQueueOf c (Some q)
     → IsSameQueue q now → dropped_of (drop 1 now.ready) ≡ 0

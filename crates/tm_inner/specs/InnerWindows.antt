@@ -1,11 +1,12 @@
 -- What is said of the windows of received octets.
-use Rattle.std.specs.Prelude.{◌≡◌, ◌⊎◌, ℕ, zero, suc, ◌+◌, ◌<◌, false, List, [], ◌∷◌, ◌++◌, length, map, drop, slice_index_or, Option, Some, None}
+use Rattle.std.specs.Prelude.{◌≡◌, ◌⊎◌, ℕ, zero, suc, ◌+◌, ◌<◌, false, List, [], ◌∷◌, ◌++◌, length, map, drop, take, slice_index_or, Option, Some, None}
 use Rattle.tm_config.specs.Configuration.{Configuration}
 use Rattle.tm_conv.specs.Counts.{none_counted}
 use Rattle.tm_conv.specs.declared.counts.SymbolCounts.{SymbolCounts}
 use Rattle.tm_conv.specs.declared.rates.Rate.{Rate}
 use Rattle.tm_viterbi.specs.WindowBlock.{WindowBlock}
-use Rattle.tm_windows.specs.Queue.{IsThere, Queueing, octets_of, step_of}
+use Rattle.tm_viterbi.specs.declared.window_decoder.WindowShape.{WindowShape}
+use Rattle.tm_windows.specs.Queue.{IsRead, IsThere, Queueing, octets_of, shape_of, step_of, window_size}
 use Rattle.tm_windows.specs.Windows.{block_counts, dropped_of, kept_of}
 use Rattle.tm_windows.specs.declared.choosing.Chosen.{Chosen}
 use Rattle.tm_inner.specs.Inner.{AreInnerBlocks, AreInnerDue, settings_of, soft_value}
@@ -82,16 +83,31 @@ AreWindowsDue c octets windows = ((IsSettled c octets → ⊥) × (windows ≡ [
 
 -- ---- by what a decoder keeps
 
--- where blocks are ready the octets of the steps that they keep are there
+-- where blocks are ready the octets of their windows are there
 abbrev pub AreThere : Option Queueing → Type 0
 AreThere None = Unit {0}
 AreThere (Some queue) = 0 < length queue.ready → IsThere queue
+
+-- and they are those that were put in, after the windows of these blocks
+abbrev pub AreReadOf : Option Queueing → List ℕ → List WindowBlock → Type 0
+AreReadOf None soft blocks = Unit {0}
+AreReadOf (Some queue) soft blocks = 0 < length queue.ready → IsRead queue soft blocks
+
+-- those of the window of one of them
+abbrev pub octets_in : Option Queueing → ℕ → WindowBlock → List ℕ
+octets_in None index block = []
+octets_in (Some queue) index block = take (window_size queue index block) (octets_of queue index)
 
 -- what they say of a block that is ready
 abbrev pub counts_in : Configuration → Option Queueing → ℕ → WindowBlock → SymbolCounts
 counts_in c None index block = none_counted
 counts_in c (Some queue) index block = block_counts queue.windows.settings (step_of queue index)
     (octets_of queue index) block
+
+-- the shape of its window
+abbrev pub shape_in : Option Queueing → Option WindowShape
+shape_in None = None
+shape_in (Some queue) = Some (shape_of queue)
 
 -- the number of its first step
 abbrev pub step_in : Option Queueing → ℕ → ℕ

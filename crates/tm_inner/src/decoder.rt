@@ -7,13 +7,14 @@ ghost use Rattle.tm_base.specs.Takers.{HandedOver, HandedPart};
 ghost use Rattle.tm_conv.specs.Path.{AreBits};
 ghost use Rattle.tm_viterbi.specs.Clean.{kept_bits};
 ghost use Rattle.tm_viterbi.specs.WindowBlock.{WindowBlock};
-ghost use Rattle.tm_viterbi.specs.WindowSizes.{stream_bound};
+ghost use Rattle.tm_viterbi.specs.WindowSizes.{most_window, stream_bound};
+ghost use Rattle.tm_windows.specs.Queue.{IsWindowPath, Queueing, window_size};
 ghost use Rattle.tm_windows.specs.Windows.{dropped_of, slips_of};
 ghost use Rattle.tm_windows.specs.declared.choosing.Chosen.{Chosen};
 ghost use Rattle.tm_inner.specs.Inner.{AreInnerBlocks, AreInnerDue, inner_bits, nearest_bit, plain_count, reported_slips};
 ghost use Rattle.tm_inner.specs.Phase.{IsChosen, IsSettled, IsSoFarBy, phase_octets, skip_of, skipped_at};
 ghost use Rattle.tm_inner.specs.InnerDecoding.{DecodesFor, GoesWith, HasChosen, HasFilled, HasWorkers, HoldsMore, InnerDecoderStandsFor, IsDrained, IsQueueOf, IsSettledQueue, has_phase_now, held_in, lost_in, origin_in, plain_phase, ready_in, unread};
-ghost use Rattle.tm_inner.specs.InnerWindows.{AreThere, window_in, windows_in, windows_after};
+ghost use Rattle.tm_inner.specs.InnerWindows.{AreReadOf, AreThere, octets_in, shape_in, step_in, window_in, windows_in, windows_after};
 ghost use Rattle.tm_inner.specs.Receiving.{HasHanded};
 
 use crate::code::{is_packed, is_signed, rate_of, shape_of};
@@ -25,7 +26,7 @@ use std::marker::Model;
 use tm_base::{Failed, NoMemory, to_unsigned};
 use tm_config::{Config, Sought};
 use tm_conv::symbols_of;
-use tm_viterbi::{Block, BlockTaker};
+use tm_viterbi::{Block, BlockTaker, WindowShape};
 use tm_windows::{Chosen, Crew, QueueSettings, STREAM_BOUND, WindowQueue};
 
 /// What came of all octets.
@@ -177,6 +178,8 @@ impl InnerDecoder {
         ensures windows { (given : List ℕ) (blocks : List WindowBlock) → InnerDecoderStandsFor self.old given blocks
             → windows_in self.new
             ≡ windows_after self.new.config (skip_of self.new.chosen) given blocks (ready_in self.new.queue) }
+        ensures read { (given : List ℕ) (blocks : List WindowBlock) → InnerDecoderStandsFor self.old given blocks
+            → AreReadOf self.new.queue (phase_octets self.new.config given) blocks }
         ensures stands { (given : List ℕ) (blocks : List WindowBlock) → InnerDecoderStandsFor self.old given blocks
             → InnerDecoderStandsFor self.new given (blocks ++ ready_in self.new.queue)
             × (self.old.has_ended ≡ false
@@ -228,6 +231,8 @@ impl InnerDecoder {
         ensures windows { (given : List ℕ) (blocks : List WindowBlock) → InnerDecoderStandsFor self.old given blocks
             → windows_in self.new
             ≡ windows_after self.new.config (skip_of self.new.chosen) given blocks (ready_in self.new.queue) }
+        ensures read { (given : List ℕ) (blocks : List WindowBlock) → InnerDecoderStandsFor self.old given blocks
+            → AreReadOf self.new.queue (phase_octets self.new.config given) blocks }
         ensures left { result.leftover ≤ 1 }
         ensures one { length (ready_in self.new.queue) ≤ 1 }
         ensures phase { (self.new.chosen ≡ self.old.chosen) × (self.new.has_phase ≡ self.old.has_phase) }
@@ -263,6 +268,17 @@ impl InnerDecoder {
         chosen
     }
 
+    /// The shape of its windows, or None where there is no inner code.
+    pub fn shape(&self) -> Option<WindowShape>
+        ensures shape { result ≡ shape_in self.now.queue }
+        ensures of { IsQueueOf self.now.config self.now.queue × HasChosen self.now.queue self.now.chosen }
+    {
+        match &self.queue {
+            Some(queue) => Some(queue.shape()),
+            None => None,
+        }
+    }
+
     /// How many blocks are ready.
     pub fn ready(&self) -> usize
         ensures { result ≡ length (ready_in self.now.queue) }
@@ -293,6 +309,36 @@ impl InnerDecoder {
         match &self.queue {
             Some(queue) => queue.block(index),
             None => NO_BLOCK,
+        }
+    }
+
+    /// The number of the first step of the window of a block that is ready.
+    pub fn step(&self, index: usize) -> u64
+        requires index { index < length (ready_in self.now.queue) }
+        requires there { AreThere self.now.queue }
+        ensures { result ≡ step_in self.now.queue index }
+    {
+        match &self.queue {
+            Some(queue) => queue.step(index),
+            None => 0,
+        }
+    }
+
+    /// The soft octets of the window of a block that is ready, of which 0 is the surest 0 and 255 the surest 1. No octet
+    /// may have been put in since it was decoded.
+    pub fn octets(&self, index: usize) -> &[u8]
+        requires index { index < length (ready_in self.now.queue) }
+        requires there { AreThere self.now.queue }
+        ensures octets { (block : WindowBlock) → result.now
+            ≡ octets_in self.now.queue index (slice_index_or (ready_in self.now.queue) index block) }
+        ensures size { (queue : Queueing) (block : WindowBlock) → self.now.queue ≡ Some queue → length result.now
+            ≡ window_size queue index (slice_index_or queue.ready index block) }
+        ensures path { (block : WindowBlock)
+            → IsWindowPath most_window (slice_index_or (ready_in self.now.queue) index block) }
+    {
+        match &self.queue {
+            Some(queue) => queue.octets(index),
+            None => &[],
         }
     }
 

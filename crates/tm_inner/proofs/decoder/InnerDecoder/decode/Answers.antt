@@ -1,10 +1,11 @@
 use Rattle.std.proofs.Common.{◌++◌, length, refl, ap, arith, sym, subst, Option, Some}
 use Rattle.tm_windows.specs.Queue.{Queueing}
 use Rattle.tm_inner.specs.InnerDecoding.{GoesWith, InnerDecoding, IsQueueOf, ready_in}
+use Rattle.tm_inner.specs.Phase.{phase_octets}
 use Rattle.tm_inner.specs.declared.decoder.InnerDecoder.TheInside.{Inside}
 use Rattle.tm_inner.proofs.Decoders.{decoding, lost-in}
 use Rattle.tm_inner.proofs.DecoderCalls.{Runs, runs-plain, runs-queue}
-use Rattle.tm_inner.proofs.ReadWindows.{Reads, reads-queue}
+use Rattle.tm_inner.proofs.ReadWindows.{Reads, ReadsOctets, reads-queue}
 use Rattle.tm_inner.proofs.decoder.InnerDecoder.decode.Goals as goal
 use Rattle.tm_inner.proofs.decoder.InnerDecoder.decode.Goals.{in-Some, in-None}
 
@@ -63,4 +64,24 @@ returns-clause-windows g c =
     ] in
     let now = c.match-self.self-inside in
     subst (λ (d : InnerDecoding). Reads d (decoding now.config now.queue now.count now.has_phase now.has_ended))
+    c.self.view_is said
+
+pub returns-clause-read : goal.returns-clause-read
+returns-clause-read g c =
+    let s = c.self.inside in
+    let Said : Option Queueing → Inside → Type 0 = λ before now.
+    ReadsOctets (decoding s.config before s.count s.has_phase s.has_ended)
+    (decoding now.config now.queue now.count now.has_phase now.has_ended) in
+    let said : Said s.queue c.match-self.self-inside = elim c.match-self.branch as
+    (λ _. Said s.queue c.match-self.self-inside) [
+      | in-Some w ↦ subst (Said s.queue) (sym w.self-inside-is)
+          (subst (λ (o : Option Queueing). Said o (record s { queue = Some w.decode.new.self })) (sym w.in-Some.is)
+          (λ given blocks stood some. w.decode.ensures.read (omega (arith, w.decode.ensures.count, some))
+          (phase_octets s.config given) blocks stood.decodes))
+      | in-None w ↦ subst (Said s.queue) (sym w.self-inside-is)
+          (subst (λ (o : Option Queueing). Said s.queue (record s { queue = o })) (sym w.in-None.is)
+          (λ given blocks stood. tt))
+    ] in
+    let now = c.match-self.self-inside in
+    subst (λ (d : InnerDecoding). ReadsOctets d (decoding now.config now.queue now.count now.has_phase now.has_ended))
     c.self.view_is said
