@@ -1,32 +1,33 @@
-use Rattle.std.proofs.Common.{rules, ◌≡◌}
+use Rattle.std.proofs.Common.{◌≡◌, ap, rules}
 use Rattle.tm_driver.specs.Courses.{source_call}
-use Rattle.tm_driver.specs.Meaning.{Ends, taken_by}
+use Rattle.tm_driver.specs.Meaning.{taken_by}
 use Rattle.tm_driver.proofs.Answered.{answered}
-use Rattle.tm_records.specs.Batch.{opened}
-use Rattle.tm_records.specs.Erased.{coding_of, erased_meaning}
-use Rattle.tm_records.specs.Erasing.{stand}
-use Rattle.tm_records.specs.declared.erased_command.Erasing.{Erasing}
-use Rattle.tm_records.proofs.Erasing.{ends-erased, holds-none}
+use Rattle.tm_records.specs.Batch.{Batch, opened}
+use Rattle.tm_records.specs.Erased.{coding_of}
+use Rattle.tm_records.specs.Erasing.{HasSpace}
+use Rattle.tm_records.proofs.Erasing.{erased-ends, holds-none}
 use Rattle.tm_records.proofs.erased_command.erased.Goals as goal
+
+pub drive_stage-requires-clause-fresh : goal.drive_stage-requires-clause-fresh
+drive_stage-requires-clause-fresh g c =
+    let config = c.args.config.now in
+    let new : c.in-Ok.records ≡ opened (coding_of config) config.workers = search rules in
+    let space : HasSpace c.in-Ok.records = search rules in
+    (space, holds-none c.in-Ok.records (ap (λ (b : Batch). b.octets) new))
 
 pub returns-clause-answered : goal.returns-clause-answered
 returns-clause-answered g c =
-    let h = c.drive-ending.ensures.driven in
+    let d = c.drive_stage.ensures.staged in
     let config = c.args.config.now in
-    let ending = c.drive-ending.result in
-    let taken = taken_by (g.O.Sink.taken c.args.out.now) (g.O.Sink.taken c.drive-ending.new.feed.out.now)
-    (g.N.Sink.taken c.args.notes.now)
-    (g.N.Sink.taken c.drive-ending.new.feed.notes.now) in
+    let now = c.drive_stage.new in
     let new : c.in-Ok.records ≡ opened (coding_of config) config.workers = search rules in
-    let none = holds-none (coding_of config) config.workers c.in-Ok.records (g.O.Sink.taken c.args.out.now) new in
-    let done : Ends ending (erased_meaning config) config.limit h.0 taken =
-    ends-erased (λ (e : Erasing g.row.R.Denot g.row.O.Denot g.row.N.Denot). stand e.records.now e.beyond
-    (g.O.Sink.taken e.out.now)) (λ e. e.notes.now) g.N.Sink.taken
-    config c.limit.result c.limit.ensures.value _ c.drive-ending.new.feed _ _ ending h.0 none h.3 in
-    let went = c.drive-ending.ensures.sinks in
+    let taken = taken_by (g.O.Sink.taken c.args.out.now) (g.O.Sink.taken now.out) (g.N.Sink.taken c.args.notes.now)
+    (g.N.Sink.taken now.notes) in
     let source = source_call g.S.Source.given g.S.Source.left g.S.Source.ended g.S.Source.faults g.S.Source.is_last
-    c.args.source.now c.drive-ending.new.source in (
-      h.0,
-      answered h.0 _ _ _ _ source _ _ c.limit.ensures.value h.1 h.2 (search rules) c.drive-ending.ensures.source
-          (search rules),
+    c.args.source.now now.source in (
+      d.0,
+      answered d.0 _ _ _ _ source _ _ c.limit.ensures.value d.2 d.3
+          (erased-ends config c.in-Ok.records.coding (ap (λ (b : Batch). b.coding) new) c.limit.result
+          c.limit.ensures.value now.stage c.drive_stage.result d.0 d.1 taken d.4 d.5) c.drive_stage.ensures.source
+          c.drive_stage.ensures.sinks,
     )
