@@ -3,7 +3,6 @@ pub mod SymbolRoom
 pub mod Sinks
 pub mod KeptBits
 pub mod DecodedCalls
-pub mod WholePieces
 pub mod FewWindows
 pub mod WrittenWindows
 pub mod Spans

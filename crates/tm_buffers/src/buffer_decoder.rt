@@ -3,7 +3,7 @@ ghost use Rattle.std.specs.Prelude.{◌≡◌, ℕ, ◌+◌, ◌^◌, ◌<◌, �
 ghost use Rattle.tm_base.specs.Handed.{Handed};
 ghost use Rattle.tm_base.specs.Takers.{HandedOver};
 ghost use Rattle.tm_config.specs.Accepted.{IsAccepted};
-ghost use Rattle.tm_inner.specs.Handing.{IsKept};
+ghost use Rattle.tm_inner.specs.Handing.{IsKept, ReadsDue};
 ghost use Rattle.tm_inner.specs.InnerDecoding.{IsDrained, IsSameDecoder, held_in, ready_in, unread};
 ghost use Rattle.tm_inner.specs.InnerWindows.{AreTold, AreWindows};
 ghost use Rattle.tm_inner.specs.Phase.{IsChosenSoFar};
@@ -12,7 +12,7 @@ ghost use Rattle.tm_inner.specs.declared.window.Window.{Window};
 ghost use Rattle.tm_viterbi.specs.WindowBlock.{WindowBlock};
 ghost use Rattle.tm_viterbi.specs.WindowSizes.{stream_bound};
 ghost use Rattle.tm_buffers.specs.Buffer.{has_room};
-ghost use Rattle.tm_buffers.specs.Decoding.{Decodes, DecodesLast, DecodesLastWindows, DecodesWindows, IsDecoding, WritesBits, WritesLastBits, bits_at, bits_room, bits_written, keeps_bits};
+ghost use Rattle.tm_buffers.specs.Decoding.{Decodes, DecodesLast, DecodesLastWindows, DecodesWindows, IsDecoding, WritesBits, WritesLastBits, bits_at, bits_room, bits_written, keeps_bits, keeps_handed};
 ghost use Rattle.tm_buffers.specs.Windows.{windows_room};
 
 use crate::items::Written;
@@ -35,16 +35,14 @@ pub struct BufferDecoder {
 }
 
 impl Model for BufferDecoder {
-    ghost use Rattle.std.specs.Prelude.{◌≡◌, false};
-    ghost use Rattle.tm_inner.specs.Handing.{IsKept};
-    ghost use Rattle.tm_inner.specs.InnerDecoding.{InnerDecoding, IsDrained};
+    ghost use Rattle.std.specs.Prelude.{◌≡◌};
+    ghost use Rattle.tm_inner.specs.InnerDecoding.{InnerDecoding};
 
     ghost Value = { InnerDecoding };
 
     ghost view = { λ d. d.inner };
 
-    ghost invariant = { λ d. (d.inner.config ≡ d.config) × (d.inner.has_ended ≡ d.has_stopped)
-        × (d.has_stopped ≡ false → IsDrained d.inner.queue) };
+    ghost invariant = { λ d. (d.inner.config ≡ d.config) × (d.inner.has_ended ≡ d.has_stopped) };
 }
 
 impl BufferDecoder {
@@ -191,48 +189,40 @@ fn take<W: WindowWatch>(
     bits: &mut [u8],
     watch: &mut W,
 ) -> usize
-    requires drained { IsDrained inner.old.queue }
-    requires going { inner.old.has_ended ≡ false }
+    requires { inner.old.has_ended ≡ false }
     ensures kept { (inner.new.config ≡ inner.old.config) × (inner.new.has_ended ≡ false) }
-    ensures drained { IsDrained inner.new.queue }
     ensures within { (result ≤ length bits.old) × (length bits.new ≡ length bits.old) }
     ensures writes { WritesBits HasHanded inner.old inner.new octets.now 0 bits.old result bits.new }
     ensures watched { Hands W.took AreTold inner.old inner.new watch.old watch.new octets.now }
 {
     let within = inner.within(octets.len());
-    let mut done = 0;
-    let mut count = 0;
-    while done < within {
-        done += inner.fill(&octets[done..within]);
-        count = decode_due(inner, bits, count, watch);
-    }
-    count
+    decode_due(inner, &octets[..within], bits, watch)
 }
 
-// Decodes all windows that are closed, and writes their bits, from number `count` on. Returns how many stand there
-// with those before.
+// Puts octets in, decodes all windows that are closed, and writes their bits, from the start on. Returns how many.
 fn decode_due<W: WindowWatch>(
     inner: &mut InnerDecoder,
+    octets: &[u8],
     bits: &mut [u8],
-    count: usize,
     watch: &mut W,
 ) -> usize
-    requires { count ≤ length bits.old }
-    ensures same { IsSameDecoder inner.old inner.new }
-    ensures drained { IsDrained inner.new.queue × (unread inner.new ≡ None) }
+    requires { 0 < length octets.now → inner.old.has_ended ≡ false }
     ensures within { (result ≤ length bits.old) × (length bits.new ≡ length bits.old) }
-    ensures writes { WritesBits HasRead inner.old inner.new [] count bits.old result bits.new }
-    ensures watched { Hands W.took AreTold inner.old inner.new watch.old watch.new [] }
-    ensures chosen { (given : List ℕ) (done : List (Handed WindowBlock)) → HasRead inner.old given done
-        → IsKept inner.new given }
+    ensures read { ReadsDue keeps_handed inner.old inner.new (bits_at 0 bits.old) (bits_at result bits.new) octets.now }
+    ensures watched { Hands W.took AreTold inner.old inner.new watch.old watch.new octets.now }
 {
-    let mut end = count;
+    let mut done = 0;
+    let mut count = 0;
     'runs: loop {
-        let run = decode_run(inner, bits, end, watch);
-        end = run.1;
-        if run.0 == 0 {
-            return end;
+        let run = decode_run(inner, bits, count, watch);
+        count = run.1;
+        if run.0 > 0 {
+            continue;
         }
+        if done == octets.len() {
+            return count;
+        }
+        done += inner.fill(&octets[done..]);
     }
 }
 
@@ -247,6 +237,7 @@ fn decode_run<W: WindowWatch>(
     requires { count ≤ length bits.old }
     ensures same { IsSameDecoder inner.old inner.new }
     ensures drained { (result.0 ≡ 0 → IsDrained inner.new.queue) × (unread inner.new ≡ None) }
+    ensures moved { length (held_in inner.new.queue) ≤ length (held_in inner.old.queue) }
     ensures shorter { 0 < result.0 → length (held_in inner.new.queue) < length (held_in inner.old.queue) }
     ensures within { (result.1 ≤ length bits.old) × (length bits.new ≡ length bits.old) }
     ensures writes { WritesBits HasRead inner.old inner.new [] count bits.old result.1 bits.new }
@@ -285,7 +276,7 @@ fn end<W: WindowWatch>(inner: &mut InnerDecoder, bits: &mut [u8], watch: &mut W)
         → AreWindows inner.old.config given (done ++ last)) }
 {
     inner.settle();
-    let count = decode_due(inner, bits, 0, watch);
+    let count = decode_due(inner, &[], bits, watch);
     inner.last();
     watch_ready(inner, watch);
     copy_ready(inner, bits, count)

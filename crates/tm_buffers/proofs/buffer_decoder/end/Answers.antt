@@ -15,7 +15,7 @@ returns-clause-writes g c =
     let d = c.args.inner.now in
     let s = c.settle.new.self in
     let r = c.decode_due-count in
-    let h = r.ensures.writes in
+    let h = r.ensures.read.read in
     let ready = ready_in c.last.new.self.queue in
     let later : IsLater d s =
     record { config = c.settle.ensures.config; phase = c.settle.ensures.phase; stays = c.settle.ensures.stays } in
@@ -29,12 +29,12 @@ returns-clause-writes g c =
       written = HandedOver-append keeps_handed start middle now h.more (map Item ready) h.handed
           (HandedOver-items (λ a skip cost b. b ≡ a) keeps_bits middle now ready c.copy_ready.ensures.copied);
       all = λ given done stood. (
-        (ended-all keeps_handed d s r.new.inner later c.settle.ensures.stands r.ensures.same c.settle.ensures.ended
-            r.ensures.chosen start middle ready end.leftover end.bits end.slips (lost_in c.last.new.self.queue) h
-            r.ensures.drained.1 c.last.ensures.ends given done stood).0,
+        (ended-all keeps_handed d s r.new.inner later c.settle.ensures.stands c.settle.ensures.ended start middle
+            r.ensures.read ready end.leftover end.bits end.slips (lost_in c.last.new.self.queue) c.last.ensures.ends
+            given done stood).0,
         subst (IsChosen d.config given) (sym c.last.ensures.phase.0)
-            (ended-chosen d s r.new.inner later c.settle.ensures.stands r.ensures.same c.settle.ensures.ended
-            r.ensures.chosen given done stood),
+            (ended-chosen d s r.new.inner later c.settle.ensures.stands c.settle.ensures.ended r.ensures.read.config
+            r.ensures.read.ended r.ensures.read.kept given done stood),
       );
     }
 
@@ -51,7 +51,7 @@ returns-clause-watched g c =
       h.more ++ windows_in l.new.self,
       HandedOver-append took watch r.new.watch now h.more (windows_in l.new.self) h.handed c.watch_ready.ensures,
       told-ended took d s.new.self r.new.inner l.new.self watch r.new.watch l.result.leftover s.ensures.config
-          s.ensures.stays (λ given blocks stood. (s.ensures.stands given blocks stood).0) h r.ensures.same.config
-          (r.ensures.same.ended ∙ s.ensures.ended) l.ensures.config l.ensures.phase.0
+          s.ensures.stays (λ given blocks stood. (s.ensures.stands given blocks stood).0) h r.ensures.read.config
+          (r.ensures.read.ended ∙ s.ensures.ended) l.ensures.config l.ensures.phase.0
           (λ given blocks stood choice. (l.ensures.ends given blocks stood choice).0) l.ensures.windows,
     )
