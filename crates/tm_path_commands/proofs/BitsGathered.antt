@@ -1,102 +1,76 @@
--- The bits and the phase that wait of what an inner receiver hands over.
-use Rattle.std.proofs.Common.{◌≡◌, ◌⊎◌, inl, inr, ℕ, ◌+◌, ◌*◌, ◌<◌, ◌≤◌, ◌^◌, ◌==◌, Bool, true, false, List, [], ◌∷◌, ◌++◌, length, take, drop, map, refl, sym, ap, ◌∙◌, subst, arith, append_assoc, length-append, length-drop, Option, Some, None}
-use Rattle.std.specs.Option.{is_some}
+-- What is given of what a decoder hands over, piece after piece, and at the end.
+use Rattle.std.proofs.Common.{◌≡◌, ◌⊎◌, inl, inr, ℕ, ◌+◌, ◌-◌, ◌<◌, ◌≤◌, ◌==◌, Bool, List, [], ◌∷◌, ◌++◌, length, drop, take, map, refl, sym, ap, ◌∙◌, subst, arith, append_assoc, length-append, length-drop, Option, Some, None}
 use Rattle.std.proofs.lemmas.List.{append-nil, length-map, map-append}
-use Rattle.tm_base.specs.Bits.{low_bits}
-use Rattle.tm_base.specs.Handed.{Handed, Phase, Item, on_handed, items_of}
+use Rattle.tm_base.specs.Bits.{low_bits, octets_of}
+use Rattle.tm_base.specs.Count.{raised_by}
+use Rattle.tm_base.specs.Handed.{Handed, Phase, Item, items_of}
+use Rattle.tm_base.specs.Limits.{most_limit}
 use Rattle.tm_base.specs.Takers.{HandedOver}
-use Rattle.tm_base.proofs.Packing.{length-low_bits}
+use Rattle.tm_base.proofs.Handing.{HandedOver-push}
 use Rattle.tm_base.proofs.HandedItems.{items_of-append}
-use Rattle.tm_config.specs.Accepted.{IsAccepted}
+use Rattle.tm_base.proofs.Packing.{octets_of-bits_of-append}
 use Rattle.tm_config.specs.Configuration.{Configuration}
-use Rattle.tm_config.specs.declared.values.Sought.TheVariants.{Given}
+use Rattle.tm_config.specs.declared.values.Sought.TheVariants.{Given, Find}
+use Rattle.tm_config.proofs.Choices.{never_both}
 use Rattle.tm_conv.specs.declared.rates.Rate.{Rate}
 use Rattle.tm_driver.specs.Lines.{phase_text}
+use Rattle.tm_driver.specs.Writing.{Text, Note, notes_of, out_of}
+use Rattle.tm_driver.proofs.Writing.{notes_of-append, out_of-append}
 use Rattle.tm_windows.specs.declared.choosing.Chosen.{Chosen}
 use Rattle.tm_viterbi.specs.Clean.{kept_bits}
 use Rattle.tm_viterbi.specs.WindowBlock.{WindowBlock}
-use Rattle.tm_inner.specs.Inner.{BlocksAt, DueAt, plain_bits, bits_at, inner_bits, reported_slips, soft_value, AreInnerBlocks}
-use Rattle.tm_inner.specs.declared.decoder.InnerEnd.{InnerEnd}
-use Rattle.tm_inner.specs.Phase.{IsChosenBy, IsSettled, with_phase, needed_at, phase_octets, skip_of, skipped_at}
-use Rattle.tm_inner.specs.Receiving.{InnerReceiving, InnerReceiverStandsFor}
 use Rattle.tm_inner.specs.Handing.{AreHanded, AreHandedDue}
-use Rattle.tm_inner.proofs.DueBits.{kept-append}
-use Rattle.tm_inner.proofs.HandedBits.{handed-last-few, handed-more-few, needed-few}
+use Rattle.tm_inner.specs.Inner.{BlocksAt, DueAt, bits_at, inner_bits, plain_bits, plain_count, reported_slips, soft_value}
+use Rattle.tm_inner.specs.InnerDecoding.{InnerDecoding}
+use Rattle.tm_inner.specs.Phase.{IsChosenBy, IsSettled, needed_at, phase_octets, skip_of, skipped_at, with_phase}
+use Rattle.tm_inner.specs.Receiving.{HasHanded, Hands}
+use Rattle.tm_inner.proofs.DecoderReads.{handed-due}
+use Rattle.tm_inner.proofs.DueBits.{drop-split, kept-append}
 use Rattle.tm_inner.proofs.PhasePieces.{items_of-with_phase}
-use Rattle.tm_inner.proofs.PlainBits.{bits-nil, plain-few}
-use Rattle.tm_path_commands.specs.Bits.{Adds, AddsPhase, AddsWindow, Gathers, GathersLast, HandsWindows, Holds, IsWritten, Packing, PhaseWaits, bits_of_handed, fill, line_of, phase_line}
-use Rattle.tm_path_commands.specs.Tracing.{StandsAt}
-use Rattle.tm_path_commands.proofs.FewHanded.{few-due, few-handed}
+use Rattle.tm_inner.proofs.PlainBits.{bits-nil, length-plain, plain-append}
+use Rattle.tm_path_commands.specs.Bits.{bits_of_handed, fill, phase_line}
+use Rattle.tm_path_commands.specs.Lines.{bits_end_text}
+use Rattle.tm_path_commands.specs.Packing.{AreGiven, Gives, GivesAllBits, GivesBits, IsFirstNote, PackingTo, Packs, packing, packs_handed, plain_more}
+use Rattle.tm_path_commands.proofs.PackedBits.{bits-after, gives-more, no-octets, octets-after, octets-none}
+use Rattle.tm_path_commands.proofs.FewHanded.{few-handed}
 
--- ---- what windows and a phase do to what waits
+-- ---- notes before the first octet
 
-abbrev is_one : ℕ → Bool
-is_one bit = bit == 1
+pub notes-are : (texts : List Text) (line : List ℕ) → IsFirstNote texts line → notes_of texts ≡ line
+notes-are texts line n =
+    ap notes_of n.split ∙ notes_of-append n.first n.rest ∙ (λ i. n.noted i ++ n.only i) ∙ append-nil line
 
--- the bits that blocks keep
-abbrev all_bits : List WindowBlock → List Bool
-all_bits blocks = map is_one (kept_bits blocks)
+no-line : (texts : List Text) (line : List ℕ) → notes_of texts ≡ line → line ≡ [] → IsFirstNote texts line
+no-line texts line are none =
+    record { first = []; rest = texts; split = refl; silent = refl; noted = sym none; only = are ∙ none }
 
-all_bits-append : (xs ys : List WindowBlock) → all_bits (xs ++ ys) ≡ all_bits xs ++ all_bits ys
-all_bits-append xs ys = ap (map is_one) (kept-append xs ys) ∙ map-append is_one (kept_bits xs) (kept_bits ys)
-
--- the phase that is buffered after what was handed over
-abbrev phase_after : Option Chosen → List (Handed WindowBlock) → Option Chosen
-phase_after chosen [] = chosen
-phase_after chosen (Phase skip cost ∷ handed) = phase_after (Some record { skip = skip; cost = cost }) handed
-phase_after chosen (Item block ∷ handed) = phase_after chosen handed
-
--- what is buffered then
-record Waits (before now : Packing) (more : List (Handed WindowBlock)) : Type 0 where
-  room : now.room ≡ before.room
-  phase : now.phase ≡ phase_after before.phase more
-  windows : before.windows + length (items_of more) < 2 ^ 64 → now.windows ≡ before.windows + length (items_of more)
-  bits : length before.bits + length (kept_bits (items_of more)) < 8 * before.room + 8
-      → now.bits ≡ before.bits ++ all_bits (items_of more)
-
-waits : (before now : Packing) (more : List (Handed WindowBlock))
-    → HandedOver (on_handed AddsPhase AddsWindow) before more now → Waits before now more
-waits before now [] same = record {
-  room = ap (λ (p : Packing). p.room) (sym same);
-  phase = ap (λ (p : Packing). p.phase) (sym same);
-  windows = λ _. ap (λ (p : Packing). p.windows) (sym same) ∙ omega arith;
-  bits = λ _. ap (λ (p : Packing). p.bits) (sym same) ∙ sym (append-nil before.bits);
+first-silent : (xs ys : List Text) (line : List ℕ) → IsFirstNote xs line → notes_of ys ≡ []
+    → IsFirstNote (xs ++ ys) line
+first-silent xs ys line n none = record {
+  first = n.first;
+  rest = n.rest ++ ys;
+  split = ap (λ l. l ++ ys) n.split ∙ append_assoc n.first n.rest ys;
+  silent = n.silent;
+  noted = n.noted;
+  only = notes_of-append n.rest ys ∙ ap (λ l. l ++ notes_of ys) n.only ∙ none;
 }
-waits before now (Phase skip cost ∷ more) handed =
-    let rest = waits handed.0 now more handed.2 in
-    let is = handed.1 in
-    let room = ap (λ (p : Packing). p.room) is in
-    let windows = ap (λ (p : Packing). p.windows) is in
-    let bits = ap (λ (p : Packing). p.bits) is in
-    record {
-      room = rest.room ∙ room;
-      phase = rest.phase ∙ ap (λ (p : Packing). phase_after p.phase more) is;
-      windows = λ few. rest.windows (omega (arith, few, windows)) ∙ ap (λ n. n + length (items_of more)) windows;
-      bits = λ few. rest.bits (omega (arith, few, room, ap length bits)) ∙ ap (λ l. l ++ all_bits (items_of more)) bits;
-    }
-waits before now (Item block ∷ more) handed =
-    let middle = handed.0 in
-    let one = handed.1 in
-    let kept = take block.kept block.bits in
-    let own = map is_one kept in
-    let size : length own ≡ length kept = length-map kept is_one in
-    let rest = waits middle now more handed.2 in
-    record {
-      room = rest.room ∙ one.room;
-      phase = rest.phase ∙ ap (λ (o : Option Chosen). phase_after o more) one.phase;
-      windows = λ few.
-          let raised : middle.windows ≡ before.windows + 1 = omega (arith, one.windows, few) in
-          let next = rest.windows (omega (arith, raised, few)) in omega (arith, next, raised);
-      bits = λ few.
-          let sum = length-append kept (kept_bits (items_of more)) in
-          let first = one.bits (omega (arith, few, sum, size)) in
-          let long = ap length first ∙ length-append before.bits own in
-          rest.bits (omega (arith, few, sum, size, one.room, long))
-          ∙ ap (λ l. l ++ all_bits (items_of more)) first ∙ append_assoc before.bits own (all_bits (items_of more))
-          ∙ ap (λ l. before.bits ++ l) (sym (map-append is_one kept (kept_bits (items_of more))));
-    }
 
--- ---- the line of the phase
+-- further texts have no note, or no octet was given before them
+pub first-more : (xs ys : List Text) (line more : List ℕ) → IsFirstNote xs line → IsFirstNote ys more
+    → (more ≡ []) ⊎ (out_of xs ≡ []) → IsFirstNote (xs ++ ys) (line ++ more)
+first-more xs ys line more n m (inl none) =
+    subst (IsFirstNote (xs ++ ys)) (sym (ap (λ l. line ++ l) none ∙ append-nil line))
+    (first-silent xs ys line n (notes-are ys more m ∙ none))
+first-more xs ys line more n m (inr none) = record {
+  first = xs ++ m.first;
+  rest = m.rest;
+  split = ap (λ l. xs ++ l) m.split ∙ sym (append_assoc xs m.first m.rest);
+  silent = out_of-append xs m.first ∙ ap (λ l. l ++ out_of m.first) none ∙ m.silent;
+  noted = notes_of-append xs m.first ∙ (λ i. notes-are xs line n i ++ m.noted i);
+  only = m.only;
+}
+
+-- ---- what windows and a phase do
 
 pub line-append : (xs ys : List (Handed WindowBlock)) → phase_line (xs ++ ys) ≡ phase_line xs ++ phase_line ys
 line-append [] ys = refl
@@ -109,64 +83,143 @@ line-items : (items : List WindowBlock) → phase_line (map Item items) ≡ []
 line-items [] = refl
 line-items (item ∷ items) = line-items items
 
--- it is that of the phase that was chosen
-pub line-with_phase : (chosen : Option Chosen) (items : List WindowBlock)
-    → phase_line (with_phase chosen items) ≡ line_of chosen
-line-with_phase None items = line-items items
-line-with_phase (Some chosen) items =
-    let text = phase_text chosen.skip chosen.cost in
-    ap (λ l. text ++ l) (line-items items) ∙ append-nil text
+-- the line of a phase that is not the first that is handed over
+abbrev pub later_line : List (Handed WindowBlock) → List ℕ
+later_line [] = []
+later_line (x ∷ handed) = phase_line handed
 
-phase-items : (chosen : Option Chosen) (items : List WindowBlock) → phase_after chosen (map Item items) ≡ chosen
-phase-items chosen [] = refl
-phase-items chosen (item ∷ items) = phase-items chosen items
+-- the bits that blocks keep
+abbrev pub all_bits : List WindowBlock → List Bool
+all_bits blocks = map (λ bit. bit == 1) (kept_bits blocks)
+
+module _ {T : Type 0} (took : T → Text → T → Type 0) where
+  -- what is handed over is packed, and then further bits
+  record GivesHanded (a b : PackingTo T) (more : List (Handed WindowBlock)) (further bits_now : List Bool)
+      (taker_now : T) : Type 0 where
+    texts : List Text
+    gives : Gives took a.bits a.texts texts (all_bits (items_of more) ++ further) bits_now taker_now
+    notes : notes_of texts ≡ phase_line more
+    noted : later_line more ≡ [] → IsFirstNote texts (phase_line more)
+    windows : (n : ℕ) → a.windows ≡ raised_by n 0 → b.windows ≡ raised_by (n + length (items_of more)) 0
+
+  gives-handed : (more : List (Handed WindowBlock)) (a b : PackingTo T) (further bits_now : List Bool) (taker_now : T)
+      → HandedOver (packs_handed took) a more b → Packs took b.bits b.texts further bits_now taker_now
+      → GivesHanded a b more further bits_now taker_now
+  gives-handed [] a b further bits_now taker_now same p =
+      subst (λ (q : PackingTo T). Packs took q.bits q.texts further bits_now taker_now
+      → GivesHanded a q [] further bits_now taker_now) same (λ p. record {
+        texts = p.texts;
+        gives = p.gives;
+        notes = p.silent;
+        noted = no-line p.texts [] p.silent;
+        windows = λ n is. omega (arith, is);
+      }) p
+  gives-handed (Phase skip cost ∷ more) a b further bits_now taker_now over p =
+      let m = over.0 in
+      let one = over.1 in
+      let g = gives-handed more m b further bits_now taker_now over.2 p in
+      let text = phase_text skip cost in record {
+        texts = Note text ∷ g.texts;
+        gives = record {
+          handed = (m.texts, one.0, g.gives.handed);
+          are_octets = g.gives.are_octets;
+          all = g.gives.all ∙ ap (λ l. l ++ (all_bits (items_of more) ++ further)) one.1;
+        };
+        notes = ap (λ l. text ++ l) g.notes;
+        noted = λ none. record {
+          first = Note text ∷ [];
+          rest = g.texts;
+          split = refl;
+          silent = refl;
+          noted = ap (λ l. text ++ l) (sym none);
+          only = g.notes ∙ none;
+        };
+        windows = λ n is. g.windows n (one.2 ∙ is);
+      }
+  gives-handed (Item block ∷ more) a b further bits_now taker_now over p =
+      let m = over.0 in
+      let one = over.1.0 in
+      let g = gives-handed more m b further bits_now taker_now over.2 p in
+      let bits = take block.kept block.bits in
+      let kept : List Bool = map (λ bit. bit == 1) bits in
+      let rest : List Bool = all_bits (items_of more) in
+      let same : kept ++ (rest ++ further) ≡ all_bits (block ∷ items_of more) ++ further =
+      sym (append_assoc kept rest further)
+      ∙ ap (λ l. l ++ further) (sym (map-append (λ bit. bit == 1) bits (kept_bits (items_of more)))) in
+      let notes : notes_of (one.texts ++ g.texts) ≡ phase_line more =
+      notes_of-append one.texts g.texts ∙ ap (λ l. l ++ notes_of g.texts) one.silent ∙ g.notes in record {
+        texts = one.texts ++ g.texts;
+        gives = subst (λ l. Gives took a.bits a.texts (one.texts ++ g.texts) l bits_now taker_now) same
+            (gives-more took a.bits m.bits bits_now kept (rest ++ further) a.texts m.texts taker_now one.texts
+            g.texts one.gives g.gives);
+        notes = notes;
+        noted = no-line (one.texts ++ g.texts) (phase_line more) notes;
+        windows = λ n is.
+            let next : m.windows ≡ raised_by (n + 1) 0 = omega (arith, over.1.1, is) in
+            omega (arith, g.windows (n + 1) next);
+      }
+
+-- ---- what is handed over after other
+
+-- it begins with the phase, which is to be found, or has none
+pub record Rest (c : Configuration) (done more : List (Handed WindowBlock)) : Type 0 where
+  later : later_line more ≡ []
+  first : (phase_line more ≡ []) ⊎ ((done ≡ []) × (c.phase ≡ Find))
+  none : c.inner ≡ None → items_of more ≡ []
 
 -- after items stand items alone
 after-items : (xs ys : List (Handed WindowBlock)) (items : List WindowBlock) → xs ++ ys ≡ map Item items
-    → (rest : List WindowBlock) × (ys ≡ map Item rest)
-after-items [] ys items same = (items, same)
+    → (later_line ys ≡ []) × (phase_line ys ≡ [])
+after-items [] ys [] same = (ap later_line same, ap phase_line same)
+after-items [] ys (item ∷ items) same =
+    (ap later_line same ∙ line-items items, ap phase_line same ∙ line-items items)
 after-items (x ∷ xs) ys [] same = absurd cc
 after-items (x ∷ xs) ys (item ∷ items) same = after-items xs ys items cc
 
--- the phase of what was handed over more, and whether nothing was before
-record HasLine (before more : List (Handed WindowBlock)) (chosen : Option Chosen) : Type 0 where
-  line : line_of (phase_after None more) ≡ phase_line more
-  first : (phase_line more ≡ []) ⊎ ((before ≡ []) × (chosen ≡ None → ⊥))
+after-phase : (c : Configuration) (soft : List ℕ) (done more : List (Handed WindowBlock)) (chosen : Option Chosen)
+    (items : List WindowBlock) → IsChosenBy c soft chosen → done ++ more ≡ with_phase chosen items
+    → (later_line more ≡ []) × ((phase_line more ≡ []) ⊎ ((done ≡ []) × (c.phase ≡ Find)))
+after-phase c soft [] more (Some chosen) items choice same =
+    (ap later_line same ∙ line-items items, inr (refl, choice.0))
+after-phase c soft (x ∷ done) more (Some chosen) items choice same =
+    let a = after-items done more items cc in (a.0, inl a.1)
+after-phase c soft done more None items choice same =
+    let a = after-items done more items same in (a.0, inl a.1)
 
-of-items : (before more : List (Handed WindowBlock)) (chosen : Option Chosen) (items : List WindowBlock)
-    → more ≡ map Item items → HasLine before more chosen
-of-items before more chosen items are = record {
-  line = ap (λ l. line_of (phase_after None l)) are ∙ ap line_of (phase-items None items) ∙ sym (line-items items)
-      ∙ ap phase_line (sym are);
-  first = inl (ap phase_line are ∙ line-items items);
-}
+pub nothing-both : {A : Type 0} (xs ys : List A) → xs ++ ys ≡ [] → (xs ≡ []) × (ys ≡ [])
+nothing-both [] ys none = (refl, none)
+nothing-both (x ∷ xs) ys none = absurd cc
 
-has-line : (before more : List (Handed WindowBlock)) (chosen : Option Chosen) (items : List WindowBlock)
-    → before ++ more ≡ with_phase chosen items → HasLine before more chosen
-has-line [] more None items same = of-items [] more None items same
-has-line [] more (Some chosen) items same = record {
-  line = ap (λ l. line_of (phase_after None l)) same ∙ ap line_of (phase-items (Some chosen) items)
-      ∙ sym (line-with_phase (Some chosen) items) ∙ ap phase_line (sym same);
-  first = inr (refl, λ none. cc none);
-}
-has-line (x ∷ before) more None items same =
-    let rest = after-items (x ∷ before) more items same in of-items (x ∷ before) more None rest.0 rest.1
-has-line (x ∷ before) more (Some chosen) items same =
-    let rest = after-items before more items cc in of-items (x ∷ before) more (Some chosen) rest.0 rest.1
+rest-of : (c : Configuration) (soft : List ℕ) (done more : List (Handed WindowBlock)) (chosen : Option Chosen)
+    (items : List WindowBlock) → IsChosenBy c soft chosen → done ++ more ≡ with_phase chosen items
+    → (c.inner ≡ None → items ≡ []) → Rest c done more
+rest-of c soft done more chosen items choice same none =
+    let a = after-phase c soft done more chosen items choice same in record {
+      later = a.0;
+      first = a.1;
+      none = λ plain. (nothing-both (items_of done) (items_of more)
+          (sym (items_of-append done more) ∙ ap items_of same ∙ items_of-with_phase chosen items ∙ none plain)).1;
+    }
+
+rest-due : (c : Configuration) (octets : List ℕ) (done more : List (Handed WindowBlock))
+    → AreHandedDue c octets (done ++ more) → Rest c done more
+rest-due c octets done more (inl due) =
+    let none = (nothing-both done more due.1).1 in
+    record { later = ap later_line none; first = inl (ap phase_line none); none = λ _. ap items_of none }
+rest-due c octets done more (inr due) =
+    let t = due.1 in
+    rest-of c (phase_octets c octets) done more t.chosen t.items t.choice t.are
+    (λ plain. subst (λ (r : Option Rate). DueAt r c (skip_of t.chosen) octets t.items) plain t.are_items)
+
+pub rest-all : (c : Configuration) (octets : List ℕ) (done more : List (Handed WindowBlock)) (left : ℕ)
+    → AreHanded c octets (done ++ more) left → Rest c done more
+rest-all c octets done more left t =
+    rest-of c (phase_octets c octets) done more t.chosen t.items t.choice t.are
+    (λ plain. (subst (λ (r : Option Rate). BlocksAt r c (skip_of t.chosen) octets t.items left) plain t.are_items).0)
 
 -- ---- no bits come before the phase
 
-chosen-given : (c : Configuration) (soft : List ℕ) (chosen : Option Chosen) (items : List WindowBlock)
-    → IsChosenBy c soft chosen → [] ≡ with_phase chosen items → c.phase ≡ Given
-chosen-given c soft None items is same = is
-chosen-given c soft (Some chosen) items is same = absurd cc
-
-chosen-found : (c : Configuration) (soft : List ℕ) (chosen : Option Chosen) → IsChosenBy c soft chosen
-    → (chosen ≡ None → ⊥) → c.phase ≡ Given → ⊥
-chosen-found c soft None is some given = some refl
-chosen-found c soft (Some chosen) is some given = let other = is.0 in absurd cc
-
-pub bits-unsettled : (rate : Option Rate) (c : Configuration) (given : List ℕ) → c.inner ≡ rate
+bits-unsettled : (rate : Option Rate) (c : Configuration) (given : List ℕ) → c.inner ≡ rate
     → (IsSettled c given → ⊥) → bits_at rate c given [] ≡ []
 bits-unsettled None c [] is unsettled = bits-nil None c
 bits-unsettled None c (octet ∷ given) is unsettled =
@@ -178,281 +231,191 @@ bits-unsettled None c (octet ∷ given) is unsettled =
       needed,
       skipped,
       length-map all (soft_value c),
-      length-drop
-          (skipped_at c.inner c) (octet ∷ given),
+      length-drop (skipped_at c.inner c) (octet ∷ given),
     ))))
 bits-unsettled (Some rate) c given is unsettled = refl
 
-bits-before : (c : Configuration) (given : List ℕ) → AreHandedDue c given [] → (c.phase ≡ Given → ⊥)
+given-phase : (c : Configuration) (soft : List ℕ) (chosen : Option Chosen) (items : List WindowBlock)
+    → IsChosenBy c soft chosen → [] ≡ with_phase chosen items → c.phase ≡ Given
+given-phase c soft None items is same = is
+given-phase c soft (Some chosen) items is same = absurd cc
+
+bits-before : (c : Configuration) (given : List ℕ) → AreHandedDue c given [] → c.phase ≡ Find
     → bits_of_handed c given [] ≡ []
 bits-before c given (inl due) find = bits-unsettled c.inner c given refl due.0
 bits-before c given (inr due) find = absurd
-    (find (chosen-given c (phase_octets c given) due.1.chosen due.1.items due.1.choice due.1.are))
+    (never_both c.phase (given-phase c (phase_octets c given) due.1.chosen due.1.items due.1.choice due.1.are) find)
 
-prefix-none : (xs ys : List Bool) → xs ++ ys ≡ [] → xs ≡ []
-prefix-none [] ys none = refl
-prefix-none (x ∷ xs) ys none = absurd cc
-
-phase-waits : (c : Configuration) (packing : Packing) (written rest : List Bool) (given soft : List ℕ)
-    (done more : List (Handed WindowBlock)) (chosen : Option Chosen) (items : List WindowBlock)
-    → AreHandedDue c given done → written ++ rest ≡ bits_of_handed c given done → IsChosenBy c soft chosen
-    → done ++ more ≡ with_phase chosen items → packing.phase ≡ phase_after None more
-    → PhaseWaits packing written more
-phase-waits c packing written rest given soft done more chosen items due bits choice are phase =
-    let h = has-line done more chosen items are in
-    record {
-      line = ap line_of phase ∙ h.line;
-      first = elim h.first as (λ _. (phase_line more ≡ []) ⊎ (written ≡ [])) [
-        | inl none ↦ inl none
-        | inr begins ↦ inr (prefix-none written rest (
-            bits ∙ ap (λ (l : List (Handed WindowBlock)). bits_of_handed c given l) begins.0
-            ∙ bits-before c given (subst (AreHandedDue c given) begins.0 due)
-            (chosen-found c soft chosen choice begins.1)
-            ))
-      ];
-    }
+-- further texts have no line, or no octet was given before them
+pub line-first : (c : Configuration) (given : List ℕ) (done more : List (Handed WindowBlock)) (texts : List Text)
+    (line : List ℕ) (bits : List Bool) → AreHandedDue c given done
+    → AreGiven texts line (bits_of_handed c given done) bits → Rest c done more
+    → (phase_line more ≡ []) ⊎ (out_of texts ≡ [])
+line-first c given done more texts line bits due is rest =
+    elim rest.first as (λ _. (phase_line more ≡ []) ⊎ (out_of texts ≡ [])) [
+      | inl none ↦ inl none
+      | inr begins ↦ inr (no-octets (out_of texts) bits (
+          is.octets ∙ ap (λ (l : List (Handed WindowBlock)). bits_of_handed c given l) begins.0
+          ∙ bits-before c given (subst (AreHandedDue c given) begins.0 due) begins.1
+          ))
+    ]
 
 -- ---- the bits of further octets
 
--- with no inner code there are no windows
-none-due : (c : Configuration) (octets : List ℕ) (handed : List (Handed WindowBlock)) → c.inner ≡ None
-    → AreHandedDue c octets handed → items_of handed ≡ []
-none-due c octets handed none (inl due) = ap items_of due.1
-none-due c octets handed none (inr due) =
-    let t = due.1 in
-    ap items_of t.are ∙ items_of-with_phase t.chosen t.items
-    ∙ subst (λ (r : Option Rate). DueAt r c (skip_of t.chosen) octets t.items) none t.are_items
+all_bits-append : (xs ys : List WindowBlock) → all_bits (xs ++ ys) ≡ all_bits xs ++ all_bits ys
+all_bits-append xs ys =
+    ap (map (λ bit. bit == 1)) (kept-append xs ys) ∙ map-append (λ bit. bit == 1) (kept_bits xs) (kept_bits ys)
 
-back-none : {A : Type 0} (xs ys : List A) → xs ++ ys ≡ [] → ys ≡ []
-back-none [] ys none = none
-back-none (x ∷ xs) ys none = absurd cc
+bits-further : (rate : Option Rate) (c : Configuration) (given octets : List ℕ) (xs ys : List WindowBlock) (skip : ℕ)
+    → (rate ≡ None → ys ≡ []) → skip ≡ c.skip - plain_count c (length given)
+    → bits_at rate c (given ++ octets) (xs ++ ys) ≡ bits_at rate c given xs ++ (all_bits ys ++ plain_more rate c skip
+    octets)
+bits-further None c given octets xs ys skip none is =
+    ap (drop c.skip) (plain-append c given octets) ∙ drop-split c.skip (plain_bits c given) (plain_bits c octets)
+    ∙ ap (λ n. drop c.skip (plain_bits c given) ++ drop n (plain_bits c octets))
+    (ap (λ n. c.skip - n) (length-plain c given) ∙ sym is)
+    ∙ ap (λ (l : List WindowBlock). drop c.skip (plain_bits c given) ++ (all_bits l ++ drop skip (plain_bits c octets)))
+    (sym (none refl))
+bits-further (Some rate) c given octets xs ys skip none is =
+    all_bits-append xs ys ∙ ap (λ l. all_bits xs ++ l) (sym (append-nil (all_bits ys)))
 
-is-none : (rate : Option Rate) → is_some rate ≡ false → rate ≡ None
-is-none None is = refl
-is-none (Some rate) is = absurd cc
+pub handed-further : (c : Configuration) (given octets : List ℕ) (done more : List (Handed WindowBlock)) (skip : ℕ)
+    → Rest c done more → skip ≡ c.skip - plain_count c (length given)
+    → bits_of_handed c (given ++ octets) (done ++ more) ≡ bits_of_handed c given done
+    ++ (all_bits (items_of more) ++ plain_more c.inner c skip octets)
+handed-further c given octets done more skip rest is =
+    ap (inner_bits c (given ++ octets)) (items_of-append done more)
+    ∙ bits-further c.inner c given octets (items_of done) (items_of more) skip rest.none is
 
--- with one, further bits are those that further windows keep
-coded-more : (rate : Option Rate) (c : Configuration) (given longer : List ℕ) (blocks more : List WindowBlock)
-    → is_some rate ≡ true
-    → bits_at rate c longer (blocks ++ more) ≡ bits_at rate c given blocks ++ all_bits more
-coded-more None c given longer blocks more is = absurd cc
-coded-more (Some rate) c given longer blocks more is = all_bits-append blocks more
-
--- what windows keep of further octets fits
-module _ (receiver now : InnerReceiving) (packing packed : Packing) (octets : List ℕ) (few : length octets ≤ 4096)
-    (h : HandsWindows receiver now packing packed octets) where
-  all : Waits packing packed h.more
-  all = waits packing packed h.more h.handed
-
-  module _ (c : Configuration) (written : List Bool) (given : List ℕ) (done : List (Handed WindowBlock))
-      (accepted : IsAccepted c) (within : length (given ++ octets) < 2 ^ 44)
-      (p : Holds c receiver packing written given done) (is : IsWritten packing) where
-    was-due : AreHandedDue c given done
-    was-due = subst (λ (k : Configuration). AreHandedDue k given done) p.config p.stands.1
-
-    there : InnerReceiverStandsFor now (given ++ octets) (done ++ h.more)
-        × AreHandedDue receiver.config (given ++ octets) (done ++ h.more)
-    there = h.stands given done (omega (arith, within, length-append given octets)) p.stands.0
-
-    now-due : AreHandedDue c (given ++ octets) (done ++ h.more)
-    now-due = subst (λ (k : Configuration). AreHandedDue k (given ++ octets) (done ++ h.more)) p.config there.1
-
-    stands-now : StandsAt now (given ++ octets) (done ++ h.more)
-    stands-now = (
-      there.0,
-      subst (λ (k : Configuration). AreHandedDue k (given ++ octets) (done ++ h.more))
-          (sym h.config) there.1,
-    )
-
-    fits : length packing.bits + length (kept_bits (items_of h.more)) < 8 * packing.room + 8
-    fits = omega (
-      arith,
-      is.few,
-      p.room,
-      handed-more-few c given octets done h.more was-due now-due,
-      needed-few
-          c.inner c,
-      few,
-    )
-
-    bits-now : packed.bits ≡ packing.bits ++ all_bits (items_of h.more)
-    bits-now = all.bits fits
-
-    windows-now : packed.windows ≡ length (items_of (done ++ h.more))
-    windows-now =
-        let sum = ap length (items_of-append done h.more) ∙ length-append (items_of done) (items_of h.more) in
-        let most = few-due c (given ++ octets) (done ++ h.more) accepted now-due in
-        let counted = all.windows (omega (arith, most, within, sum, p.windows)) in
-        omega (arith, counted, sum, p.windows)
-
-    line-now : (final : Packing) → final.phase ≡ packed.phase → PhaseWaits final written h.more
-    line-now final same = elim now-due as (λ _. PhaseWaits final written h.more) [
-      | inl due ↦ (
-          let none : h.more ≡ [] = back-none done h.more due.1 in
-          record {
-            line = ap line_of phase ∙ ap (λ l. line_of (phase_after None l)) none
-                ∙ sym (ap phase_line none);
-            first = inl (ap phase_line none);
-          }
-          )
-      | inr due ↦ (
-          let t = due.1 in
-          phase-waits c final written packing.bits given (phase_octets c (given ++ octets)) done h.more t.chosen
-          t.items was-due p.bits t.choice t.are phase
-          )
-    ]
-      where
-        phase : final.phase ≡ phase_after None h.more
-        phase = same ∙ all.phase ∙ ap (λ (o : Option Chosen). phase_after o h.more) is.no_phase
-
-  -- with an inner code these bits are all
-  pub gathers-coded : is_some receiver.config.inner ≡ true → Gathers receiver now packing packed octets
-  gathers-coded coded = record {
-    more = h.more;
-    holds = λ c written given done accepted within p is.
-        let some : is_some c.inner ≡ true = subst (λ (k : Configuration). is_some k.inner ≡ true)
-        p.config coded in (
-          record {
-            config = h.config ∙ p.config;
-            stands = stands-now c written given done accepted within p is;
-            room = all.room ∙ p.room;
-            bits = ap (λ l. written ++ l) (bits-now c written given done accepted within p is)
-                ∙ sym (append_assoc written packing.bits (all_bits (items_of h.more)))
-                ∙ ap (λ l. l ++ all_bits (items_of h.more)) p.bits
-                ∙ sym (coded-more c.inner c given (given ++ octets) (items_of done) (items_of h.more) some)
-                ∙ ap (inner_bits c (given ++ octets)) (sym (items_of-append done h.more));
-            windows = windows-now c written given done accepted within p is;
-          },
-          line-now c written given done accepted within p is packed refl,
-        );
-  }
-
-  -- with none there are no windows, and further bits are those of the octets
-  pub gathers-plain : (final : Packing) (skip : ℕ) → is_some receiver.config.inner ≡ false
-      → Adds packed (drop skip (plain_bits receiver.config octets)) final
-      → ((given more : List ℕ) (done : List (Handed WindowBlock)) → InnerReceiverStandsFor receiver given done
-      → receiver.config.inner ≡ None
-      → inner_bits receiver.config (given ++ more) [] ≡ inner_bits receiver.config given []
-      ++ drop skip (plain_bits receiver.config more))
-      → Gathers receiver now packing final octets
-  gathers-plain final skip plain adds goes = record {
-    more = h.more;
-    holds = λ c written given done accepted within p is.
-        let none : c.inner ≡ None = is-none c.inner
-        (subst (λ (k : Configuration). is_some k.inner ≡ false) p.config plain) in
-        let extra : List Bool = drop skip (plain_bits receiver.config octets) in
-        let further : inner_bits c (given ++ octets) [] ≡ inner_bits c given [] ++ extra =
-        subst (λ (k : Configuration). k.inner ≡ None
-        → inner_bits k (given ++ octets) [] ≡ inner_bits k given [] ++ extra) p.config
-        (goes given octets done p.stands.0) none in
-        let all_none : items_of (done ++ h.more) ≡ [] = none-due c (given ++ octets) (done ++ h.more) none
-        (now-due c written given done accepted within p is) in
-        let was_none : items_of done ≡ [] = none-due c given done none
-        (was-due c written given done accepted within p is) in
-        let more_none : items_of h.more ≡ [] = back-none (items_of done) (items_of h.more)
-        (sym (items_of-append done h.more) ∙ all_none) in
-        let same : packed.bits ≡ packing.bits = bits-now c written given done accepted within p is
-        ∙ ap (λ l. packing.bits ++ all_bits l) more_none ∙ append-nil packing.bits in
-        let room : length packed.bits + length extra < 8 * packed.room + 8 =
-        omega (
-          arith,
-          ap length same,
-          is.few,
-          all.room,
-          p.room,
-          few,
-          length-drop skip (plain_bits receiver.config octets),
-          plain-few receiver.config octets,
-        ) in (
-          record {
-            config = h.config ∙ p.config;
-            stands = stands-now c written given done accepted within p is;
-            room = adds.room ∙ all.room ∙ p.room;
-            bits = ap (λ l. written ++ l) (adds.bits room ∙ ap (λ l. l ++ extra) same)
-                ∙ sym (append_assoc written packing.bits extra)
-                ∙ ap (λ l. l ++ extra) (p.bits ∙ ap (inner_bits c given) was_none) ∙ sym further
-                ∙ ap (inner_bits c (given ++ octets)) (sym all_none);
-            windows = adds.windows ∙ windows-now c written given done accepted within p is;
-          },
-          line-now c written given done accepted within p is final adds.phase,
-        );
-  }
-
--- ---- the end
+bits-last : (rate : Option Rate) (c : Configuration) (octets : List ℕ) (xs ys : List WindowBlock)
+    → (rate ≡ None → ys ≡ []) → bits_at rate c octets (xs ++ ys) ≡ bits_at rate c octets xs ++ all_bits ys
+bits-last None c octets xs ys none =
+    sym (append-nil (drop c.skip (plain_bits c octets)))
+    ∙ ap (λ l. drop c.skip (plain_bits c octets) ++ all_bits l) (sym (none refl))
+bits-last (Some rate) c octets xs ys none = all_bits-append xs ys
 
 zeros-fill : low_bits 7 0 ≡ fill
 unfolding low_bits
 zeros-fill = refl
 
-last-bits : (rate : Option Rate) (c : Configuration) (phase : ℕ) (octets : List ℕ) (blocks last : List WindowBlock)
-    (left : ℕ) → BlocksAt rate c phase octets (blocks ++ last) left
-    → bits_at rate c octets (blocks ++ last) ≡ bits_at rate c octets blocks ++ all_bits last
-last-bits None c phase octets blocks last left are =
-    sym (append-nil (drop c.skip (plain_bits c octets)))
-    ∙ ap (λ l. drop c.skip (plain_bits c octets) ++ all_bits l) (sym (back-none blocks last are.0))
-last-bits (Some rate) c phase octets blocks last left are = all_bits-append blocks last
+-- ---- texts after those that were given
 
-pub gathers-last : (receiver : InnerReceiving) (packing packed final : Packing) (end : InnerEnd)
-    (last : List (Handed WindowBlock)) → HandedOver (on_handed AddsPhase AddsWindow) packing last packed
-    → Adds packed (low_bits 7 0) final
-    → ((given : List ℕ) (done : List (Handed WindowBlock)) → InnerReceiverStandsFor receiver given done
-    → AreHanded receiver.config given (done ++ last) end.leftover
-    × (end.bits ≡ length (inner_bits receiver.config given (items_of (done ++ last))))
-    × (end.slips ≡ reported_slips receiver.config (items_of (done ++ last))))
-    → GathersLast receiver packing final end
-gathers-last receiver packing packed final end last handed adds ends = record {
-  last = last;
-  holds = λ c written octets done accepted p is.
-      let all = waits packing packed last handed in
-      let due = subst (λ (k : Configuration). AreHandedDue k octets done) p.config p.stands.1 in
-      let left = end.leftover in
-      let there = subst (λ (k : Configuration). AreHanded k octets (done ++ last) left
-      × (end.bits ≡ length (inner_bits k octets (items_of (done ++ last))))
-      × (end.slips ≡ reported_slips k (items_of (done ++ last)))) p.config
-      (ends octets done p.stands.0) in
-      let t = there.0 in
-      let most = handed-last-few c octets done last left due t in
-      let bits = all.bits (omega (arith, is.few, p.room, most, needed-few c.inner c)) in
-      let size = ap length bits ∙ length-append packing.bits (all_bits (items_of last)) in
-      let zeros = adds.bits (omega (
-        arith,
-        is.few,
-        p.room,
-        most,
-        needed-few c.inner c,
-        size,
-        length-map
-            (kept_bits (items_of last)) is_one,
-        all.room,
-        length-low_bits 7 0,
-      )) in
-      let items : t.items ≡ items_of done ++ items_of last = sym (items_of-with_phase t.chosen t.items)
-      ∙ ap items_of (sym t.are) ∙ items_of-append done last in
-      let more = last-bits c.inner c (skip_of t.chosen) octets (items_of done) (items_of last) left
-      (subst (λ (l : List WindowBlock). AreInnerBlocks c (skip_of t.chosen) octets l left) items t.are_items) in
-      let sum = ap length (items_of-append done last) ∙ length-append (items_of done) (items_of last) in
-      let counted = all.windows (omega (
-        arith,
-        few-handed c octets (done ++ last) left accepted t,
-        p.stands.0.few,
-        sum,
-        p.windows,
-      )) in (
-        record {
-          are_handed = t;
-          bits = ap (λ l. written ++ l) (zeros ∙ ap (λ l. l ++ low_bits 7 0) bits
-              ∙ append_assoc packing.bits (all_bits (items_of last)) (low_bits 7 0))
-              ∙ sym (append_assoc written packing.bits (all_bits (items_of last) ++ low_bits 7 0))
-              ∙ ap (λ l. l ++ (all_bits (items_of last) ++ low_bits 7 0)) p.bits
-              ∙ sym (append_assoc (bits_of_handed c octets done) (all_bits (items_of last)) (low_bits 7 0))
-              ∙ ap (λ l. l ++ low_bits 7 0) (sym more ∙ ap (inner_bits c octets) (sym (items_of-append done last)))
-              ∙ ap (λ l. bits_of_handed c octets (done ++ last) ++ l) zeros-fill;
-          windows = adds.windows ∙ omega (arith, counted, sum, p.windows);
-          counted = there.1;
-          slips = there.2;
-        },
-        phase-waits c final written packing.bits octets (phase_octets c octets) done last t.chosen t.items due p.bits
-            t.choice t.are
-            (adds.phase ∙ all.phase ∙ ap (λ (o : Option Chosen). phase_after o last) is.no_phase),
-      );
-}
+-- they are the whole octets of all bits
+pub given-octets : (texts : List Text) (line : List ℕ) (all bits : List Bool) → AreGiven texts line all bits
+    → length bits < 8 → out_of texts ≡ octets_of all
+given-octets texts line all bits is few =
+    sym (append-nil (out_of texts)) ∙ ap (λ l. out_of texts ++ l) (sym (octets-none bits few))
+    ∙ sym (octets_of-bits_of-append (out_of texts) bits is.are_octets) ∙ ap octets_of is.octets
+
+length-items : (xs ys : List (Handed WindowBlock))
+    → length (items_of (xs ++ ys)) ≡ length (items_of xs) + length (items_of ys)
+length-items xs ys = ap length (items_of-append xs ys) ∙ length-append (items_of xs) (items_of ys)
+
+module _ {T : Type 0} (took : T → Text → T → Type 0) (d : InnerDecoding) (bits bits_now bits_last : List Bool)
+    (windows windows_now : ℕ) (taker middle last : T) (few : length bits_last < 8) where
+  -- with those before
+  module _ (c : Configuration) (given : List ℕ) (done : List Text) (t : GivesBits c d bits windows given done)
+      (more : List (Handed WindowBlock)) (further : List Bool)
+      (g : GivesHanded took (packing bits windows taker) (packing bits_now windows_now middle) more further bits_last
+      last) (rest : Rest c t.handed more) where
+    now-given : (all : List Bool)
+        → bits_of_handed c given t.handed ++ (all_bits (items_of more) ++ further) ≡ all
+        → AreGiven (done ++ g.texts) (phase_line (t.handed ++ more)) all bits_last
+    now-given all are = record {
+      are_octets = octets-after done g.texts t.given.are_octets g.gives.are_octets;
+      octets = bits-after done g.texts (bits_of_handed c given t.handed) (all_bits (items_of more) ++ further) bits
+          bits_last t.given.octets g.gives.all ∙ are;
+      noted = subst (IsFirstNote (done ++ g.texts)) (sym (line-append t.handed more))
+          (first-more done g.texts (phase_line t.handed) (phase_line more) t.given.noted (g.noted rest.later)
+          (line-first c given t.handed more done (phase_line t.handed) bits
+          (subst (λ (k : Configuration). AreHandedDue k given t.handed) t.config (handed-due d given t.handed t.stands))
+          t.given rest));
+    }
+
+    now-counted : windows_now ≡ raised_by (length (items_of (t.handed ++ more))) 0
+    now-counted = g.windows (length (items_of t.handed)) t.counted
+        ∙ ap (λ n. raised_by n 0) (sym (length-items t.handed more))
+
+  pub gives-fed : (now : InnerDecoding) (octets : List ℕ) (skip : ℕ) → now.config ≡ d.config
+      → skip ≡ d.config.skip - plain_count d.config d.count
+      → Hands (packs_handed took) HasHanded d now (packing bits windows taker) (packing bits_now windows_now middle)
+      octets
+      → Packs took bits_now middle (plain_more d.config.inner d.config skip octets) bits_last last
+      → (texts : List Text) × HandedOver took taker texts last
+      × ((c : Configuration) (given : List ℕ) (done : List Text) → length given + length octets ≤ most_limit
+      → GivesBits c d bits windows given done
+      → GivesBits c now bits_last windows_now (given ++ octets) (done ++ texts))
+  gives-fed now octets skip config is h p =
+      let further = plain_more d.config.inner d.config skip octets in
+      let g = gives-handed took h.more (packing bits windows taker) (packing bits_now windows_now middle) further
+      bits_last last h.handed p in (
+        g.texts,
+        g.gives.handed,
+        λ c given done within t.
+            let handed = t.handed ++ h.more in
+            let there = h.stands given t.handed (omega (arith, within)) t.stands in
+            let rest = rest-due c (given ++ octets) t.handed h.more (subst (λ (k : Configuration). AreHandedDue k
+            (given ++ octets) handed) (config ∙ t.config) (handed-due now (given ++ octets) handed there)) in
+            record {
+              accepted = t.accepted;
+              config = config ∙ t.config;
+              handed = handed;
+              stands = there;
+              counted = now-counted c given done t h.more further g rest;
+              few = few;
+              given = now-given c given done t h.more further g rest (bits_of_handed c (given ++ octets) handed)
+                  (ap (λ k. bits_of_handed c given t.handed ++ (all_bits (items_of h.more) ++ plain_more k.inner k skip
+                  octets)) t.config
+                  ∙ sym (handed-further c given octets t.handed h.more skip rest
+                  (is ∙ (λ i. (t.config i).skip - plain_count (t.config i) (sym t.stands.read.stands.count i)))));
+            },
+      )
+
+  -- the last bits, filled to a whole octet, and the line after them
+  pub gives-end : (all : List (Handed WindowBlock)) (left count : ℕ) (slips : Option ℕ) (end : T)
+      → HandedOver (packs_handed took) (packing bits windows taker) all (packing bits_now windows_now middle)
+      → Packs took bits_now middle (low_bits 7 0) bits_last last
+      → took last (Note (bits_end_text slips windows_now count left)) end
+      → ((given : List ℕ) (done : List (Handed WindowBlock)) → HasHanded d given done
+      → AreHanded d.config given (done ++ all) left
+      × (count ≡ length (inner_bits d.config given (items_of (done ++ all))))
+      × (slips ≡ reported_slips d.config (items_of (done ++ all))))
+      → (texts : List Text) × HandedOver took taker texts end
+      × ((c : Configuration) (given : List ℕ) (done : List Text) → length given ≤ most_limit
+      → GivesBits c d bits windows given done → GivesAllBits c given (done ++ texts))
+  gives-end all left count slips end over p noted whole =
+      let text = Note (bits_end_text slips windows_now count left) in
+      let g = gives-handed took all (packing bits windows taker) (packing bits_now windows_now middle) (low_bits 7 0)
+      bits_last last over p in (
+        g.texts ++ text ∷ [],
+        HandedOver-push took taker last end g.texts text g.gives.handed noted,
+        λ c given done within t.
+            let handed = t.handed ++ all in
+            let w = subst (λ (k : Configuration). AreHanded k given handed left
+            × (count ≡ length (inner_bits k given (items_of handed)))
+            × (slips ≡ reported_slips k (items_of handed))) t.config (whole given t.handed t.stands) in
+            let rest = rest-all c given t.handed all left w.0 in
+            let windows_are : windows_now ≡ length (items_of handed) =
+            omega (
+              arith,
+              now-counted c given done t all (low_bits 7 0) g rest,
+              few-handed c given handed left t.accepted w.0,
+              within,
+            ) in
+            let filled : List Bool = bits_of_handed c given handed ++ fill in
+            let is = now-given c given done t all (low_bits 7 0) g rest filled
+            (sym (append_assoc (bits_of_handed c given t.handed) (all_bits (items_of all)) (low_bits 7 0))
+            ∙ (λ i. (sym (bits-last c.inner c given (items_of t.handed) (items_of all) rest.none)
+            ∙ ap (inner_bits c given) (sym (items_of-append t.handed all))) i ++ zeros-fill i)) in
+            record {
+              accepted = t.accepted;
+              handed = handed;
+              left = left;
+              are_handed = w.0;
+              before = done ++ g.texts;
+              split = sym (append_assoc done g.texts (text ∷ []))
+                  ∙ (λ i. (done ++ g.texts) ++ Note (bits_end_text (w.2 i) (windows_are i) (w.1 i) left) ∷ []);
+              out = given-octets (done ++ g.texts) (phase_line handed) filled bits_last is few;
+              noted = is.noted;
+            },
+      )

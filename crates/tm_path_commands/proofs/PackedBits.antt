@@ -1,16 +1,21 @@
 -- Bits that are packed to octets as they come.
-use Rattle.std.proofs.Common.{◌≡◌, ℕ, ◌+◌, ◌-◌, ◌*◌, ◌/◌, ◌%◌, ◌^◌, ◌<◌, ◌≤◌, Bool, List, [], ◌∷◌, ◌++◌, length, take, drop, min, get_or, refl, sym, ap, ◌∙◌, arith, append_assoc, length-append, length-drop, take-append-drop, bit_or, bit_and}
+use Rattle.std.proofs.Common.{◌≡◌, ℕ, ◌+◌, ◌-◌, ◌*◌, ◌/◌, ◌%◌, ◌^◌, ◌<◌, ◌≤◌, Bool, List, [], ◌∷◌, ◌++◌, length, drop, take, min, get_or, set, refl, sym, ap, ◌∙◌, subst, arith, append_assoc, length-append, bit_or, bit_and}
 use mir.Val.{bool_byte}
-use Rattle.std.proofs.lemmas.List.{append-nil, drop_all, drop-append-le, drop-drop, drop_more, length-take-le}
-use Rattle.std.proofs.lemmas.List.Elements.{All-take}
+use Rattle.std.proofs.lemmas.Grind.{take-set_at}
+use Rattle.std.proofs.lemmas.List.{append-nil, drop_min, length-take-le, take_more}
+use Rattle.std.proofs.lemmas.List.Elements.{All-append, All-nil}
 use Rattle.std.proofs.lemmas.Nat.{and_mask, div-mul-add, mod-mul-add, mul-le, one_shl, or_shifted, pow_pos}
 use Rattle.std.proofs.Math.Nat.{pow-le-pow_right}
 use Rattle.std.proofs.Math.Pow.{mod-mod-pow}
 use Rattle.std.proofs.Math.Seq.{drop-append_seam}
 use Rattle.tm_base.specs.Bits.{low_bits, bits_of, bits_of_octet, bit_number, number_of, octets_of, AreOctets}
-use Rattle.tm_base.proofs.Packing.{bool_byte-bit_number, low_bits-number_of, length-low_bits, length-bits_of, bits_of-append, bits_of-drop, bits_of-octets_of, length-octets_of, octets_of-append, octets_of-bits_of-append, AreOctets-octets_of}
+use Rattle.tm_base.proofs.Handing.{HandedOver-append}
+use Rattle.tm_base.proofs.Packing.{bool_byte-bit_number, low_bits-number_of, length-low_bits, length-bits_of, bits_of-append, length-octets_of}
 use Rattle.tm_base.proofs.LowBits.{low_bits-same, low_bits-split}
-use Rattle.tm_path_commands.specs.Bits.{Adds, Packing, open_bits}
+use Rattle.tm_driver.specs.Writing.{Text, notes_of, out_of}
+use Rattle.tm_driver.proofs.Writing.{notes_of-append, out_of-append}
+use Rattle.tm_inner.proofs.DueBits.{drop-split}
+use Rattle.tm_path_commands.specs.Packing.{Gives, Packs}
 
 -- the lowest bits of a number's lowest octet, and of the one that is made of it
 low_bits-octet : (count number value : ℕ) → count ≤ 8 → value ≡ bit_and number 255
@@ -50,31 +55,30 @@ add-part whole last octet pending count value now few small is less low =
     ∙ joined last octet pending count value few small is)
     ∙ sym (append_assoc whole (low_bits pending last) (low_bits count octet))
 
-pub add-whole : (octets after : List ℕ) (last octet pending count value now next : ℕ) → count ≤ 8 → last < 256
-    → value ≡ bit_or (last * 2 ^ count % 2 ^ 32) (octet % (1 * 2 ^ count % 2 ^ 32))
-    → 8 ≤ pending + count → pending < 8 → now ≡ bit_and value 255
-    → next ≡ bit_and (value / 2 ^ (pending + count - 8)) 255 → after ≡ octets ++ next ∷ []
-    → bits_of after ++ low_bits (pending + count - 8) now ≡ (bits_of octets ++ low_bits pending last) ++ low_bits
-    count octet
-add-whole octets after last octet pending count value now next few small is full before low high grows =
+pub add-whole : (room : List ℕ) (place last octet pending count value : ℕ) → place < length room → count ≤ 8
+    → last < 256 → value ≡ bit_or (last * 2 ^ count % 2 ^ 32) (octet % (1 * 2 ^ count % 2 ^ 32)) → 8 ≤ pending + count
+    → pending < 8 → bits_of (take (place + 1) (set room place (bit_and (value / 2 ^ (pending + count - 8)) 255)))
+    ++ low_bits (pending + count - 8) (bit_and value 255)
+    ≡ (bits_of (take place room) ++ low_bits pending last) ++ low_bits count octet
+add-whole room place last octet pending count value within few small is full before =
     let left : ℕ = pending + count - 8 in
-    let all : pending + count ≡ 8 + left = omega arith in
-    ap (λ l. bits_of l ++ low_bits left now) grows
-    ∙ ap (λ l. l ++ low_bits left now) (bits_of-append octets (next ∷ [])
+    let next : ℕ = bit_and (value / 2 ^ left) 255 in
+    let octets : List ℕ = take place room in
+    let rest : List Bool = low_bits left (bit_and value 255) in
+    let all : 8 + left ≡ pending + count = omega (arith, full) in
+    ap (λ l. bits_of l ++ rest) (take-set_at room place (place + 1) next refl within)
+    ∙ ap (λ l. l ++ rest) (bits_of-append octets (next ∷ [])
     ∙ ap (λ l. bits_of octets ++ l) (append-nil (low_bits 8 next)))
-    ∙ append_assoc (bits_of octets) (low_bits 8 next) (low_bits left now)
+    ∙ append_assoc (bits_of octets) (low_bits 8 next) rest
     ∙ ap (λ l. bits_of octets ++ l) (
-    (λ i. low_bits-octet 8 (value / 2 ^ left) next (omega arith) high i ++ low_bits-octet left value now (omega arith)
-    low i)
-    ∙ sym (low_bits-split 8 left value) ∙ ap (λ n. low_bits n value) (sym all)
+    (λ i. low_bits-octet 8 (value / 2 ^ left) next (omega arith) refl i ++ low_bits-octet left value
+    (bit_and value 255) (omega (arith, few, before)) refl i)
+    ∙ sym (low_bits-split 8 left value) ∙ ap (λ n. low_bits n value) all
     ∙ joined last octet pending count value few small is
     )
     ∙ sym (append_assoc (bits_of octets) (low_bits pending last) (low_bits count octet))
 
 -- ---- whole octets, and the bits after them
-
-pub prefix-octets : (count : ℕ) (octets : List ℕ) → AreOctets octets → AreOctets (take count octets)
-prefix-octets count octets are = All-take (λ octet. octet < 256) count octets are
 
 pub length-view : (octets : List ℕ) (pending last : ℕ) → length (bits_of octets ++ low_bits pending last) ≡ 8 * length
     octets + pending
@@ -89,63 +93,53 @@ octets-none bits few = empty (octets_of bits) (omega (arith, length-octets_of bi
     empty [] none = refl
     empty (octet ∷ octets) none = absurd (omega arith)
 
-pub view-octets : (octets : List ℕ) (pending last : ℕ) → AreOctets octets → pending < 8
-    → octets_of (bits_of octets ++ low_bits pending last) ≡ octets
-view-octets octets pending last are few =
-    octets_of-bits_of-append octets (low_bits pending last) are
-    ∙ ap (λ l. octets ++ l) (octets-none (low_bits pending last) (omega (arith, length-low_bits pending last)))
-    ∙ append-nil octets
+-- no octets have no bits
+pub no-octets : (octets : List ℕ) (bits : List Bool) → bits_of octets ++ bits ≡ [] → octets ≡ []
+no-octets [] bits none = refl
+no-octets (octet ∷ octets) bits none = absurd (omega (
+  arith,
+  ap length none,
+  length-append (bits_of (octet ∷ octets)) bits,
+  length-bits_of (octet ∷ octets),
+))
 
-pub view-open : (octets : List ℕ) (pending last : ℕ) → pending < 8
-    → open_bits (bits_of octets ++ low_bits pending last) ≡ low_bits pending last
-view-open octets pending last few =
-    let whole : 8 * (length (bits_of octets ++ low_bits pending last) / 8) ≡ length (bits_of octets) = omega
-    (arith, length-view octets pending last, length-bits_of octets) in
-    ap (λ n. drop n (bits_of octets ++ low_bits pending last)) whole
-    ∙ drop-append_seam (bits_of octets) (low_bits pending last)
+-- ---- the bits of texts, and then of more
 
--- whole octets of bits, and the bits after them, are these bits
-pub split-open : (bits : List Bool) → bits_of (octets_of bits) ++ open_bits bits ≡ bits
-split-open bits =
-    let n : ℕ = 8 * (length bits / 8) in
-    let prefix : List Bool = take n bits in
-    let back : List Bool = drop n bits in
-    let size : length prefix ≡ n = length-take-le n bits (omega arith) in
-    let whole : length prefix % 8 ≡ 0 = omega (arith, size) in
-    let octets : octets_of bits ≡ octets_of prefix =
-    ap octets_of (sym (take-append-drop n bits)) ∙ octets_of-append prefix back whole
-    ∙ ap (λ l. octets_of prefix ++ l) (octets-none back (omega (arith, length-drop n bits)))
-    ∙ append-nil (octets_of prefix) in
-    ap (λ l. bits_of l ++ back) octets ∙ ap (λ l. l ++ back) (bits_of-octets_of prefix whole) ∙ take-append-drop n bits
+pub octets-after : (xs ys : List Text) → AreOctets (out_of xs) → AreOctets (out_of ys) → AreOctets (out_of (xs ++ ys))
+octets-after xs ys are more =
+    subst AreOctets (sym (out_of-append xs ys)) (All-append (λ octet. octet < 256) (out_of xs) (out_of ys) are more)
 
-pub few-open : (bits : List Bool) → length (open_bits bits) < 8
-few-open bits = omega (arith, length-drop (8 * (length bits / 8)) bits)
+pub bits-after : (xs ys : List Text) (all more middle now : List Bool) → bits_of (out_of xs) ++ middle ≡ all
+    → bits_of (out_of ys) ++ now ≡ middle ++ more → bits_of (out_of (xs ++ ys)) ++ now ≡ all ++ more
+bits-after xs ys all more middle now first rest =
+    ap (λ l. bits_of l ++ now) (out_of-append xs ys) ∙ ap (λ l. l ++ now) (bits_of-append (out_of xs) (out_of ys))
+    ∙ append_assoc (bits_of (out_of xs)) (bits_of (out_of ys)) now ∙ ap (λ l. bits_of (out_of xs) ++ l) rest
+    ∙ sym (append_assoc (bits_of (out_of xs)) middle more) ∙ ap (λ l. l ++ more) first
 
--- octets of some bits, and the same of more
-pub octets-more : (bits more : List Bool) → (rest : List ℕ) × (octets_of (bits ++ more) ≡ octets_of bits ++ rest)
-octets-more bits more =
-    let back : List Bool = open_bits bits ++ more in (
-      octets_of back,
-      ap (λ l. octets_of (l ++ more)) (sym (split-open bits))
-          ∙ ap octets_of (append_assoc (bits_of (octets_of bits)) (open_bits bits) more)
-          ∙ octets_of-bits_of-append (octets_of bits) back (AreOctets-octets_of bits),
-    )
+module _ {T : Type 0} (took : T → Text → T → Type 0) where
+  pub gives-more : (a b c x y : List Bool) (s t u : T) (xs ys : List Text) → Gives took a s xs x b t
+      → Gives took b t ys y c u → Gives took a s (xs ++ ys) (x ++ y) c u
+  gives-more a b c x y s t u xs ys p q = record {
+    handed = HandedOver-append took s t u xs ys p.handed q.handed;
+    are_octets = octets-after xs ys p.are_octets q.are_octets;
+    all = bits-after xs ys (a ++ x) y b c p.all q.all ∙ append_assoc a x y;
+  }
 
--- ---- more bits and more
+  -- nothing is given yet
+  pub packs-none : (bits more now : List Bool) (t : T) → now ≡ bits ++ more → Packs took bits t more now t
+  packs-none bits more now t is = record {
+    texts = [];
+    gives = record { handed = refl; are_octets = All-nil (λ octet. octet < 256); all = is };
+    silent = refl;
+  }
 
-pub adds-none : (p : Packing) → Adds p [] p
-adds-none p = record { room = refl; phase = refl; windows = refl; bits = λ _. sym (append-nil p.bits) }
-
-pub adds-more : (a b c : Packing) (x y : List Bool) → Adds a x b → Adds b y c → Adds a (x ++ y) c
-adds-more a b c x y p q = record {
-  room = q.room ∙ p.room;
-  phase = q.phase ∙ p.phase;
-  windows = q.windows ∙ p.windows;
-  bits = λ few.
-      let one = p.bits (omega (arith, few, length-append x y)) in
-      let sum = ap length one ∙ length-append a.bits x in
-      q.bits (omega (arith, few, length-append x y, sum, p.room)) ∙ ap (λ l. l ++ y) one ∙ append_assoc a.bits x y;
-}
+  pub packs-more : (a b c x y : List Bool) (s t u : T) → Packs took a s x b t → Packs took b t y c u
+      → Packs took a s (x ++ y) c u
+  packs-more a b c x y s t u p q = record {
+    texts = p.texts ++ q.texts;
+    gives = gives-more a b c x y s t u p.texts q.texts p.gives q.gives;
+    silent = notes_of-append p.texts q.texts ∙ ap (λ l. l ++ notes_of q.texts) p.silent ∙ q.silent;
+  }
 
 -- a bit by itself
 pub one-bit : (byte : ℕ) (bit : Bool) → byte ≡ bool_byte bit → low_bits 1 byte ≡ bit ∷ []
@@ -166,23 +160,20 @@ lowest-after odd octet few =
     ∙ drop-append_seam (low_bits odd (octet / 2 ^ (8 - odd))) (low_bits (8 - odd) octet)
     )
 
--- the first octet that is not skipped as a whole, and those after it
-pub after-some : (skip skipped : ℕ) (octets : List ℕ) → skipped ≡ min (skip / 8) (length octets)
-    → skipped < length octets
-    → low_bits (8 - skip % 8) (get_or octets skipped 0) ++ bits_of (drop (skipped + 1) octets) ≡ drop skip
-    (bits_of octets)
-after-some skip skipped octets is some =
-    let odd : ℕ = skip % 8 in
-    let x : ℕ = get_or octets skipped 0 in
-    let rest : List ℕ = drop (skipped + 1) octets in
-    let same : 8 * skipped + odd ≡ skip = omega arith in
-    ap (λ l. l ++ bits_of rest) (lowest-after odd x (omega arith))
-    ∙ sym (drop-append-le odd (bits_of_octet x) (bits_of rest) (omega (arith, length-low_bits 8 x)))
-    ∙ ap (λ l. drop odd (bits_of l)) (sym (drop_more octets skipped 0 some))
-    ∙ ap (drop odd) (bits_of-drop skipped octets) ∙ drop-drop odd (8 * skipped) (bits_of octets)
-    ∙ ap (λ n. drop n (bits_of octets)) same
-
-pub after-none : (skip skipped : ℕ) (octets : List ℕ) → skipped ≡ min (skip / 8) (length octets)
-    → length octets ≤ skipped → [] ≡ drop skip (bits_of octets)
-after-none skip skipped octets is all = sym
-    (drop_all skip (bits_of octets) (omega (arith, is, all, length-bits_of octets)))
+-- one octet more, of which `skipped` bits are skipped
+pub octet-after : (skip k skipped : ℕ) (octets : List ℕ) → skipped ≡ min (skip - 8 * k) 8 → k < length octets
+    → drop skip (bits_of (take k octets)) ++ low_bits (8 - skipped) (get_or octets k 0) ≡ drop skip
+    (bits_of (take (k + 1) octets))
+octet-after skip k skipped octets is some =
+    let octet : ℕ = get_or octets k 0 in
+    let bits : List Bool = bits_of_octet octet in
+    let before : List Bool = bits_of (take k octets) in
+    let size : length before ≡ 8 * k = length-bits_of (take k octets) ∙ ap (λ n. 8 * n) (length-take-le k octets
+    (omega (arith, some))) in
+    let least : min (skip - length before) (length bits) ≡ skipped =
+    omega (arith, is, size, length-low_bits 8 octet) in
+    ap (λ l. drop skip before ++ l) (lowest-after skipped octet (omega (arith, is))
+    ∙ ap (λ n. drop n bits) (sym least) ∙ drop_min (skip - length before) bits)
+    ∙ sym (drop-split skip before bits)
+    ∙ ap (drop skip) (ap (λ l. before ++ l) (sym (append-nil bits)) ∙ sym (bits_of-append (take k octets) (octet ∷ []))
+    ∙ ap bits_of (sym (take_more octets k 0 some)))

@@ -7,3 +7,4 @@ pub mod Tracing
 pub mod Certifying
 pub mod Checking
 pub mod Bits
+pub mod Packing

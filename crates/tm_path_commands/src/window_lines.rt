@@ -104,25 +104,15 @@ fn add_end(line: &mut Line, blocks: u64, bits: u64, leftover: u8)
     line.text(b"\n");
 }
 
-/// Writes what is said after the bits: `slips N`, before how many windows octets were dropped, where the symbol phase
-/// is followed, and the end of a trace. `Failed` comes only where the sink's count of faults rose.
-pub fn bits_end_line<N: Sink>(
-    notes: &mut N,
-    slips: Option<u64>,
-    blocks: u64,
-    bits: u64,
-    leftover: u8,
-) -> Result<(), Failed>
-    ensures ok { OnOk result (Wrote (N.taken notes.old) (N.taken notes.new)
-        (bits_end_text slips blocks bits leftover)) }
-    ensures err { OnErr result (WrotePrefix (N.taken notes.old) (N.taken notes.new)
-        (bits_end_text slips blocks bits leftover)) }
-    ensures cause { HasCause (N.faults notes.old) (N.faults notes.new) (N.is_last notes.new) result }
+/// What is said after the bits: `slips N`, before how many windows octets were dropped, where the symbol phase is
+/// followed, and the end of a trace.
+pub fn bits_end_text(slips: Option<u64>, blocks: u64, bits: u64, leftover: u8) -> Line
+    ensures { result ≡ bits_end_text slips blocks bits leftover }
 {
     let mut line = Line::new();
     add_slips(&mut line, slips);
     add_end(&mut line, blocks, bits, leftover);
-    line.put(notes)
+    line
 }
 
 // Adds why a window of a certificate fails.

@@ -1,39 +1,50 @@
-use Rattle.std.proofs.Common.{rules, ◌+◌, ◌∙◌, [], None}
-use Rattle.tm_driver.specs.Courses.{source_call}
-use Rattle.tm_driver.specs.Meaning.{Ends, taken_by}
+use Rattle.std.proofs.Common.{◌∙◌, ◌<◌, Bool, List, [], length, arith, refl, sym, subst}
+use Rattle.std.proofs.lemmas.List.Elements.{All-nil}
+use Rattle.tm_config.specs.Accepted.{IsAccepted}
+use Rattle.tm_driver.specs.Courses.{sink_call, source_call}
+use Rattle.tm_driver.specs.Meaning.{taken_by}
 use Rattle.tm_driver.proofs.Answered.{answered}
+use Rattle.tm_inner.proofs.PlainBits.{bits-nil}
 use Rattle.tm_path_commands.specs.Bits.{bits_meaning}
-use Rattle.tm_path_commands.specs.declared.bits_command.BitWriting.{BitWriting}
-use Rattle.tm_path_commands.proofs.BitsEndings.{driven-ends, writes-new}
+use Rattle.tm_path_commands.specs.declared.bits_command.BitsOf.{BitsOf}
+use Rattle.tm_path_commands.proofs.BitsEndings.{bits-ends}
 use Rattle.tm_path_commands.proofs.bits_command.bits.Goals as goal
+
+pub drive_stage-requires : goal.drive_stage-requires
+drive_stage-requires g c =
+    let k = c.in-Ok.inner.config in record {
+      ready = c.in-Ok.ensures.going;
+      limit = (let most = c.limit.ensures.accepted.limit in omega (arith, most, c.limit.ensures.value));
+      fresh = record {
+        accepted = subst IsAccepted (sym c.in-Ok.ensures.config) c.limit.ensures.accepted;
+        config = refl;
+        handed = [];
+        stands = c.in-Ok.ensures.stands;
+        counted = refl;
+        few = subst (λ (l : List Bool). length l < 8) (sym c.new.ensures) (omega arith);
+        given = record {
+          are_octets = All-nil (λ octet. octet < 256);
+          octets = c.new.ensures ∙ sym (bits-nil k.inner k);
+          noted = record { first = []; rest = []; split = refl; silent = refl; noted = refl; only = refl };
+        };
+      };
+    }
 
 pub returns-clause-answered : goal.returns-clause-answered
 returns-clause-answered g c =
-    let h = c.drive-ending.ensures.driven in
+    let d = c.drive_stage.ensures.staged in
     let config = c.args.config.now in
-    let now = c.drive-ending.new.feed in
-    let fresh = writes-new config c.in-Ok.receiver c.in-Ok-open.packer (g.O.Sink.taken c.args.out.now)
-    (g.N.Sink.taken c.args.notes.now) c.limit.ensures.accepted
-    c.in-Ok.ensures.config c.in-Ok.ensures.stands
-    (c.in-Ok-open.ensures ∙ λ i. record {
-      bits = [];
-      room = c.keep.ensures.value i + c.ahead.ensures.value i + 4096;
-      phase = None;
-      windows = 0;
-    }) in
-    let done : Ends c.drive-ending.result (bits_meaning config) config.limit h.0
-    (taken_by (g.O.Sink.taken c.args.out.now) (g.O.Sink.taken now.out.now) (g.N.Sink.taken c.args.notes.now)
-    (g.N.Sink.taken now.notes.now)) =
-    driven-ends c.one_windows_law.ensures.exists c.due_windows_law.ensures.first c.phase_law.ensures.exists
-    c.phase_law.ensures.one c.closed_prefix_law.ensures
-    c.whole_window_law.ensures.prefix (λ (t : BitWriting g.row.O.Denot g.row.N.Denot). t.receiver.now)
-    (λ t. t.packer.now)
-    (λ t. g.O.Sink.taken t.out.now) (λ t. g.N.Sink.taken t.notes.now) config _ now c.limit.ensures.accepted fresh
-    c.limit.result c.limit.ensures.value _ _ c.drive-ending.result h.0 h.3 in
-    let went = c.drive-ending.ensures.sinks in
+    let by = c.drive_stage.result in
+    let new = c.drive_stage.new in
     let source = source_call g.S.Source.given g.S.Source.left g.S.Source.ended g.S.Source.faults g.S.Source.is_last
-    c.args.source.now c.drive-ending.new.source in (
-      h.0,
-      answered h.0 _ _ _ _ source _ _ c.limit.ensures.value h.1 h.2 (search rules) c.drive-ending.ensures.source
-          (search rules),
+    c.args.source.now new.source in
+    let out = sink_call g.O.Sink.taken g.O.Sink.faults g.O.Sink.is_last c.args.out.now new.out in
+    let notes = sink_call g.N.Sink.taken g.N.Sink.faults g.N.Sink.is_last c.args.notes.now new.notes in (
+      d.0,
+      answered d.0 by (bits_meaning config) config.limit c.limit.result source out notes c.limit.ensures.value d.2 d.3
+          (bits-ends c.handed_law.ensures (λ (t : BitsOf). t.inner) (λ t. t.packer) (λ t. t.windows) config
+          c.in-Ok.inner.config c.limit.result c.in-Ok.ensures.config c.limit.ensures.value new.stage by d.0 d.1
+          (taken_by (g.O.Sink.taken c.args.out.now) (g.O.Sink.taken new.out) (g.N.Sink.taken c.args.notes.now)
+          (g.N.Sink.taken new.notes)) d.4 d.5)
+          c.drive_stage.ensures.source c.drive_stage.ensures.sinks,
     )

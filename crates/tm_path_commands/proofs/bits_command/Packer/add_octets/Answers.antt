@@ -1,19 +1,30 @@
-use Rattle.std.proofs.Common.{◌≡◌, ◌+◌, ◌++◌, ◌∷◌, ◌∙◌, [], take, get_or, sym, ap, subst, arith}
-use Rattle.std.proofs.lemmas.List.{append-nil, take_more}
-use Rattle.tm_base.specs.Bits.{bits_of, bits_of_octet}
-use Rattle.tm_base.proofs.Packing.{bits_of-append}
-use Rattle.tm_path_commands.specs.Bits.{Adds}
-use Rattle.tm_path_commands.proofs.PackedBits.{adds-more}
+use Rattle.std.proofs.Common.{◌≡◌, ◌-◌, ◌*◌, ◌∙◌, ◌++◌, [], drop, min, take, get_or, sym, ap, subst, arith}
+use Rattle.std.proofs.lemmas.List.{append-nil, drop_all}
+use Rattle.tm_base.specs.Bits.{bits_of, low_bits}
+use Rattle.tm_path_commands.specs.Packing.{Packs}
+use Rattle.tm_path_commands.proofs.PackedBits.{octet-after, packs-more, packs-none}
 use Rattle.tm_path_commands.proofs.bits_command.Packer.add_octets.Goals as goal
 
+pub loop-k-init : goal.loop-k-init
+loop-k-init g c =
+    let packer = c.args.self.now in record {
+      left = omega arith;
+      packs = packs-none g.W.TextTaker.took packer (drop c.args.skip []) packer c.args.texts.now
+          (sym (ap (λ l. packer ++ l) (drop_all c.args.skip [] (omega arith)) ∙ append-nil packer));
+    }
+
 pub loop-k-preserved : goal.loop-k-preserved
-loop-k-preserved c =
+loop-k-preserved g c =
+    let took = g.W.TextTaker.took in
     let octets = c.args.octets.now in
-    let k = c.loop-k.k in
-    let x = get_or octets k 0 in
-    let prefix = bits_of (take k octets) in
-    let more : bits_of (take (k + 1) octets) ≡ prefix ++ bits_of_octet x =
-    ap bits_of (take_more octets k 0 (omega arith)) ∙ bits_of-append (take k octets) (x ∷ [])
-    ∙ ap (λ l. prefix ++ l) (append-nil (bits_of_octet x)) in
-    subst (λ l. Adds c.args.self.now l c.add.new.self) (sym more)
-    (adds-more c.args.self.now c.loop-k.self c.add.new.self prefix (bits_of_octet x) c.loop-k.invariant c.add.ensures)
+    let skip = c.args.skip in
+    let l = c.loop-k in
+    let skipped = c.min-skipped.result in
+    let is : skipped ≡ min (skip - 8 * l.k) 8 = c.min-skipped.ensures ∙ ap (λ n. min n 8) l.invariant.left in record {
+      left = omega (arith, l.invariant.left, is);
+      packs = subst (λ bits. Packs took c.args.self.now c.args.texts.now bits c.add.new.self c.add.new.texts)
+          (octet-after skip l.k skipped octets is (omega arith))
+          (packs-more took c.args.self.now l.self c.add.new.self (drop skip (bits_of (take l.k octets)))
+          (low_bits (8 - skipped) (get_or octets l.k 0)) c.args.texts.now l.texts c.add.new.texts l.invariant.packs
+          c.add.ensures);
+    }
