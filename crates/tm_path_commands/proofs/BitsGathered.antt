@@ -399,7 +399,7 @@ module _ {T : Type 0} (took : T → Text → T → Type 0) (d : InnerDecoding) (
             omega (
               arith,
               now-counted c given done t all (low_bits 7 0) g rest,
-              few-handed c given handed left t.accepted w.0,
+              (few-handed c given handed left t.accepted w.0).0,
               within,
             ) in
             let filled : List Bool = bits_of_handed c given handed ++ fill in

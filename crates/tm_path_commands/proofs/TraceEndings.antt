@@ -24,7 +24,7 @@ use Rattle.tm_path_commands.specs.Lines.{no_blocks, trace_end_text}
 use Rattle.tm_path_commands.specs.Trace.{IsTrace, blocks_text, tally_all, trace_meaning, trace_text}
 use Rattle.tm_path_commands.specs.Tracing.{Traces, TracesAll, counted_by, lines_by}
 use Rattle.tm_path_commands.proofs.TraceLines.{blocks-counted, few-tally, lines-are, lines-silent, trace-rest}
-use Rattle.tm_path_commands.proofs.FewHanded.{DueFirst, few-due, few-handed, kept-due, kept-handed}
+use Rattle.tm_path_commands.proofs.FewHanded.{DueFirst, few-due, few-handed}
 
 -- all texts of octets are their trace
 abbrev pub AreTexts : Configuration → List ℕ → List Text → Type 0
@@ -48,8 +48,7 @@ counted : (c : Configuration) (octets : List ℕ) (handed : List (Handed WindowB
 counted c octets handed left accepted within are =
     let most = accepted.limit in
     lines-are no_blocks handed
-    (few-tally (length octets) handed (omega arith) (few-handed c octets handed left accepted are)
-    (kept-handed c octets handed left are))
+    (few-tally octets handed (omega arith) (few-handed c octets handed left accepted are))
 
 pub trace-early : DueFirst → (c : Configuration) (decoder : InnerDecoding) (tally : Tally) (octets : List ℕ)
     (texts : List Text) → length octets ≤ c.limit → Traces c decoder tally octets texts
@@ -59,8 +58,7 @@ trace-early law c decoder tally octets texts within t =
     (handed-due decoder octets t.handed t.stands) in
     let most = t.accepted.limit in
     let lines = lines-are no_blocks t.handed
-    (few-tally (length octets) t.handed (omega arith) (few-due c octets t.handed t.accepted due)
-    (kept-due c octets t.handed due)) in
+    (few-tally octets t.handed (omega arith) (few-due law c octets t.handed t.accepted due)) in
     let are : AreOut texts (blocks_text no_blocks t.handed) =
     subst (λ (l : List Text). AreOut l (blocks_text no_blocks t.handed)) (sym t.lines) lines.0 in
     record {

@@ -1,5 +1,5 @@
 -- The lines of a trace.
-use Rattle.std.proofs.Common.{◌≡◌, ℕ, ◌+◌, ◌-◌, ◌<◌, ◌≤◌, ◌^◌, List, [], ◌∷◌, ◌++◌, length, refl, sym, ◌∙◌, ap, subst, arith, append_assoc}
+use Rattle.std.proofs.Common.{◌≡◌, ℕ, ◌+◌, ◌-◌, ◌<◌, ◌^◌, List, [], ◌∷◌, ◌++◌, length, refl, sym, ◌∙◌, ap, subst, arith, append_assoc}
 use Rattle.tm_base.specs.Handed.{Handed, Phase, Item, items_of}
 use Rattle.tm_base.specs.Takers.{HandedOver}
 use Rattle.tm_viterbi.specs.WindowBlock.{WindowBlock}
@@ -9,6 +9,7 @@ use Rattle.tm_windows.specs.Windows.{kept_of}
 use Rattle.tm_path_commands.specs.declared.tally.Tally.{Tally}
 use Rattle.tm_path_commands.specs.Lines.{block_text, no_blocks, tally_after, trace_end_text}
 use Rattle.tm_path_commands.specs.Trace.{blocks_text, tally_all, trace_text}
+use Rattle.tm_path_commands.proofs.FewHanded.{AreFew}
 use Rattle.tm_path_commands.specs.Tracing.{TracingTo, counted_after, counted_by, lines_by, traced_handed}
 
 -- ---- what is given
@@ -86,11 +87,11 @@ tally-is was (Item block ∷ handed) =
     (omega (arith, rest.0), omega (arith, rest.1))
 
 -- of few windows that keep few bits both counts are small
-pub few-tally : (n : ℕ) (handed : List (Handed WindowBlock)) → n < 2 ^ 60 → length (items_of handed) ≤ n
-    → kept_of (items_of handed) ≤ n → IsSmall (tally_all no_blocks handed)
-few-tally n handed small blocks bits =
+pub few-tally : (octets : List ℕ) (handed : List (Handed WindowBlock)) → length octets < 2 ^ 60
+    → AreFew (items_of handed) octets → IsSmall (tally_all no_blocks handed)
+few-tally octets handed small few =
     let is = tally-is no_blocks handed in
-    (omega (arith, small, blocks, is.0), omega (arith, small, bits, is.1))
+    (omega (arith, small, few.0, is.0), omega (arith, small, few.1, is.1))
 
 pub blocks-counted : (handed : List (Handed WindowBlock))
     → (tally_all no_blocks handed).blocks ≡ length (items_of handed)
