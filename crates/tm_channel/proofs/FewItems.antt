@@ -13,23 +13,24 @@ use Rattle.tm_codeblock.specs.Interleaved.{interleaved}
 use Rattle.tm_codeblock.proofs.ColumnLaws.{length-interleaved}
 use Rattle.tm_viterbi.specs.WindowBlock.{WindowBlock}
 use Rattle.tm_viterbi.specs.Clean.{kept_bits}
-use Rattle.tm_inner.specs.Inner.{plain_bits, plain_count, bits_at, inner_bits}
-use Rattle.tm_inner.specs.Phase.{held_bits}
-use Rattle.tm_inner.specs.Handing.{AreHanded, AreHandedDue}
+use Rattle.tm_windows.specs.declared.choosing.Chosen.{Chosen}
+use Rattle.tm_inner.specs.Inner.{AreInnerBlocks, plain_bits, plain_count, bits_at, inner_bits}
+use Rattle.tm_inner.specs.Phase.{IsChosen, held_bits, skip_of, with_phase}
+use Rattle.tm_inner.specs.Handing.{AreHandedDue}
 use Rattle.tm_inner.proofs.DueBits.{kept-append}
 use Rattle.tm_inner.proofs.HandedBits.{needed-few, waiting-last-few, waiting-more-few}
+use Rattle.tm_inner.proofs.PhasePieces.{items_of-with_phase}
 use Rattle.tm_inner.proofs.PlainBits.{length-plain}
 use Rattle.tm_sync.specs.declared.found.Found.{Found}
 use Rattle.tm_codeblock.specs.ReceivedCodeblock.{codeblock_at, data_octets, frame_of, places_in}
 use Rattle.tm_channel.specs.Items.{ItemValue, IsItem, AreItems, AreItemsOf, is_given, frames_of}
 use Rattle.tm_channel.specs.Due.{due}
-use Rattle.tm_channel.specs.Handing.{phase_of}
 use Rattle.tm_channel.specs.Most.{AreFew, most_bits, most_bits_at, most_items}
 use Rattle.tm_channel.specs.Receiving.{waiting_bits}
 use Rattle.tm_channel.specs.OctetReceiving.{Stages, StagesFor, StagesOn}
 use Rattle.tm_channel.proofs.Apart.{few-found}
 use Rattle.tm_channel.proofs.Batches.{batches-le, length-due}
-use Rattle.tm_channel.proofs.FurtherBits.{bits_found, bits-last, further-at, phased-items}
+use Rattle.tm_channel.proofs.FurtherBits.{bits_found, further-at, last-at, phased-items}
 use Rattle.tm_channel.proofs.ReceivedPieces.{all_bits}
 use Rattle.tm_channel.proofs.SentCodeblocks.{octets-received}
 
@@ -159,35 +160,38 @@ last-few (Some rate) c given blocks last piece is few =
 
 -- with further octets
 pub stages-few : (s now : Stages) (given octets : List ℕ) (done more : List (Handed ItemValue))
-    → IsAccepted s.inner.config → now.inner.config ≡ s.inner.config
-    → (stood : StagesFor s given done) → StagesOn now (given ++ octets) (done ++ more) stood.handed
+    → IsAccepted s.inner.config → now.inner.config ≡ s.inner.config → (stood : StagesFor s given done)
+    → StagesOn now (given ++ octets) (done ++ more) (with_phase s.inner.chosen stood.blocks)
     → AreFew s.inner.config (length octets) (items_of more)
 stages-few s now given octets done more ok same stood on =
     let c = s.inner.config in
     let there = on.0 in
-    let blocks = items_of stood.handed in
+    let handed = with_phase s.inner.chosen stood.blocks in
+    let was = stood.progress.items in
     let further = items_of on.1 in
-    let bits = inner_bits c given blocks in
+    let bits = inner_bits c given stood.blocks in
     let skip = c.skip - plain_count c (length given) in
     let piece = bits_found c c.inner skip further octets in
-    let is : inner_bits c (given ++ octets) (items_of there.handed) ≡ bits ++ piece =
-    ap (λ (l : List (Handed WindowBlock)). inner_bits c (given ++ octets) (items_of l)) on.2
-    ∙ ap (inner_bits c (given ++ octets)) (items_of-append stood.handed on.1)
-    ∙ further-at c.inner c given octets blocks further skip refl in
-    let all : there.items ≡ stood.items ++ items_of more =
-    sym (phased-items (phase_of there.handed) there.items (done ++ more) there.are) ∙ items_of-append done more
-    ∙ ap (λ l. l ++ items_of more) (phased-items (phase_of stood.handed) stood.items done stood.are) in
-    let are = subst (λ (k : Configuration). AreItemsOf k (inner_bits k (given ++ octets) (items_of there.handed))
-    (due k (inner_bits k (given ++ octets) (items_of there.handed))) there.items)
-    same there.are_items in
-    let whole = subst (λ (l : List Bool). AreItemsOf c l (due c l) (stood.items ++ items_of more)) is
-    (subst (AreItemsOf c (inner_bits c (given ++ octets) (items_of there.handed))
-    (due c (inner_bits c (given ++ octets) (items_of there.handed)))) all are) in
+    let blocks : there.blocks ≡ stood.blocks ++ further =
+    sym (items_of-with_phase now.inner.chosen there.blocks) ∙ ap items_of on.2 ∙ items_of-append handed on.1
+    ∙ ap (λ (l : List WindowBlock). l ++ further) (items_of-with_phase s.inner.chosen stood.blocks) in
+    let is : inner_bits c (given ++ octets) there.blocks ≡ bits ++ piece =
+    ap (inner_bits c (given ++ octets)) blocks
+    ∙ further-at c.inner c given octets stood.blocks further skip refl in
+    let all : there.progress.items ≡ was ++ items_of more =
+    sym (phased-items _ there.progress.items (done ++ more) there.progress.are) ∙ items_of-append done more
+    ∙ ap (λ l. l ++ items_of more) (phased-items _ was done stood.progress.are) in
+    let are = subst (λ (k : Configuration). AreItemsOf k (inner_bits k (given ++ octets) there.blocks)
+    (due k (inner_bits k (given ++ octets) there.blocks)) there.progress.items)
+    same there.progress.searched.are_items in
+    let whole = subst (λ (l : List Bool). AreItemsOf c l (due c l) (was ++ items_of more)) is
+    (subst (AreItemsOf c (inner_bits c (given ++ octets) there.blocks) (due c (inner_bits c (given ++ octets) there.blocks)))
+    all are) in
     let waits = on.1 ++ map Item there.waiting in
     let due_all = subst (λ (k : Configuration). AreHandedDue k (given ++ octets)
-    (there.handed ++ map Item there.waiting)) same there.are_due in
+    (with_phase now.inner.chosen there.blocks ++ map Item there.waiting)) same there.are_due in
     let due_on = subst (AreHandedDue c (given ++ octets)) (ap (λ l. l ++ map Item there.waiting) on.2
-    ∙ append_assoc stood.handed on.1 (map Item there.waiting)) due_all in
+    ∙ append_assoc handed on.1 (map Item there.waiting)) due_all in
     let kept : length (kept_bits further) ≤ length (kept_bits (items_of waits)) =
     omega (
       arith,
@@ -199,33 +203,36 @@ stages-few s now given octets done more ok same stood on =
     (omega (
       arith,
       kept,
-      waiting-more-few c given octets stood.handed stood.waiting waits stood.are_due due_on,
+      waiting-more-few c given octets handed stood.waiting waits stood.are_due due_on,
       stood.few,
       needed-few c.inner c,
     )) in
     let within : length (due c (bits ++ piece)) ≤ length (places_in c (bits ++ piece)) =
     omega (arith, length-due c (bits ++ piece), batches-le c.batch (length (places_in c (bits ++ piece)))) in
-    items-few c bits piece stood.items (items_of more) (due c (bits ++ piece))
-    (length octets) ok stood.are_items whole within few
+    items-few c bits piece was (items_of more) (due c (bits ++ piece)) (length octets) ok stood.progress.searched.are_items
+    whole within few
 
 -- at the end, where these are the blocks after those that were handed over
-pub ends-few : (s : Stages) (given : List ℕ) (done : List (Handed ItemValue)) (last : List (Handed WindowBlock))
-    (left : ℕ) (items : List ItemValue) → IsAccepted s.inner.config → (stood : StagesFor s given done)
-    → AreHanded s.inner.config given (stood.handed ++ last) left
-    → AreItems s.inner.config (inner_bits s.inner.config given (items_of (stood.handed ++ last))) (stood.items ++ items)
+pub ends-few : (s : Stages) (given : List ℕ) (done : List (Handed ItemValue)) (chosen : Option Chosen)
+    (next : List WindowBlock) (last : List (Handed WindowBlock)) (left : ℕ) (items : List ItemValue)
+    → IsAccepted s.inner.config → (stood : StagesFor s given done) → IsChosen s.inner.config given chosen
+    → AreInnerBlocks s.inner.config (skip_of chosen) given (stood.blocks ++ next) left
+    → with_phase chosen (stood.blocks ++ next) ≡ with_phase s.inner.chosen stood.blocks ++ last → items_of last ≡ next
+    → AreItems s.inner.config (inner_bits s.inner.config given (stood.blocks ++ next)) (stood.progress.items ++ items)
     → AreFew s.inner.config 0 items
-ends-few s given done last left items ok stood are all =
+ends-few s given done chosen next last left items ok stood choice blocks are is_next all =
     let c = s.inner.config in
-    let bits = inner_bits c given (items_of stood.handed) in
-    let piece = all_bits (items_of last) in
-    let is = bits-last c given stood.handed last left are in
-    let few = last-few c.inner c given (items_of stood.handed) (items_of last) piece
-    (ap (inner_bits c given) (sym (items_of-append stood.handed last)) ∙ is)
+    let bits = inner_bits c given stood.blocks in
+    let piece = all_bits next in
+    let is = last-at c.inner c (skip_of chosen) given stood.blocks next left blocks in
+    let few = last-few c.inner c given stood.blocks next piece is
     (omega (
       arith,
-      waiting-last-few c given stood.handed stood.waiting last left stood.are_due are,
+      waiting-last-few c given (with_phase s.inner.chosen stood.blocks) stood.waiting last left stood.are_due
+          (record { chosen = chosen; choice = choice; items = stood.blocks ++ next; are_items = blocks; are = sym are }),
+      ap (λ (l : List WindowBlock). length (kept_bits l)) is_next,
       stood.few,
       needed-few c.inner c,
     )) in
-    items-few c bits piece stood.items items (places_in c (bits ++ piece)) 0 ok stood.are_items
-    (subst (λ (l : List Bool). AreItems c l (stood.items ++ items)) is all) (omega arith) few
+    items-few c bits piece stood.progress.items items (places_in c (bits ++ piece)) 0 ok stood.progress.searched.are_items
+    (subst (λ (l : List Bool). AreItems c l (stood.progress.items ++ items)) is all) (omega arith) few

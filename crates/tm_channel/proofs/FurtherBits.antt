@@ -1,16 +1,13 @@
 -- The bits of received octets and of the blocks of these, and those that further ones add.
-use Rattle.std.proofs.Common.{◌≡◌, ◌-◌, ℕ, Bool, true, false, List, ◌++◌, length, drop, refl, sym, ap, ◌∙◌, subst, arith, Option, Some, None}
-use Rattle.std.specs.Option.{is_some}
+use Rattle.std.proofs.Common.{◌≡◌, ◌-◌, ℕ, Bool, List, ◌++◌, length, drop, sym, ap, ◌∙◌, arith, Option, Some, None}
 use Rattle.std.proofs.lemmas.List.{append-nil}
 use Rattle.tm_base.specs.Handed.{Handed, items_of}
-use Rattle.tm_base.proofs.HandedItems.{items_of-append}
 use Rattle.tm_config.specs.Configuration.{Configuration}
 use Rattle.tm_conv.specs.declared.rates.Rate.{Rate}
 use Rattle.tm_viterbi.specs.WindowBlock.{WindowBlock}
 use Rattle.tm_windows.specs.declared.choosing.Chosen.{Chosen}
-use Rattle.tm_inner.specs.Inner.{BlocksAt, plain_bits, plain_count, bits_at, AreInnerBlocks, inner_bits}
-use Rattle.tm_inner.specs.Phase.{skip_of, with_phase}
-use Rattle.tm_inner.specs.Handing.{AreHanded}
+use Rattle.tm_inner.specs.Inner.{BlocksAt, plain_bits, plain_count, bits_at}
+use Rattle.tm_inner.specs.Phase.{with_phase}
 use Rattle.tm_inner.proofs.DueBits.{drop-split}
 use Rattle.tm_inner.proofs.PlainBits.{length-plain, plain-append}
 use Rattle.tm_inner.proofs.PhasePieces.{items_of-with_phase}
@@ -23,16 +20,6 @@ abbrev pub bits_found : Configuration → Option Rate → ℕ → List WindowBlo
 bits_found c None skip more octets = drop skip (plain_bits c octets)
 bits_found c (Some rate) skip more octets = all_bits more
 
-pub found-some : (c : Configuration) (rate : Option Rate) (skip : ℕ) (more : List WindowBlock) (octets : List ℕ)
-    → is_some rate ≡ true → bits_found c rate skip more octets ≡ all_bits more
-found-some c None skip more octets is = absurd cc
-found-some c (Some rate) skip more octets is = refl
-
-pub found-none : (c : Configuration) (rate : Option Rate) (skip : ℕ) (more : List WindowBlock) (octets : List ℕ)
-    → is_some rate ≡ false → bits_found c rate skip more octets ≡ drop skip (plain_bits c octets)
-found-none c None skip more octets is = refl
-found-none c (Some rate) skip more octets is = absurd cc
-
 pub further-at : (rate : Option Rate) (c : Configuration) (given octets : List ℕ) (blocks more : List WindowBlock)
     (skip : ℕ) → skip ≡ c.skip - plain_count c (length given)
     → bits_at rate c (given ++ octets) (blocks ++ more)
@@ -44,7 +31,7 @@ further-at None c given octets blocks more skip is =
 further-at (Some rate) c given octets blocks more skip is = all_bits-append blocks more
 
 -- the last blocks
-last-at : (rate : Option Rate) (c : Configuration) (phase : ℕ) (given : List ℕ) (blocks last : List WindowBlock)
+pub last-at : (rate : Option Rate) (c : Configuration) (phase : ℕ) (given : List ℕ) (blocks last : List WindowBlock)
     (left : ℕ) → BlocksAt rate c phase given (blocks ++ last) left
     → bits_at rate c given (blocks ++ last) ≡ bits_at rate c given blocks ++ all_bits last
 last-at None c phase given blocks last left are =
@@ -57,13 +44,3 @@ last-at (Some rate) c phase given blocks last left are = all_bits-append blocks 
 pub phased-items : {I : Type 0} (chosen : Option Chosen) (items : List I) (handed : List (Handed I))
     → handed ≡ with_phase chosen items → items_of handed ≡ items
 phased-items chosen items handed are = ap items_of are ∙ items_of-with_phase chosen items
-
-pub bits-last : (c : Configuration) (given : List ℕ) (done last : List (Handed WindowBlock)) (left : ℕ)
-    → AreHanded c given (done ++ last) left
-    → inner_bits c given (items_of (done ++ last)) ≡ inner_bits c given (items_of done) ++ all_bits (items_of last)
-bits-last c given done last left h =
-    let blocks : h.items ≡ items_of done ++ items_of last = sym (phased-items h.chosen h.items (done ++ last) h.are)
-    ∙ items_of-append done last in
-    ap (inner_bits c given) (items_of-append done last)
-    ∙ last-at c.inner c (skip_of h.chosen) given (items_of done) (items_of last) left
-    (subst (λ (l : List WindowBlock). AreInnerBlocks c (skip_of h.chosen) given l left) blocks h.are_items)

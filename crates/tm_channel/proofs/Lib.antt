@@ -35,18 +35,17 @@ pub mod Pieces
 pub mod Between
 pub mod AllBits
 pub mod ReceivedPieces
-pub mod RunSymbols
+pub mod Searched
 pub mod Spare
 pub mod PhasedItems
 pub mod FurtherBits
 pub mod FirstStage
-pub mod StageSymbols
+pub mod Progress
 pub mod GivenOctets
-pub mod EndSymbols
 pub mod WatchedStages
-mod FewItems
+pub mod FewItems
+pub mod StagesEnd
 pub mod ColumnsRead
 pub mod Repaired
 pub mod ExpectedItems
 pub mod SoundItems
-mod PlainOctets

@@ -10,8 +10,8 @@ use Rattle.tm_inner.proofs.DueBits.{kept-append}
 use Rattle.tm_channel.specs.Items.{ItemValue, AreItemsOf}
 use Rattle.tm_channel.specs.Due.{due, due_count}
 use Rattle.tm_channel.specs.Receiving.{AreDue, GoesOn, Holds, HoldsMore}
-use Rattle.tm_channel.specs.OctetReceiving.{BitReceiving, BitReceiverStandsFor, Gathers, GathersMore, HasSymbols, Notes, Received, ReceivedAt, SaySymbols, Settles, SettlesSymbols, with_more}
-use Rattle.tm_channel.proofs.KeptSymbols.{stands-noted, symbols-stored, symbols-then}
+use Rattle.tm_channel.specs.OctetReceiving.{BitReceiving, BitReceiverStandsFor, Gathers, GathersMore, HasSymbols, Received, ReceivedAt, SaySymbols, Settles, SettlesSymbols, with_more}
+use Rattle.tm_channel.proofs.KeptSymbols.{symbols-stored, symbols-then}
 use Rattle.tm_channel.proofs.Holding.{holds-more}
 use Rattle.tm_channel.proofs.Pieces.{goes-then, due-then}
 
@@ -138,21 +138,6 @@ received_at-then took a b c taker middle now bits more p q = record {
   origins = q.origins ∙ p.origins;
   symbols = say-then a b c bits more p.received.items q.received.items p.received.stands p.symbols q.symbols;
 }
-
--- an origin was noted before
-unfoldable pub received-noted : {T : Type 0} (took : T → ItemValue → T → Type 0) (a b c : BitReceiving) (taker now : T)
-    (bits : List Bool) → Notes a b → Received took b c taker now bits → Received took a c taker now bits
-received-noted took a b c taker now bits notes p =
-    let same : b.batch.config ≡ a.batch.config = ap (λ (v : BitReceiving). v.batch.config) notes in
-    record {
-      config = p.config ∙ same;
-      stands = λ given few stood. p.stands given few (stands-noted a b given notes stood);
-      items = p.items;
-      handed = p.handed;
-      due = λ given done few stood. subst (λ (k : Configuration). AreItemsOf k given (due k given) done
-          → AreItemsOf k (given ++ bits) (due k (given ++ bits)) (done ++ p.items)) same
-          (p.due given done few (stands-noted a b given notes stood));
-    }
 
 -- ---- bits that are put into the room before they are searched
 

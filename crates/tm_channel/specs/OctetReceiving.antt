@@ -1,10 +1,11 @@
 -- What a receiver keeps, and for which octets, given so far, and which items, handed over so far,
 -- it stands.
-use Rattle.std.specs.Prelude.{◌≡◌, true, false, ◌==◌, ◌+◌, ◌-◌, ◌^◌, ◌<◌, ◌≤◌, ◌⊎◌, ℕ, Bool, List, [], ◌++◌, length, take, map, Option, Some, None}
+use Rattle.std.specs.Prelude.{◌≡◌, true, false, ◌==◌, ◌+◌, ◌-◌, ◌^◌, ◌<◌, ◌≤◌, ◌⊎◌, ℕ, Bool, if◌then◌else◌, List, [], ◌++◌, length, take, map, Option, Some, None}
 use Rattle.std.specs.Option.{is_some}
-use Rattle.tm_base.specs.Handed.{Handed, Item, items_of, on_handed}
+use Rattle.tm_base.specs.Handed.{Handed, Item, items_of}
 use Rattle.tm_base.specs.Takers.{HandedOver, HandedPart}
 use Rattle.tm_config.specs.Configuration.{Configuration}
+use Rattle.tm_config.specs.declared.values.Sought.TheVariants.{Given}
 use Rattle.tm_conv.specs.Path.{farthest_step}
 use Rattle.tm_conv.specs.declared.rates.Rate.{Rate}
 use Rattle.tm_sync.specs.declared.found.Found.{Found}
@@ -20,12 +21,11 @@ use Rattle.tm_inner.specs.Phase.{IsChosen, IsChosenSoFar, skip_of, with_phase}
 use Rattle.tm_inner.specs.SymbolPlaces.{symbol_at}
 use Rattle.tm_inner.specs.Handing.{AreHandedDue}
 use Rattle.tm_inner.specs.InnerDecoding.{HasFilled, HoldsMore as ClosesMore, InnerDecoderStandsFor, InnerDecoding, unread}
-use Rattle.tm_inner.specs.Receiving.{HasRead}
 use Rattle.tm_channel.specs.Items.{ItemValue, AreItemsOf}
 use Rattle.tm_channel.specs.Due.{due, due_count}
 use Rattle.tm_channel.specs.declared.bit_receiver.BitReceiver.{BitReceiver}
 use Rattle.tm_channel.specs.declared.totals.Totals.{Totals}
-use Rattle.tm_channel.specs.Handing.{phase_of, AreReceived, AreReceivedDue, AreReceivedFirst, AreReceivedPrefix}
+use Rattle.tm_channel.specs.Handing.{AreReceived, AreReceivedDue, AreReceivedFirst, AreReceivedPrefix}
 use Rattle.tm_channel.specs.Most.{AreFew}
 use Rattle.tm_channel.specs.Origins.{AreAt, AreSpaced, Noted, origin_at, place_symbol, symbol_by}
 use Rattle.tm_channel.specs.Receiving.{Batching, Stands, HoldsFound, HoldsMore, waiting_bits, GoesOn, AreDue, AreLast}
@@ -66,17 +66,37 @@ AreKnown (Some rate) c at count r = AreSpaced c.keep count r.origins.origins
     × ((n : ℕ) → r.finder.passed ≤ n → n < count
     → symbol_by (Some rate) c (origin_at r.origins.origins n) n ≡ at n)
 
--- the symbols of the bits of these blocks, so many, are known as far as they are to be
-pub record SymbolsFor (c : Configuration) (phase : ℕ) (blocks : List WindowBlock) (count : ℕ)
-    (r : BitReceiving) : Type 0 where
-  pub stored : AreAt (symbol_at c phase blocks) count r.batch.symbols
-  pub known : AreKnown c.inner c (symbol_at c phase blocks) count r
+-- A search was given these bits, whose symbols are these: the items that are due of them, and the
+-- codeblocks that are stored, say theirs.
+pub record Searched (c : Configuration) (at : ℕ → ℕ) (bits : List Bool) (r : BitReceiving)
+    (items : List ItemValue) : Type 0 where
+  pub stands : BitReceiverStandsFor r bits
+  pub are_items : AreItemsOf c bits (due c bits) items
+  pub stored : AreAt at (length bits) r.batch.symbols
+  pub said : AreAt at (length bits) (map place_symbol items)
 
 -- what contracts see of both stages of a receiver: the inner code, and the search for codeblocks in
 -- its bits
 pub record Stages : Type 0 where
   pub inner : InnerDecoding
   pub bits : BitReceiving
+
+-- Stages of a configuration that were given these octets and no others, fewer than 2^60, and have
+-- handed over this: the first stage has decoded these blocks, and then the ready ones. Of the blocks
+-- before those, or with no inner code of the octets that were taken, the bits were searched, and the
+-- items that are due of them handed over, after the phase, once it was read.
+pub record Progress (c : Configuration) (s : Stages) (given taken : List ℕ)
+    (blocks ready : List WindowBlock) (done : List (Handed ItemValue)) : Type 0 where
+  pub of : (s.inner.config ≡ c) × (s.bits.batch.config ≡ c)
+  pub inner : InnerDecoderStandsFor s.inner given (blocks ++ ready)
+  pub items : List ItemValue
+  pub searched : Searched c (symbol_at c (skip_of s.inner.chosen) blocks)
+      (inner_bits c taken blocks) s.bits items
+  pub known : AreKnown c.inner c (symbol_at c (skip_of s.inner.chosen) blocks)
+      (length (inner_bits c taken blocks)) s.bits
+  pub read : s.inner.has_phase ≡ true → s.inner.chosen ≡ None → c.phase ≡ Given
+  pub first : s.inner.has_phase ≡ false → (c.phase ≡ Given) ⊎ (items ≡ [])
+  pub are : done ≡ with_phase (if s.inner.has_phase then s.inner.chosen else None) items
 
 -- Stages that were given these octets and no others, fewer than 2^60, before the end of the octets,
 -- and have handed over this: of the blocks that are due some may wait in the first stage, whose
@@ -85,30 +105,22 @@ pub record Stages : Type 0 where
 pub record StagesFor (s : Stages) (given : List ℕ) (done : List (Handed ItemValue)) : Type 0 where
   pub going : s.inner.has_ended ≡ false
   pub all : unread s.inner ≡ None
-  pub handed : List (Handed WindowBlock)
-  pub inner : HasRead s.inner given handed
   pub so_far : IsChosenSoFar s.inner.config given s.inner.chosen
+  pub blocks : List WindowBlock
+  pub progress : Progress s.inner.config s given given blocks [] done
   pub waiting : List WindowBlock
-  pub are_due : AreHandedDue s.inner.config given (handed ++ map Item waiting)
+  pub are_due : AreHandedDue s.inner.config given
+      (with_phase s.inner.chosen blocks ++ map Item waiting)
   pub few : length (kept_bits waiting) ≤ waiting_bits s.inner.config s.inner.config.batch
-  pub none_due : due s.inner.config (inner_bits s.inner.config given (items_of handed ++ waiting))
-      ≡ due s.inner.config (inner_bits s.inner.config given (items_of handed))
-  pub bits : BitReceiverStandsFor s.bits (inner_bits s.inner.config given (items_of handed))
-  pub items : List ItemValue
-  pub are_items : AreItemsOf s.inner.config (inner_bits s.inner.config given (items_of handed))
-      (due s.inner.config (inner_bits s.inner.config given (items_of handed))) items
-  pub symbols : SymbolsFor s.inner.config (skip_of s.inner.chosen) (items_of handed)
-      (length (inner_bits s.inner.config given (items_of handed))) s.bits
-  pub are_at : AreAt (symbol_at s.inner.config (skip_of s.inner.chosen) (items_of handed))
-      (length (inner_bits s.inner.config given (items_of handed))) (map place_symbol items)
-  pub are : done ≡ with_phase (phase_of handed) items
+  pub none_due : due s.inner.config (inner_bits s.inner.config given (blocks ++ waiting))
+      ≡ due s.inner.config (inner_bits s.inner.config given blocks)
 
 -- stages that were given these octets and have handed over this, whose first stage has handed over
--- more after these blocks
+-- more after the phase and blocks of before
 abbrev pub StagesOn : Stages → List ℕ → List (Handed ItemValue) → List (Handed WindowBlock)
     → Type 0
-StagesOn s given done blocks = (stands : StagesFor s given done)
-    × (more : List (Handed WindowBlock)) × (stands.handed ≡ blocks ++ more)
+StagesOn s given done before = (stands : StagesFor s given done)
+    × (more : List (Handed WindowBlock)) × (with_phase s.inner.chosen stands.blocks ≡ before ++ more)
 
 -- given the octets, fewer than 2^60 with those before, both stages go on and hand over more
 pub record StagesHand {T : Type 0} (took : T → Handed ItemValue → T → Type 0) (before now : Stages)
@@ -118,7 +130,8 @@ pub record StagesHand {T : Type 0} (took : T → Handed ItemValue → T → Type
   pub stands : (given : List ℕ) (done : List (Handed ItemValue))
       → length given + length octets < stream_bound
       → (stood : StagesFor before given done)
-      → StagesOn now (given ++ octets) (done ++ more) stood.handed
+      → StagesOn now (given ++ octets) (done ++ more)
+      (with_phase before.inner.chosen stood.blocks)
 
 -- what contracts see of a receiver
 pub record OctetReceiving : Type 0 where
@@ -139,7 +152,7 @@ ReceiverStandsFor r = StagesFor r.stages
 abbrev pub AreSlipsSoFar : Configuration → (given : List ℕ) → (done : List (Handed ItemValue)) → ℕ
     → Type 0
 AreSlipsSoFar c given done slips = (s : Stages) × (s.inner.config ≡ c)
-    × (stands : StagesFor s given done) × (slips ≡ slips_of (items_of stands.handed))
+    × (stands : StagesFor s given done) × (slips ≡ slips_of stands.blocks)
 
 -- ---- what a call of a receiver hands over
 
@@ -281,16 +294,16 @@ Notes before now = now ≡ record before { origins = now.origins }
 
 -- With this origin, that of the bits from the next on, the symbols of all bits are known that are not
 -- passed, where they are so many bits before.
-abbrev pub NotesOrigin : BitReceiving → BitReceiving → (rate : Rate) → (origin : ℕ) → Type 0
-NotesOrigin before now rate origin = (bits : List Bool) (at then : ℕ → ℕ)
+abbrev pub NotesOrigin : Configuration → BitReceiving → BitReceiving → (rate : Rate) → (origin : ℕ)
+    → Type 0
+NotesOrigin c before now rate origin = (bits : List Bool) (at after : ℕ → ℕ)
     → length bits < bits_bound → BitReceiverStandsFor before bits
-    → AreKnown (Some rate) before.batch.config at (length bits) before
-    → ((n : ℕ) → n < length bits → then n ≡ at n)
-    → ((n : ℕ) → length bits ≤ n → then n ≡ symbol_by (Some rate) before.batch.config origin n)
+    → AreKnown (Some rate) c at (length bits) before
+    → ((n : ℕ) → n < length bits → after n ≡ at n)
+    → ((n : ℕ) → length bits ≤ n → after n ≡ symbol_by (Some rate) c origin n)
     → ((n : ℕ) → before.finder.passed ≤ n
-    → symbol_by (Some rate) before.batch.config (origin_at now.origins.origins n) n ≡ then n)
-    × ((to : ℕ) → length bits + before.batch.config.keep ≤ to
-    → AreSpaced before.batch.config.keep to now.origins.origins)
+    → symbol_by (Some rate) c (origin_at now.origins.origins n) n ≡ after n)
+    × ((to : ℕ) → length bits + c.keep ≤ to → AreSpaced c.keep to now.origins.origins)
 
 -- the items that were not due before the end of the bits was known were handed over
 pub record ReceivedLast {T : Type 0} (took : T → ItemValue → T → Type 0) (before : BitReceiving)
@@ -329,41 +342,21 @@ MayNotWait before octets spare = (now : InnerDecoding) × (count : ℕ)
     × HasFilled now.queue (length octets - count)
     × ((count < length octets) ⊎ ClosesMore now.queue spare)
 
--- From `before` on the first stage has read and decoded this, the phase before all blocks; before
--- the end of the octets its phase is the one chosen so far.
-pub record Decodes (before now : InnerDecoding) (more : List (Handed WindowBlock)) : Type 0 where
-  pub config : now.config ≡ before.config
-  pub ended : now.has_ended ≡ before.has_ended
-  pub kept : (chosen : Chosen) → before.chosen ≡ Some chosen → now.chosen ≡ Some chosen
-  pub on : (given : List ℕ) (done : List (Handed WindowBlock)) → HasRead before given done
-      → HasRead now given (done ++ more) × (unread now ≡ None)
-      × (before.has_ended ≡ false → IsChosenSoFar now.config given now.chosen)
+-- blocks were decoded, the bits of all but the ready ones searched, and this was handed over
+pub record Decodes (c : Configuration) (before now : Stages) (given taken : List ℕ)
+    (blocks ready : List WindowBlock) (done : List (Handed ItemValue)) : Type 0 where
+  pub next : List WindowBlock
+  pub progress : Progress c now given taken (blocks ++ next) ready done
+  pub all : unread now.inner ≡ None
+  pub so_far : before.inner.has_ended ≡ false → IsChosenSoFar c given now.inner.chosen
 
--- Whatever octets were put in, and blocks decoded, before: the symbols of these blocks are known too,
--- and these items say theirs.
-abbrev pub DecodesSymbols : Stages → Stages → List WindowBlock → List ItemValue → Type 0
-DecodesSymbols before now blocks items = (given : List ℕ) (done : List WindowBlock)
-    → InnerDecoderStandsFor before.inner given done → is_some before.inner.config.inner ≡ true
-    → before.bits.batch.config ≡ before.inner.config
-    → BitReceiverStandsFor before.bits (bits_of_blocks done)
-    → SymbolsFor before.inner.config (skip_of before.inner.chosen) done
-    (length (bits_of_blocks done)) before.bits
-    → SymbolsFor before.inner.config (skip_of now.inner.chosen) (done ++ blocks)
-    (length (bits_of_blocks (done ++ blocks))) now.bits
-    × AreAt (symbol_at before.inner.config (skip_of now.inner.chosen) (done ++ blocks))
-    (length (bits_of_blocks (done ++ blocks))) (map place_symbol items)
-
--- the phase that it has read went to the taker, and the bits of the blocks to the search
-pub record Decoded {T : Type 0} (took_phase : T → ℕ → ℕ → T → Type 0)
-    (took : T → ItemValue → T → Type 0) (before now : Stages) (taker taker_now : T)
-    : Type 0 where
-  pub phase : Option Chosen
-  pub blocks : List WindowBlock
-  pub decodes : Decodes before.inner now.inner (with_phase phase [] ++ map Item blocks)
-  pub middle : T
-  pub phased : HandedOver (on_handed {I = ItemValue} took_phase took) taker (with_phase phase [])
-      middle
-  pub received : Received took before.bits now.bits middle taker_now (bits_of_blocks blocks)
-  pub symbols : DecodesSymbols before now blocks received.items
-  pub plain : before.bits.batch.config.inner ≡ None
-      → SaySymbols before.bits now.bits (bits_of_blocks blocks) received.items
+-- whatever was put in and handed over before, no block was ready then; a phase once chosen stays
+pub record Decoded {T : Type 0} (took : T → Handed ItemValue → T → Type 0) (before now : Stages)
+    (taker taker_now : T) (ready : List WindowBlock) : Type 0 where
+  pub ended : now.inner.has_ended ≡ before.inner.has_ended
+  pub stays : (chosen : Chosen) → before.inner.chosen ≡ Some chosen → now.inner.chosen ≡ Some chosen
+  pub more : List (Handed ItemValue)
+  pub handed : HandedOver took taker more taker_now
+  pub decodes : (c : Configuration) (given taken : List ℕ) (blocks : List WindowBlock)
+      (done : List (Handed ItemValue)) → Progress c before given taken blocks [] done
+      → Decodes c before now given taken blocks ready (done ++ more)

@@ -78,7 +78,7 @@ impl BitStream {
     /// Notes how many of the octets that were given are of no step before the next bit.
     pub fn note(&mut self, origin: u64)
         ensures same { Notes self.old self.new }
-        ensures noted { (rate : Rate) → NotesOrigin self.old self.new rate origin }
+        ensures noted { (rate : Rate) → NotesOrigin self.old.batch.config self.old self.new rate origin }
     {
         let first = self.receiver.count();
         self.origins.note(first, origin);

@@ -39,7 +39,6 @@ pub fn take<C: ReceiverCrew, W: WindowWatch, T: ItemWatch>(
     taker: &mut T,
 )
     requires crew { C.is_ready crew.now × C.can_decode crew.now }
-    requires of { stream.old.batch.config ≡ inner.old.config }
     requires accepted { IsAccepted inner.old.config }
     ensures inner { inner.new.config ≡ inner.old.config }
     ensures stream { stream.new.batch.config ≡ stream.old.batch.config }
@@ -100,8 +99,8 @@ fn take_decoded<C: ReceiverCrew, W: WindowWatch, T: ItemWatch>(
     ensures settled { IsSettledQueue inner.old.queue → IsSettledQueue inner.new.queue }
     ensures drained { IsDrained inner.new.queue }
     ensures watched { Hands W.took AreTold inner.old inner.new watch.old watch.new [] }
-    ensures decoded { Decoded T.took_phase T.took (record { inner = inner.old; bits = stream.old })
-        (record { inner = inner.new; bits = stream.new }) taker.old taker.new }
+    ensures decoded { Decoded (on_handed T.took_phase T.took) (record { inner = inner.old; bits = stream.old })
+        (record { inner = inner.new; bits = stream.new }) taker.old taker.new [] }
 {
     let mut count = inner.decode(crew);
     hand_phase(inner, taker);
@@ -122,7 +121,6 @@ pub fn end<C: ReceiverCrew, W: WindowWatch, T: ItemWatch>(
     taker: &mut T,
 ) -> Totals
     requires crew { C.is_ready crew.now × C.can_decode crew.now }
-    requires of { stream.old.batch.config ≡ inner.old.config }
     requires accepted { IsAccepted inner.old.config }
     ensures of { (inner.new.config ≡ inner.old.config) × (stream.new.batch.config ≡ stream.old.batch.config) }
     ensures handed { (last : List (Handed ItemValue))
@@ -163,7 +161,6 @@ fn take_plain<C: ReceiverCrew, W: WindowWatch, T: ItemWatch>(
     taker: &mut T,
 )
     requires crew { C.is_ready crew.now × C.can_decode crew.now }
-    requires of { stream.old.batch.config ≡ inner.old.config }
     requires plain { is_some inner.old.config.inner ≡ false }
     ensures inner { inner.new.config ≡ inner.old.config }
     ensures stream { stream.new.batch.config ≡ stream.old.batch.config }
@@ -190,7 +187,6 @@ fn take_piece<C: ReceiverCrew, W: WindowWatch, T: ItemWatch>(
     taker: &mut T,
 )
     requires crew { C.is_ready crew.now × C.can_decode crew.now }
-    requires of { stream.old.batch.config ≡ inner.old.config }
     requires plain { is_some inner.old.config.inner ≡ false }
     requires most { length octets.now ≤ piece_size }
     ensures inner { inner.new.config ≡ inner.old.config }

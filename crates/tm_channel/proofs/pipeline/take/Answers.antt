@@ -12,42 +12,35 @@ use Rattle.tm_inner.proofs.DecodedWindows.{decoded-drained}
 use Rattle.tm_inner.proofs.GivenPieces.{hands-more}
 use Rattle.tm_channel.specs.OctetReceiving.{BitReceiving, MayNotWait, Stages, StagesHand, spare_bits}
 use Rattle.tm_channel.proofs.FirstStage.{Fills, fills-of}
-use Rattle.tm_channel.proofs.GivenOctets.{holds-due, holds-wait, stages-none}
+use Rattle.tm_channel.proofs.GivenOctets.{Filled, filled-decoded, filled-due, filled-more, filled-none, filled-wait}
 use Rattle.tm_channel.proofs.WatchedStages.{decoded-plain, decoded-waits, watched-filled, watched-then}
 use Rattle.tm_channel.proofs.pipeline.take.Goals as goal
 
 pub loop-done-init : goal.loop-done-init
 loop-done-init g c =
+    let took = on_handed g.T.ItemWatch.took_phase g.T.ItemWatch.took in
     let inner = c.args.inner.now in
     let octets = c.args.octets.now in
     let e = c.fill-done.ensures in
     let fills = fills-of inner c.fill-done.new.self octets c.fill-done.result
     (record { config = e.config; phase = e.phase.0; stays = e.settled }) e.phase.1 e.coded e.most e.stands in
+    let start : Stages = record { inner = inner; bits = c.args.stream.now } in
     record {
       grows = omega arith;
       first = inr (refl, refl, refl);
       within = e.most;
       inner = e.config;
       stream = refl;
-      holds = record {
-        inner = inner;
-        config = refl;
-        of = c.requires.of;
-        first = [];
-        hands = stages-none (on_handed g.T.ItemWatch.took_phase g.T.ItemWatch.took)
-            (record { inner = inner; bits = c.args.stream.now }) c.args.taker.now;
-        piece = take c.fill-done.result octets;
-        fills = fills;
-        all = refl;
-      };
-      ended = e.phase.1;
+      filled = filled-more took start start c.fill-done.new.self c.args.taker.now c.args.taker.now []
+          (take c.fill-done.result octets) (sym c.has_inner_code.ensures ∙ c.if-not-has_inner_code.false) fills
+          (filled-none took start c.args.taker.now);
       told = watched-filled g.W.WindowWatch.took inner c.fill-done.new.self c.args.watch.now
           (take c.fill-done.result octets) fills;
     }
 
 pub loop-done-preserved : goal.loop-done-preserved
 loop-done-preserved g c =
-    let t = g.T.ItemWatch in
+    let took = on_handed g.T.ItemWatch.took_phase g.T.ItemWatch.took in
     let i = c.loop-done.invariant in
     let done = c.loop-done.done in
     let octets = c.args.octets.now in
@@ -55,43 +48,33 @@ loop-done-preserved g c =
     let f = c.fill-done-in-loop-done in
     let e = f.ensures in
     let start : Stages = record { inner = c.args.inner.now; bits = c.args.stream.now } in
+    let before : Stages = record { inner = c.loop-done.inner; bits = c.loop-done.stream } in
     let next : Stages = record { inner = d.new.inner; bits = d.new.stream } in
-    let coded : is_some c.args.inner.now.config.inner ≡ true =
-    sym c.has_inner_code.ensures ∙ c.if-not-has_inner_code.false in
     let rest : take (length octets - done) (drop done octets) ≡ drop done octets = take_rest octets done in
     let fills = subst (λ (l : List ℕ). Fills d.new.inner f.new.self (take f.result l)) rest
     (fills-of d.new.inner f.new.self (take (length octets - done) (drop done octets)) f.result
     (record { config = e.config; phase = e.phase.0; stays = e.settled }) e.phase.1 e.coded e.most e.stands) in
-    let ended = d.ensures.decoded.decodes.ended ∙ i.ended in
+    let filled = filled-decoded took start before next c.args.taker.now c.loop-done.taker d.new.taker (take done octets)
+    i.filled d.ensures.decoded in
     let watched = g.W.WindowWatch.took in
+    let all = sym (take-add done f.result octets) in
     record {
       grows = omega (arith, i.grows);
       first = inl (omega (arith, i.grows, c.loop-done-test.true));
       within = omega (arith, e.most, i.within);
       inner = e.config ∙ d.ensures.of.0 ∙ i.inner;
       stream = d.ensures.of.1 ∙ i.stream;
-      holds = record {
-        inner = d.new.inner;
-        config = d.ensures.of.0 ∙ i.inner;
-        of = d.ensures.of.1 ∙ i.stream ∙ c.requires.of ∙ sym (d.ensures.of.0 ∙ i.inner);
-        first = take done octets;
-        hands = holds-due t.took_phase t.took start c.loop-done.inner c.loop-done.stream next c.args.taker.now
-            c.loop-done.taker d.new.taker (take done octets) coded i.holds d.ensures.decoded
-            d.ensures.drained;
-        piece = take f.result (drop done octets);
-        fills = fills;
-        all = sym (take-add done f.result octets);
-      };
-      ended = e.phase.1 ∙ ended;
+      filled = subst (Filled took start (record { inner = f.new.self; bits = d.new.stream }) c.args.taker.now d.new.taker) all
+          (filled-more took start next f.new.self c.args.taker.now d.new.taker (take done octets)
+          (take f.result (drop done octets)) (sym c.has_inner_code.ensures ∙ c.if-not-has_inner_code.false) fills filled);
       told = λ going.
-          subst (Hands watched AreTold c.args.inner.now f.new.self c.args.watch.now d.new.watch)
-          (sym (take-add done f.result octets))
+          subst (Hands watched AreTold c.args.inner.now f.new.self c.args.watch.now d.new.watch) all
           (hands-more watched AreTold c.args.inner.now d.new.inner f.new.self c.args.watch.now d.new.watch d.new.watch
           (take done octets) (take f.result (drop done octets))
           (watched-then watched c.args.inner.now c.loop-done.inner d.new.inner c.args.watch.now c.loop-done.watch
           d.new.watch (take done octets) (i.told going) d.ensures.watched)
           (watched-filled watched d.new.inner f.new.self d.new.watch (take f.result (drop done octets)) fills
-          (ended ∙ going)));
+          (filled.ended ∙ going)));
     }
 
 pub returns-then-may_wait-clause-handed : goal.returns-then-may_wait-clause-handed
@@ -101,10 +84,9 @@ returns-then-may_wait-clause-handed g c =
     let now : Stages = record { inner = c.loop-done.inner; bits = c.loop-done.stream } in
     subst (StagesHand took start now c.args.taker.now c.loop-done.taker)
     (take_all c.loop-done.done c.args.octets.now c.loop-done-test.false)
-    (holds-wait took start c.loop-done.inner c.loop-done.stream c.args.taker.now c.loop-done.taker
-    (take c.loop-done.done c.args.octets.now) c.spare_bits.result
-    (sym c.has_inner_code.ensures ∙ c.if-not-has_inner_code.false) c.loop-done.invariant.holds
-    c.spare_bits.ensures.value c.spare_bits.ensures.most (c.may_wait.ensures.waits c.if-may_wait.true))
+    (filled-wait took start now c.args.taker.now c.loop-done.taker (take c.loop-done.done c.args.octets.now)
+    c.spare_bits.result c.loop-done.invariant.filled c.spare_bits.ensures.value c.spare_bits.ensures.most
+    (c.may_wait.ensures.waits c.if-may_wait.true))
 
 -- nothing was decoded, or not all octets were put in at first
 pub returns-then-may_wait-clause-waits : goal.returns-then-may_wait-clause-waits
@@ -139,16 +121,15 @@ returns-clause-waits g c = λ _.
 
 pub returns-clause-handed : goal.returns-clause-handed
 returns-clause-handed g c =
-    let t = g.T.ItemWatch in
+    let took = on_handed g.T.ItemWatch.took_phase g.T.ItemWatch.took in
     let d = c.take_decoded-2 in
     let start : Stages = record { inner = c.args.inner.now; bits = c.args.stream.now } in
+    let before : Stages = record { inner = c.loop-done.inner; bits = c.loop-done.stream } in
     let next : Stages = record { inner = d.new.inner; bits = d.new.stream } in
-    subst (StagesHand (on_handed t.took_phase t.took) start next c.args.taker.now d.new.taker)
+    subst (StagesHand took start next c.args.taker.now d.new.taker)
     (take_all c.loop-done.done c.args.octets.now c.loop-done-test.false)
-    (holds-due t.took_phase t.took start c.loop-done.inner c.loop-done.stream next c.args.taker.now
-    c.loop-done.taker d.new.taker (take c.loop-done.done c.args.octets.now)
-    (sym c.has_inner_code.ensures ∙ c.if-not-has_inner_code.false) c.loop-done.invariant.holds d.ensures.decoded
-    d.ensures.drained)
+    (filled-due took start before next c.args.taker.now c.loop-done.taker d.new.taker
+    (take c.loop-done.done c.args.octets.now) c.loop-done.invariant.filled d.ensures.decoded d.ensures.drained)
 
 -- ---- what the watch was told
 

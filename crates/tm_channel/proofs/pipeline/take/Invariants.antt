@@ -2,7 +2,7 @@ use Rattle.std.proofs.Common.{◌≡◌, ◌⊎◌, ◌<◌, ◌≤◌, ◌-◌,
 use Rattle.tm_base.specs.Handed.{on_handed}
 use Rattle.tm_inner.specs.InnerWindows.{AreTold}
 use Rattle.tm_inner.specs.Receiving.{Hands}
-use Rattle.tm_channel.proofs.GivenOctets.{Holds}
+use Rattle.tm_channel.proofs.GivenOctets.{Filled}
 use Rattle.tm_channel.proofs.pipeline.take.Given as goal
 
 abbrev pub invariant-loop-done : goal.invariant-loop-done
@@ -13,10 +13,9 @@ invariant-loop-done g l = record {
   within : l.done ≤ length l.octets;
   inner : l.inner.config ≡ l.fn.inner.config;
   stream : l.stream.batch.config ≡ l.fn.stream.batch.config;
-  holds : Holds (on_handed g.T.ItemWatch.took_phase g.T.ItemWatch.took)
-      (record { inner = l.fn.inner; bits = l.fn.stream }) l.inner l.stream l.fn.taker l.taker
-      (take l.done l.octets);
-  ended : l.inner.has_ended ≡ l.fn.inner.has_ended;
+  filled : Filled (on_handed g.T.ItemWatch.took_phase g.T.ItemWatch.took)
+      (record { inner = l.fn.inner; bits = l.fn.stream }) (record { inner = l.inner; bits = l.stream })
+      l.fn.taker l.taker (take l.done l.octets);
   told : l.fn.inner.has_ended ≡ false
       → Hands g.W.WindowWatch.took AreTold l.fn.inner l.inner l.fn.watch l.watch (take l.done l.octets);
 }

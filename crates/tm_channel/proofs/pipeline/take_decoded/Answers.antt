@@ -1,9 +1,13 @@
-use Rattle.std.proofs.Common.{◌∙◌, ◌++◌, [], length, arith, refl, ap, sym, subst}
+use Rattle.std.proofs.Common.{◌≡◌, ◌∙◌, ◌++◌, ◌∷◌, List, [], drop, length, arith, refl, ap, sym, subst}
+use Rattle.tm_base.specs.Handed.{on_handed}
+use Rattle.tm_viterbi.specs.WindowBlock.{WindowBlock}
+use Rattle.tm_windows.specs.Windows.{dropped_of}
 use Rattle.tm_inner.specs.InnerDecoding.{InnerDecoding, IsDrained, IsSettledQueue, held_in, ready_in}
 use Rattle.tm_inner.specs.InnerWindows.{AreThere, windows_in}
 use Rattle.tm_inner.proofs.ToldWindows.{ToldBut, told-all, told-next, told-read, told-run}
-use Rattle.tm_channel.specs.OctetReceiving.{BitReceiving, Stages}
-use Rattle.tm_channel.proofs.FirstStage.{Running, Runs, running-start, left-falls, running-more, running-none}
+use Rattle.tm_channel.specs.OctetReceiving.{BitReceiving, Decoded}
+use Rattle.tm_channel.proofs.FirstStage.{Runs, left-falls}
+use Rattle.tm_channel.proofs.Progress.{decoded-more, decoded-start}
 use Rattle.tm_channel.proofs.pipeline.take_decoded.Goals as goal
 
 pub loop-count-init : goal.loop-count-init
@@ -19,7 +23,6 @@ loop-count-init g c =
       stands = e.stands;
     } in
     let read = c.hand_phase.ensures.read in
-    let start : Stages = record { inner = c.args.inner.now; bits = c.args.stream.now } in
     let after : InnerDecoding = c.hand_phase.new.inner in
     record {
       config = ap (λ (k : InnerDecoding). k.config) read ∙ e.config;
@@ -37,12 +40,14 @@ loop-count-init g c =
                 (told-run c.args.inner.now now e.config e.settled (λ given blocks s. (e.stands given blocks s).0) e.windows
                 given done is);
           });
-      runs =
-          subst (λ (k : InnerDecoding). Running t.took_phase t.took start
-          (record { inner = after; bits = c.args.stream.now }) c.args.taker.now c.hand_phase.new.taker
-          (ready_in k.queue)) (sym read)
-          (running-start t.took_phase t.took c.args.inner.now now after c.args.stream.now c.args.taker.now
-          c.hand_phase.new.taker ready run read e.later c.hand_phase.ensures.handed);
+      later = ap (λ (k : InnerDecoding). dropped_of (drop 1 (ready_in k.queue))) read ∙ e.later;
+      decoded =
+          subst (λ (l : List WindowBlock). Decoded (on_handed t.took_phase t.took)
+          (record { inner = c.args.inner.now; bits = c.args.stream.now })
+          (record { inner = after; bits = c.args.stream.now }) c.args.taker.now c.hand_phase.new.taker l)
+          (ap (λ (k : InnerDecoding). ready_in k.queue) (sym read))
+          (decoded-start (on_handed t.took_phase t.took) c.args.inner.now now after c.args.stream.now c.args.taker.now
+          c.hand_phase.new.taker ready run read c.hand_phase.ensures.handed);
     }
 
 pub loop-count-smaller : goal.loop-count-smaller
@@ -75,12 +80,13 @@ loop-count-preserved g c =
       told = told-next g.W.WindowWatch.took c.args.inner.now before d.new.self c.args.watch.now c.loop-count.watch
           c.watch_ready.new.watch i.told c.watch_ready.ensures
           (told-run before d.new.self e.config e.settled (λ given blocks s. (e.stands given blocks s).0) e.windows);
-      runs = running-more t.took_phase t.took (record { inner = c.args.inner.now; bits = c.args.stream.now })
+      later = e.later;
+      decoded = decoded-more t.took_phase t.took (record { inner = c.args.inner.now; bits = c.args.stream.now })
           (record { inner = before; bits = c.loop-count.stream }) d.new.self c.note.new.self c.receive_ready.new.self
-          c.origin.result c.args.taker.now c.loop-count.taker c.receive_ready.new.taker ready next i.runs
-          (omega (arith, c.loop-count-test.true, i.count))
+          c.origin.result c.args.taker.now c.loop-count.taker c.receive_ready.new.taker ready next i.decoded
+          (omega (arith, c.loop-count-test.true, i.count)) i.later
           (c.note.ensures.same, c.note.ensures.noted, c.origin.ensures.value, c.origin.ensures.few)
-          c.receive_ready.ensures.handed run e.later;
+          c.receive_ready.ensures.handed run;
     }
 
 pub returns-clause-of : goal.returns-clause-of
@@ -89,14 +95,17 @@ returns-clause-of g c = (c.loop-count.invariant.config, c.loop-count.invariant.s
 pub returns-clause-drained : goal.returns-clause-drained
 returns-clause-drained g c = c.loop-count.invariant.drained (omega (arith, c.loop-count-test.false))
 
+none-ready : (ready : List WindowBlock) → length ready ≡ 0 → ready ≡ []
+none-ready [] none = refl
+none-ready (x ∷ ready) none = absurd cc
+
 pub returns-clause-decoded : goal.returns-clause-decoded
 returns-clause-decoded g c =
     let t = g.T.ItemWatch in
-    let start : Stages = record { inner = c.args.inner.now; bits = c.args.stream.now } in
-    let now : Stages = record { inner = c.loop-count.inner; bits = c.loop-count.stream } in
-    running-none t.took_phase t.took start now c.args.taker.now c.loop-count.taker
-    (ready_in c.loop-count.inner.queue) c.loop-count.invariant.runs
-    (omega (arith, c.loop-count-test.false, c.loop-count.invariant.count))
+    subst (Decoded (on_handed t.took_phase t.took) (record { inner = c.args.inner.now; bits = c.args.stream.now })
+    (record { inner = c.loop-count.inner; bits = c.loop-count.stream }) c.args.taker.now c.loop-count.taker)
+    (none-ready (ready_in c.loop-count.inner.queue) (omega (arith, c.loop-count-test.false, c.loop-count.invariant.count)))
+    c.loop-count.invariant.decoded
 
 pub returns-clause-watched : goal.returns-clause-watched
 returns-clause-watched g c =

@@ -1,8 +1,11 @@
-use Rattle.std.proofs.Common.{◌≡◌, length}
+use Rattle.std.proofs.Common.{◌≡◌, drop, length}
+use Rattle.tm_base.specs.Handed.{on_handed}
+use Rattle.tm_windows.specs.Windows.{dropped_of}
 use Rattle.tm_inner.specs.InnerDecoding.{IsDrained, IsSettledQueue, held_in, ready_in}
 use Rattle.tm_inner.specs.InnerWindows.{AreThere}
 use Rattle.tm_inner.proofs.ToldWindows.{ToldBut}
-use Rattle.tm_channel.proofs.FirstStage.{Running, left_for}
+use Rattle.tm_channel.specs.OctetReceiving.{Decoded}
+use Rattle.tm_channel.proofs.FirstStage.{left_for}
 use Rattle.tm_channel.proofs.pipeline.take_decoded.Given as goal
 
 abbrev pub invariant-loop-count : goal.invariant-loop-count
@@ -14,7 +17,8 @@ invariant-loop-count g l = record {
   drained : l.count ≡ 0 → IsDrained l.inner.queue;
   there : AreThere l.inner.queue;
   told : ToldBut g.W.WindowWatch.took l.fn.inner l.inner l.fn.watch l.watch;
-  runs : Running g.T.ItemWatch.took_phase g.T.ItemWatch.took
+  later : dropped_of (drop 1 (ready_in l.inner.queue)) ≡ 0;
+  decoded : Decoded (on_handed g.T.ItemWatch.took_phase g.T.ItemWatch.took)
       (record { inner = l.fn.inner; bits = l.fn.stream }) (record { inner = l.inner; bits = l.stream })
       l.fn.taker l.taker (ready_in l.inner.queue);
 }

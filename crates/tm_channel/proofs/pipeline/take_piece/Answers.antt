@@ -3,7 +3,8 @@ use Rattle.tm_config.specs.Configuration.{Configuration}
 use Rattle.tm_inner.specs.Inner.{plain_bits, plain_count}
 use Rattle.tm_inner.specs.InnerDecoding.{InnerDecoding}
 use Rattle.tm_channel.specs.OctetReceiving.{ReceivedAt}
-use Rattle.tm_channel.proofs.PlainOctets.{found_in, plain-fills, plain-hands}
+use Rattle.tm_channel.proofs.FirstStage.{plain-fills}
+use Rattle.tm_channel.proofs.GivenOctets.{found_in, plain-hands}
 use Rattle.tm_channel.proofs.WatchedStages.{watched-filled, watched-then}
 use Rattle.tm_channel.proofs.pipeline.take_piece.Goals as goal
 
@@ -26,7 +27,7 @@ returns-clause-handed g c =
     let now = c.take_after.new in
     plain-hands t.took_phase t.took (record { inner = inner; bits = c.args.stream.now }) c.fill.new.self
     (record { inner = d.new.inner; bits = d.new.stream }) now.stream c.args.taker.now d.new.taker now.taker octets
-    c.requires.of c.requires.plain
+    c.requires.plain
     (plain-fills inner c.fill.new.self octets c.fill.result c.requires.plain
     (record { config = e.config; phase = e.phase.0; stays = e.settled }) e.phase.1 e.most e.all e.stands)
     d.ensures.drained d.ensures.decoded
@@ -35,7 +36,7 @@ returns-clause-handed g c =
     (d.ensures.of.0 ∙ e.config)) c.take_after.ensures.handed)
 
 pub returns-clause-ended : goal.returns-clause-ended
-returns-clause-ended g c = c.take_decoded.ensures.decoded.decodes.ended ∙ c.fill.ensures.phase.1
+returns-clause-ended g c = c.take_decoded.ensures.decoded.ended ∙ c.fill.ensures.phase.1
 
 pub returns-clause-watched : goal.returns-clause-watched
 returns-clause-watched g c = λ going.

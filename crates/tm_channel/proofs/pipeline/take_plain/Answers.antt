@@ -1,4 +1,4 @@
-use Rattle.std.proofs.Common.{◌+◌, ◌-◌, ◌∙◌, take, drop, arith, refl, ap, subst, sym}
+use Rattle.std.proofs.Common.{◌+◌, ◌-◌, ◌∙◌, take, drop, arith, refl, ap, subst}
 use Rattle.std.specs.Option.{is_some}
 use Rattle.std.proofs.lemmas.List.{take_all}
 use Rattle.tm_base.specs.Handed.{on_handed}
@@ -22,11 +22,6 @@ loop-done-init g c = record {
   ended = refl;
   told = λ going. hands-none g.W.WindowWatch.took AreTold c.args.inner.now c.args.watch.now;
 }
-
-pub take_piece-requires-clause-of : goal.take_piece-requires-clause-of
-take_piece-requires-clause-of g c =
-    let i = c.loop-done.invariant in
-    i.stream ∙ c.requires.of ∙ sym i.inner
 
 pub take_piece-requires-clause-plain : goal.take_piece-requires-clause-plain
 take_piece-requires-clause-plain g c =

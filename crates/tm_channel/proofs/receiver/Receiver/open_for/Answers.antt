@@ -1,19 +1,28 @@
-use Rattle.std.proofs.Common.{◌≡◌, ◌≤◌, ℕ, false, [], List, Bool, Option, Some, None, length, sym, ap, subst, refl, arith}
+use Rattle.std.proofs.Common.{◌≡◌, ◌≤◌, ◌∙◌, ◌++◌, ℕ, false, [], List, Bool, Option, Some, None, inr, length, sym, ap, subst, refl, arith}
+use Rattle.tm_base.specs.Handed.{items_of}
 use Rattle.tm_config.specs.Configuration.{Configuration}
+use Rattle.tm_conv.specs.declared.rates.Rate.{Rate}
+use Rattle.tm_windows.specs.declared.choosing.Chosen.{Chosen}
+use Rattle.tm_inner.specs.Handing.{AreHandedDue}
 use Rattle.tm_inner.specs.Inner.{inner_bits}
+use Rattle.tm_inner.specs.InnerDecoding.{InnerDecoderStandsFor}
+use Rattle.tm_inner.specs.Phase.{skip_of, with_phase}
 use Rattle.tm_inner.specs.Receiving.{HasHanded}
+use Rattle.tm_inner.specs.SymbolPlaces.{symbol_at}
 use Rattle.tm_inner.proofs.DecodedWindows.{decoded-drained}
 use Rattle.tm_inner.proofs.HandedBits.{handed-due-none}
+use Rattle.tm_inner.proofs.PhasePieces.{items_of-with_phase}
 use Rattle.tm_inner.proofs.PlainBits.{bits-nil}
 use Rattle.tm_sync.specs.declared.found.Found.{Found}
-use Rattle.tm_channel.specs.Items.{AreItemsOf}
+use Rattle.tm_channel.specs.Items.{ItemValue, AreItemsOf}
 use Rattle.tm_channel.specs.Due.{due}
+use Rattle.tm_channel.specs.Handing.{phase_of}
 use Rattle.tm_channel.specs.OctetReceiving.{AreKnown, BitReceiverStandsFor, BitReceiving, Stages, StagesFor}
-use Rattle.tm_conv.specs.declared.rates.Rate.{Rate}
-use Rattle.tm_inner.specs.Phase.{skip_of}
-use Rattle.tm_inner.specs.SymbolPlaces.{symbol_at}
 use Rattle.tm_channel.specs.Origins.{AreAt, AreSpaced}
+use Rattle.tm_channel.specs.Receiving.{Batching}
 use Rattle.tm_channel.proofs.AllBits.{due-nil}
+use Rattle.tm_channel.proofs.GivenOctets.{read-now}
+use Rattle.tm_channel.proofs.PhasedItems.{phase_of-with_phase}
 use Rattle.tm_channel.proofs.receiver.Receiver.open_for.Goals as goal
 
 -- of no bits
@@ -25,32 +34,41 @@ fresh-known (Some rate) c at count r none unnoted = (
   λ n above below. absurd (omega (arith, below, none)),
 )
 
-stands-fresh : (s : Stages) → 1 ≤ s.inner.config.keep → s.inner.has_ended ≡ false → HasHanded s.inner [] []
-    → BitReceiverStandsFor s.bits [] → s.bits.batch.symbols ≡ [] → s.bits.origins.origins ≡ [] → StagesFor s [] []
-stands-fresh s some going inner bits nothing unnoted =
+stands-fresh : (s : Stages) → 1 ≤ s.inner.config.keep → s.bits.batch.config ≡ s.inner.config
+    → s.inner.has_ended ≡ false → HasHanded s.inner [] [] → BitReceiverStandsFor s.bits [] → s.bits.batch.symbols ≡ []
+    → s.bits.origins.origins ≡ [] → StagesFor s [] []
+stands-fresh s some of going inner bits nothing unnoted =
     let c = s.inner.config in
+    let at = symbol_at c (skip_of s.inner.chosen) [] in
     let none : inner_bits c [] [] ≡ [] = bits-nil c.inner c in
+    let no_phase = sym (phase_of-with_phase _ inner.read.blocks) ∙ ap phase_of (sym inner.read.are) in
+    let no_blocks = sym (items_of-with_phase _ inner.read.blocks) ∙ ap items_of (sym inner.read.are) in
     record {
       going = going;
-      handed = [];
-      inner = inner.read;
       all = inner.all;
       so_far = inner.so_far;
+      blocks = [];
+      progress = record {
+        of = (refl, of);
+        inner = subst (InnerDecoderStandsFor s.inner []) no_blocks inner.read.stands;
+        items = [];
+        searched = record {
+          stands = subst (BitReceiverStandsFor s.bits) (sym none) bits;
+          are_items = subst (λ (l : List Bool). AreItemsOf c l (due c l) []) (sym none)
+              (subst (λ (fs : List Found). AreItemsOf c [] fs []) (sym (due-nil c)) tt);
+          stored = subst (AreAt at (length (inner_bits c [] []))) (sym nothing) tt;
+          said = tt;
+        };
+        known = fresh-known c.inner c at (length (inner_bits c [] [])) s.bits (ap length none) unnoted;
+        read = inner.read.read;
+        first = λ unread. inr refl;
+        are = ap (λ (o : Option Chosen). with_phase {I = ItemValue} o []) (sym no_phase);
+      };
       waiting = [];
-      are_due = handed-due-none c some;
+      are_due = subst (λ (o : Option Chosen). AreHandedDue c [] (with_phase o [] ++ []))
+          (sym (sym (read-now s.inner.has_phase s.inner.chosen inner.all) ∙ no_phase)) (handed-due-none c some);
       few = omega arith;
       none_due = refl;
-      bits = subst (BitReceiverStandsFor s.bits) (sym none) bits;
-      items = [];
-      are_items = subst (λ (l : List Bool). AreItemsOf c l (due c l) []) (sym none)
-          (subst (λ (fs : List Found). AreItemsOf c [] fs []) (sym (due-nil c)) tt);
-      symbols = record {
-        stored = subst (AreAt (symbol_at c (skip_of s.inner.chosen) []) (length (inner_bits c [] []))) (sym nothing) tt;
-        known = fresh-known c.inner c (symbol_at c (skip_of s.inner.chosen) []) (length (inner_bits c [] [])) s.bits
-            (ap length none) unnoted;
-      };
-      are_at = tt;
-      are = refl;
     }
 
 pub returns-clause-stands : goal.returns-clause-stands
@@ -61,6 +79,7 @@ returns-clause-stands c =
       c.open_search.ensures.accepted.some_keep,
       ap (λ (k : Configuration). k.keep) c.in-Ok.ensures.config,
     ))
+    (c.new.ensures.config ∙ ap (λ (b : Batching). b.config) c.in-Ok-open.ensures ∙ sym c.in-Ok.ensures.config)
     c.in-Ok.ensures.going c.in-Ok.ensures.stands c.new.ensures.stands c.new.ensures.symbols.0 c.new.ensures.symbols.1
 
 pub returns-clause-decoded : goal.returns-clause-decoded
