@@ -185,7 +185,8 @@ stages-few s now given octets done more ok same stood on =
     (due k (inner_bits k (given ++ octets) there.blocks)) there.progress.items)
     same there.progress.searched.are_items in
     let whole = subst (λ (l : List Bool). AreItemsOf c l (due c l) (was ++ items_of more)) is
-    (subst (AreItemsOf c (inner_bits c (given ++ octets) there.blocks) (due c (inner_bits c (given ++ octets) there.blocks)))
+    (subst (AreItemsOf c (inner_bits c (given ++ octets) there.blocks)
+    (due c (inner_bits c (given ++ octets) there.blocks)))
     all are) in
     let waits = on.1 ++ map Item there.waiting in
     let due_all = subst (λ (k : Configuration). AreHandedDue k (given ++ octets)
@@ -209,7 +210,8 @@ stages-few s now given octets done more ok same stood on =
     )) in
     let within : length (due c (bits ++ piece)) ≤ length (places_in c (bits ++ piece)) =
     omega (arith, length-due c (bits ++ piece), batches-le c.batch (length (places_in c (bits ++ piece)))) in
-    items-few c bits piece was (items_of more) (due c (bits ++ piece)) (length octets) ok stood.progress.searched.are_items
+    items-few c bits piece was (items_of more) (due c (bits ++ piece))
+    (length octets) ok stood.progress.searched.are_items
     whole within few
 
 -- at the end, where these are the blocks after those that were handed over
@@ -229,10 +231,17 @@ ends-few s given done chosen next last left items ok stood choice blocks are is_
     (omega (
       arith,
       waiting-last-few c given (with_phase s.inner.chosen stood.blocks) stood.waiting last left stood.are_due
-          (record { chosen = chosen; choice = choice; items = stood.blocks ++ next; are_items = blocks; are = sym are }),
+          (record {
+            chosen = chosen;
+            choice = choice;
+            items = stood.blocks ++ next;
+            are_items = blocks;
+            are = sym are;
+          }),
       ap (λ (l : List WindowBlock). length (kept_bits l)) is_next,
       stood.few,
       needed-few c.inner c,
     )) in
-    items-few c bits piece stood.progress.items items (places_in c (bits ++ piece)) 0 ok stood.progress.searched.are_items
+    items-few c bits piece stood.progress.items items
+    (places_in c (bits ++ piece)) 0 ok stood.progress.searched.are_items
     (subst (λ (l : List Bool). AreItems c l (stood.progress.items ++ items)) is all) (omega arith) few

@@ -106,11 +106,12 @@ phase-stays before now given longer done all config stays stood stands = go befo
 
 -- what is noted before the bits of a run
 abbrev pub NotesRun : InnerDecoding → BitReceiving → BitReceiving → ℕ → Type 0
-NotesRun d r m origin = Notes r m × ((rate : Rate) → NotesOrigin r.batch.config r m rate origin) × (origin ≡ origin_in d)
-    × (origin < 2 ^ 63 + 2 ^ 62)
+NotesRun d r m origin = Notes r m × ((rate : Rate) → NotesOrigin r.batch.config r m rate origin)
+    × (origin ≡ origin_in d) × (origin < 2 ^ 63 + 2 ^ 62)
 
 -- the bits of the blocks are as many as their windows keep, and no more than octets were given
-pub first-kept : (d : InnerDecoding) (given : List ℕ) (done : List WindowBlock) (rate : Rate) → d.config.inner ≡ Some rate
+pub first-kept : (d : InnerDecoding) (given : List ℕ) (done : List WindowBlock) (rate : Rate)
+    → d.config.inner ≡ Some rate
     → InnerDecoderStandsFor d given done → (w : Windows) × (w.settings.keep ≡ d.config.keep)
     × ((to : Spot) × ((from : Spot) × Followed w from done to))
     × (length (bits_of_blocks done) < 2 ^ 60)
@@ -168,7 +169,8 @@ run-of c d given done ready r m origin rate same of is later stands noted =
         kept = size ∙ here;
         few = k.3;
       },
-      λ some. let one : w.settings.keep ≤ length ready * w.settings.keep = at-least (length ready) w.settings.keep some in
+      λ some. let one : w.settings.keep ≤ length ready * w.settings.keep = at-least
+          (length ready) w.settings.keep some in
           omega (arith, size, size_all, both, rest, one, k.1, ap (λ (v : Configuration). v.keep) same),
     )
   where

@@ -22,13 +22,13 @@ use Rattle.tm_inner.proofs.DecoderReads.{handed-due}
 use Rattle.tm_inner.proofs.PhasePieces.{items_of-with_phase, so-far, with_phase-more}
 use Rattle.tm_channel.specs.Items.{ItemValue, AreItemsOf}
 use Rattle.tm_channel.specs.Due.{due}
-use Rattle.tm_channel.specs.Handing.{phase_of, AreReceivedDue}
+use Rattle.tm_channel.specs.Handing.{AreReceivedDue}
 use Rattle.tm_channel.specs.Origins.{place_symbol}
 use Rattle.tm_channel.specs.Receiving.{waiting_bits}
 use Rattle.tm_channel.specs.OctetReceiving.{AreKnown, AreSpare, BitReceiving, Decoded, Progress, ReceivedAt, Searched, Stages, StagesFor, StagesHand, StagesOn}
 use Rattle.tm_channel.proofs.FirstStage.{Fills, Stays, phase-stays}
 use Rattle.tm_channel.proofs.FurtherBits.{further-at, phased-items}
-use Rattle.tm_channel.proofs.PhasedItems.{prefix-nil, phase_of-with_phase}
+use Rattle.tm_channel.proofs.PhasedItems.{prefix-nil, same-phase}
 use Rattle.tm_channel.proofs.Progress.{due-none-items, moved, plain-step, unread-none, unsettled-none}
 use Rattle.tm_channel.proofs.ReceivedPieces.{all_bits, all_bits-append}
 use Rattle.tm_channel.proofs.Searched.{coded-bits, no-rate, plain-bits, some-rate, symbols-more}
@@ -60,7 +60,8 @@ phase-then None now blocks next stays (inr none) = (
   items_of-with_phase now next,
 )
 
-pub behind : (s now : Stages) (given longer taken : List ℕ) (done all : List (Handed ItemValue)) (next : List WindowBlock)
+pub behind : (s now : Stages) (given longer taken : List ℕ) (done all : List (Handed ItemValue))
+    (next : List WindowBlock)
     (stood : StagesFor s given done) → Stays s.inner.chosen now.inner.chosen
     → Progress s.inner.config now longer taken (stood.blocks ++ next) [] all
     → (last : List (Handed WindowBlock))
@@ -239,7 +240,7 @@ retaken c s given taken other blocks ready done coded p =
       of = p.of;
       inner = p.inner;
       items = p.items;
-      searched = subst (λ (l : List Bool). Searched c at l s.bits p.items) same p.searched;
+      searched = subst (λ (l : List Bool). Searched c at (length l) l s.bits p.items) same p.searched;
       known = subst (λ (l : List Bool). AreKnown c.inner c at (length l) s.bits) same p.known;
       read = p.read;
       first = p.first;
@@ -326,7 +327,8 @@ filled-wait took start now taker taker_now octets spare h none most waits = reco
   handed = h.handed;
   stands = λ given done few stood.
       let is = h.on given done few stood in
-      stages-wait start now given (given ++ octets) done (done ++ h.more) is.0 spare stood h.stays (h.ended ∙ stood.going)
+      stages-wait start now given (given ++ octets) done (done ++ h.more) is.0 spare stood h.stays
+      (h.ended ∙ stood.going)
       is.2 none most waits is.1;
 }
 
@@ -345,11 +347,11 @@ pub plain-hands : {T : Type 0} (took_phase : T → ℕ → ℕ → T → Type 0)
     → ReceivedAt took between.bits bits middle taker_now (found_in s.inner octets)
     → StagesHand (on_handed took_phase took) s (record { inner = between.inner; bits = bits }) taker taker_now octets
 plain-hands took_phase took s filled between bits taker middle taker_now octets plain fills drained d p =
-    let items = p.received.items in
+    let items = p.items in
     record {
       more = d.more ++ map Item items;
       handed = HandedOver-append (on_handed took_phase took) taker middle taker_now d.more (map Item items) d.handed
-          (HandedOver-items took_phase took middle taker_now items p.received.handed);
+          (HandedOver-items took_phase took middle taker_now items p.handed);
       stands = λ given done few stood.
           let c = s.inner.config in
           let all = given ++ octets in
@@ -366,7 +368,8 @@ plain-hands took_phase took s filled between bits taker middle taker_now octets 
           (ap (λ n. c.skip - plain_count c n) (sym stood.progress.inner.count))
           ∙ ap (λ l. l ++ found_in s.inner octets) (sym (plain-bits c given blocks none)) in
           stages-due s now given all done (done ++ (d.more ++ map Item items)) dec.next stood
-          (λ chosen was. d.stays chosen (fills.on.stays chosen was)) (d.ended ∙ fills.ended ∙ stood.going) dec.all so_far
+          (λ chosen was. d.stays chosen (fills.on.stays chosen was))
+          (d.ended ∙ fills.ended ∙ stood.going) dec.all so_far
           drained
           (subst (Progress c now all all blocks []) (append_assoc done d.more (map Item items))
           (plain-step took c between.inner between.bits bits middle taker_now all given blocks (found_in s.inner octets)
@@ -406,7 +409,8 @@ stages-more took a b c taker middle now first second p q = record {
       let on : StagesOn c ((given ++ first) ++ second) ((done ++ p.more) ++ q.more) before = (
         last.0,
         there.1 ++ last.1,
-        joined before (with_phase b.inner.chosen there.0.blocks) (with_phase c.inner.chosen last.0.blocks) there.1 last.1
+        joined before (with_phase b.inner.chosen there.0.blocks)
+            (with_phase c.inner.chosen last.0.blocks) there.1 last.1
             last.2 there.2,
       ) in
       subst (λ (l : List ℕ). StagesOn c l (done ++ (p.more ++ q.more)) before) (append_assoc given first second)
@@ -434,8 +438,7 @@ received-due s given done stood =
           let no_bits = ap (inner_bits c given) no_blocks ∙ unsettled-none c given w.0 in
           inl (
             w.0,
-            are ∙ ap (λ (o : Option Chosen). with_phase o p.items)
-                (sym (phase_of-with_phase chosen blocks) ∙ ap phase_of nothing)
+            are ∙ ap (λ (o : Option Chosen). with_phase o p.items) (same-phase chosen None blocks [] nothing)
                 ∙ ap (with_phase None) (due-none-items c bits p.items no_bits p.searched.are_items),
           )
           )
@@ -443,8 +446,7 @@ received-due s given done stood =
           let h = g.1 in
           let same = with_phase-more chosen blocks waiting ∙ h.are in
           let all = sym (items_of-with_phase chosen (blocks ++ waiting)) ∙ phased-items h.chosen h.items _ same in
-          let phase = sym (phase_of-with_phase chosen (blocks ++ waiting)) ∙ ap phase_of same
-          ∙ phase_of-with_phase h.chosen h.items in
+          let phase = same-phase chosen h.chosen (blocks ++ waiting) h.items same in
           let more = with-waiting c.inner c given blocks waiting in
           let at = symbol_at c (skip_of chosen) blocks in
           let after = symbol_at c (skip_of chosen) (blocks ++ waiting) in

@@ -31,7 +31,6 @@ pub mod Until
 mod Told
 pub mod Ones
 pub mod Settling
-pub mod Pieces
 pub mod Between
 pub mod AllBits
 pub mod ReceivedPieces

@@ -1,22 +1,25 @@
 -- The phase among what is handed over, and lists with nothing in them.
-use Rattle.std.proofs.Common.{◌≡◌, List, [], ◌∷◌, ◌++◌, map, refl, sym, ◌∙◌, Option, Some, None}
-use Rattle.tm_base.specs.Handed.{Item}
+use Rattle.std.proofs.Common.{◌≡◌, List, [], ◌∷◌, ◌++◌, refl, sym, ap, ◌∙◌, Option, Some, None}
+use Rattle.tm_base.specs.Handed.{Handed, Phase, Item}
 use Rattle.tm_base.specs.Takers.{HandedPart}
 use Rattle.tm_windows.specs.declared.choosing.Chosen.{Chosen}
 use Rattle.tm_inner.specs.Phase.{with_phase}
-use Rattle.tm_channel.specs.Handing.{phase_from, phase_of}
 
 -- ---- the phase
 
-pub phase_from-items : {I : Type 0} (before : Option Chosen) (items : List I)
-    → phase_from before (map Item items) ≡ before
-phase_from-items before [] = refl
-phase_from-items before (item ∷ items) = phase_from-items before items
+phase_in : {I : Type 0} → List (Handed I) → Option Chosen
+phase_in [] = None
+phase_in (Phase skip cost ∷ handed) = Some (record { skip = skip; cost = cost })
+phase_in (Item item ∷ handed) = None
 
-pub phase_of-with_phase : {I : Type 0} (chosen : Option Chosen) (items : List I)
-    → phase_of (with_phase chosen items) ≡ chosen
-phase_of-with_phase None items = phase_from-items None items
-phase_of-with_phase (Some chosen) items = phase_from-items (Some chosen) items
+in-phase : {I : Type 0} (chosen : Option Chosen) (items : List I) → phase_in (with_phase chosen items) ≡ chosen
+unfolding phase_in
+in-phase None [] = refl
+in-phase None (item ∷ items) = refl
+in-phase (Some chosen) items = refl
+
+pub same-phase : {I : Type 0} (a b : Option Chosen) (xs ys : List I) → with_phase a xs ≡ with_phase b ys → a ≡ b
+same-phase a b xs ys same = sym (in-phase a xs) ∙ ap phase_in same ∙ in-phase b ys
 
 -- ---- lists with nothing in them
 

@@ -71,7 +71,7 @@ moved c s now given longer taken blocks ready next done on stands p =
       of = (config, p.of.1);
       inner = stands;
       items = p.items;
-      searched = searched-same c before after bits s.bits p.items same p.searched;
+      searched = searched-same c before after (length bits) bits s.bits p.items same p.searched;
       known = known-same c.inner c before after (length bits) s.bits same p.known;
       read = λ has nothing. p.read (sym on.phase ∙ has) (was-none s.inner.chosen on.stays nothing);
       first = λ unread. p.first (sym on.phase ∙ unread);
@@ -162,7 +162,7 @@ pub run-step : {T : Type 0} (took : T → ItemValue → T → Type 0) (c : Confi
     (done : List (Handed ItemValue)) → 0 < length ready → dropped_of (drop 1 ready) ≡ 0 → NotesRun d r m origin
     → (p : ReceivedAt took m now taker taker_now (bits_of_blocks ready)) → unread d ≡ None
     → Progress c (record { inner = d; bits = r }) given taken blocks ready done
-    → Progress c (record { inner = d; bits = now }) given taken (blocks ++ ready) [] (done ++ map Item p.received.items)
+    → Progress c (record { inner = d; bits = now }) given taken (blocks ++ ready) [] (done ++ map Item p.items)
 run-step took c d r m now origin taker taker_now given taken blocks ready done some later notes p all was =
     let coded = coded-by c d given (blocks ++ ready) was.of.0 was.inner (some-behind blocks ready some) in
     let phase = skip_of d.chosen in
@@ -171,31 +171,33 @@ run-step took c d r m now origin taker taker_now given taken blocks ready done s
     let both = bits_of_blocks (blocks ++ ready) in
     let is = coded-bits c coded.0 taken blocks coded.1 in
     let is_now = coded-bits c coded.0 taken (blocks ++ ready) coded.1 in
-    let searched = subst (λ (l : List Bool). Searched c at l r was.items) is was.searched in
+    let searched = subst (λ (l : List Bool). Searched c at (length l) l r was.items) is was.searched in
     let run = run-of c d given blocks ready r m origin coded.0 was.of.0 was.of.1 coded.1 later was.inner notes in
     let has = run-has c coded.0 phase origin blocks ready r m was.items was.of.1 run.0 searched
     (subst (λ (l : List Bool). AreKnown c.inner c at (length l) r) is was.known) in
     let it = searched-more took c at after r m now taker taker_now (bits_of_blocks blocks) (bits_of_blocks ready) both
     was.items was.of.1 notes.0 p (all_bits-append blocks ready) (omega (arith, run.0.few))
     (λ n below. symbols-more c phase taken blocks ready n (omega (arith, below, ap length is))) has.0 searched in
-    let config = p.received.config ∙ ap (λ (v : BitReceiving). v.batch.config) notes.0 ∙ was.of.1 in
+    let config = p.config ∙ ap (λ (v : BitReceiving). v.batch.config) notes.0 ∙ was.of.1 in
     record {
       of = (was.of.0, config);
       inner = subst (InnerDecoderStandsFor d given) (sym (append-nil (blocks ++ ready))) was.inner;
-      items = was.items ++ p.received.items;
-      searched = subst (λ (l : List Bool). Searched c after l now (was.items ++ p.received.items)) (sym is_now) it.0;
+      items = was.items ++ p.items;
+      searched = subst (λ (l : List Bool). Searched c after (length l) l now (was.items ++ p.items)) (sym is_now) it.0;
       known = subst (λ (l : List Bool). AreKnown c.inner c after (length l) now) (sym is_now)
-          (run-known c coded.0 after (length both) m now coded.1 config p.origins (has.1 (length both) (run.1 some)) it.1);
+          (run-known c coded.0 after (length both) m now coded.1 config p.origins
+          (has.1 (length both) (run.1 some)) it.1);
       read = was.read;
       first = λ none. inl (given-by c d given (blocks ++ ready) was.of.0 was.inner (some-behind blocks ready some)
           (unread-none d.has_phase d.chosen all none));
-      are = further (if d.has_phase then d.chosen else None) done was.items p.received.items was.are;
+      are = further (if d.has_phase then d.chosen else None) done was.items p.items was.are;
     }
 
 -- ---- windows are decoded, one run after another
 
 -- the first run, after which the phase is read
-pub decoded-start : {T : Type 0} (took : T → Handed ItemValue → T → Type 0) (a b now : InnerDecoding) (bits : BitReceiving)
+pub decoded-start : {T : Type 0} (took : T → Handed ItemValue → T → Type 0) (a b now : InnerDecoding)
+    (bits : BitReceiving)
     (taker taker_now : T) (ready : List WindowBlock) → Runs a b ready
     → now ≡ record b { has_phase = has_phase_now b } → HandedOver took taker (with_phase (unread b) []) taker_now
     → Decoded took (record { inner = a; bits = bits }) (record { inner = now; bits = bits }) taker taker_now ready
@@ -226,32 +228,36 @@ pub decoded-more : {T : Type 0} (took_phase : T → ℕ → ℕ → T → Type 0
     → ReceivedAt took noted bits middle taker_now (bits_of_blocks ready) → Runs b.inner now next
     → Decoded (on_handed took_phase took) s (record { inner = now; bits = bits }) taker taker_now next
 decoded-more took_phase took s b now noted bits origin taker middle taker_now ready next d some later notes p run =
-    let items = p.received.items in
+    let items = p.items in
     record {
       ended = run.ended ∙ d.ended;
       stays = λ chosen was. run.on.stays chosen (d.stays chosen was);
       more = d.more ++ map Item items;
       handed = HandedOver-append (on_handed took_phase took) taker middle taker_now d.more (map Item items) d.handed
-          (HandedOver-items took_phase took middle taker_now items p.received.handed);
+          (HandedOver-items took_phase took middle taker_now items p.handed);
       decodes = λ c given taken blocks done start.
           let was = d.decodes c given taken blocks done start in
           let front = blocks ++ was.next in
           let stands = run.stands given (front ++ ready) was.progress.inner in
           let there = moved c (record { inner = b.inner; bits = bits }) now given given taken (front ++ ready) [] next
           ((done ++ d.more) ++ map Item items) run.on stands.0
-          (run-step took c b.inner b.bits noted bits origin middle taker_now given taken front ready (done ++ d.more) some
+          (run-step took c b.inner b.bits noted bits origin middle taker_now given taken front ready
+          (done ++ d.more) some
           later notes p was.all was.progress) in
           record {
             next = was.next ++ ready;
-            progress = subst (λ (l : List WindowBlock). Progress c (record { inner = now; bits = bits }) given taken l next
+            progress = subst (λ (l : List WindowBlock). Progress c
+                (record { inner = now; bits = bits }) given taken l next
                 (done ++ (d.more ++ map Item items))) (append_assoc blocks was.next ready)
                 (subst (Progress c (record { inner = now; bits = bits }) given taken (front ++ ready) next)
                 (append_assoc done d.more (map Item items)) there);
             all = still-none b.inner.has_phase now.has_phase now.chosen run.on.phase (λ none.
-                given-none now.config (phase_octets now.config given) now.chosen ((front ++ ready) ++ next) now.has_ended
+                given-none now.config (phase_octets now.config given) now.chosen
+                ((front ++ ready) ++ next) now.has_ended
                 (ap (λ (k : Configuration). k.phase) (run.on.config ∙ was.progress.of.0)
                 ∙ given-by c b.inner given (front ++ ready) was.progress.of.0 was.progress.inner
-                (some-behind front ready some) (unread-none b.inner.has_phase b.inner.chosen was.all none)) stands.0.choice);
+                (some-behind front ready some) (unread-none b.inner.has_phase b.inner.chosen was.all none))
+                stands.0.choice);
             so_far = λ going. subst (λ (k : Configuration). IsChosenSoFar k given now.chosen)
                 (run.on.config ∙ was.progress.of.0) (stands.1 (d.ended ∙ going));
           };
@@ -290,22 +296,23 @@ pub plain-step : {T : Type 0} (took : T → ItemValue → T → Type 0) (c : Con
     (done : List (Handed ItemValue)) → c.inner ≡ None → (p : ReceivedAt took r now taker taker_now piece)
     → inner_bits c given blocks ≡ inner_bits c taken blocks ++ piece → unread d ≡ None → IsChosenSoFar c given d.chosen
     → Progress c (record { inner = d; bits = r }) given taken blocks [] done
-    → Progress c (record { inner = d; bits = now }) given given blocks [] (done ++ map Item p.received.items)
+    → Progress c (record { inner = d; bits = now }) given given blocks [] (done ++ map Item p.items)
 plain-step took c d r now taker taker_now given taken blocks piece done none p is all so_far was =
     let at = symbol_at c (skip_of d.chosen) blocks in
     let bits = inner_bits c taken blocks in
-    let items = was.items ++ p.received.items in
+    let items = was.items ++ p.items in
     let few = was.inner.few in
     let most : length (inner_bits c given blocks) ≤ 8 * length given =
     subst (λ (k : Configuration). length (inner_bits k given blocks) ≤ 8 * length given) was.of.0
     (first-few d.config (skip_of d.chosen) given blocks
     (stands-first d given blocks (subst (InnerDecoderStandsFor d given) (append-nil blocks) was.inner))) in
-    let it = searched-more took c at at r r now taker taker_now bits piece (inner_bits c given blocks) was.items was.of.1
+    let it = searched-more took c at at r r now taker taker_now bits piece
+    (inner_bits c given blocks) was.items was.of.1
     refl p is (omega (arith, most, few)) (λ n below. refl)
     (plain-has c (skip_of d.chosen) given blocks bits r r was.of.1 none refl few
     (omega (arith, ap length is, length-append bits piece)) was.searched.stored) was.searched in
     record {
-      of = (was.of.0, p.received.config ∙ was.of.1);
+      of = (was.of.0, p.config ∙ was.of.1);
       inner = was.inner;
       items = items;
       searched = it.0;
@@ -319,5 +326,5 @@ plain-step took c d r now taker taker_now given taken blocks piece done none p i
                 ∙ unsettled-none c given (λ settled. never_both c.phase
                 (subst (IsChosenSoFar c given) nothing so_far settled) find)) it.0.are_items)
           ];
-      are = further (if d.has_phase then d.chosen else None) done was.items p.received.items was.are;
+      are = further (if d.has_phase then d.chosen else None) done was.items p.items was.are;
     }

@@ -15,11 +15,10 @@ use Rattle.tm_inner.specs.Phase.{skip_of}
 use Rattle.tm_inner.specs.SymbolPlaces.{symbol_at}
 use Rattle.tm_inner.proofs.PlainBits.{plain-few}
 use Rattle.tm_inner.proofs.SymbolPlaces.{symbol-stays}
-use Rattle.tm_channel.specs.Items.{ItemValue, AreItemsOf}
-use Rattle.tm_channel.specs.Due.{due}
+use Rattle.tm_channel.specs.Items.{ItemValue}
 use Rattle.tm_channel.specs.Origins.{AreAt, AreSpaced, Noted, origin_at, place_symbol, symbol_by}
 use Rattle.tm_channel.specs.OctetReceiving.{AreKnown, BitReceiving, HasSymbols, Notes, NotesOrigin, ReceivedAt, Searched, bits_of_blocks}
-use Rattle.tm_channel.proofs.KeptSymbols.{stands-noted, symbols-then}
+use Rattle.tm_channel.proofs.KeptSymbols.{stands-noted}
 use Rattle.tm_channel.proofs.ReceivedPieces.{all_bits-append}
 use Rattle.tm_channel.proofs.SymbolPlaces.{at-coded, at-plain, bits-kept, dropped-after, dropped-first, dropped-most, dropped-of_append}
 use Rattle.tm_channel.proofs.Symbols.{at-longer}
@@ -68,7 +67,8 @@ symbols-more c phase taken blocks more n below = elim (rate-cases c.inner) as
 pub symbols-chosen : (c : Configuration) (before now : Option Chosen) (taken : List ℕ) (blocks : List WindowBlock)
     → (now ≡ before) ⊎ (blocks ≡ []) → (n : ℕ) → n < length (inner_bits c taken blocks)
     → symbol_at c (skip_of now) blocks n ≡ symbol_at c (skip_of before) blocks n
-symbols-chosen c before now taken blocks (inl is) n below = ap (λ (o : Option Chosen). symbol_at c (skip_of o) blocks n) is
+symbols-chosen c before now taken blocks (inl is) n below = ap
+    (λ (o : Option Chosen). symbol_at c (skip_of o) blocks n) is
 symbols-chosen c before now taken blocks (inr none) n below = elim (rate-cases c.inner) as
     (λ _. symbol_at c (skip_of now) blocks n ≡ symbol_at c (skip_of before) blocks n) [
       | inl plain ↦ at-plain c (skip_of now) blocks n plain ∙ sym (at-plain c (skip_of before) blocks n plain)
@@ -80,13 +80,14 @@ symbols-chosen c before now taken blocks (inr none) n below = elim (rate-cases c
       ))
     ]
 
-pub searched-same : (c : Configuration) (at then : ℕ → ℕ) (bits : List Bool) (r : BitReceiving) (items : List ItemValue)
-    → ((n : ℕ) → n < length bits → then n ≡ at n) → Searched c at bits r items → Searched c then bits r items
-searched-same c at then bits r items same s = record {
+pub searched-same : (c : Configuration) (at then : ℕ → ℕ) (count : ℕ) (bits : List Bool) (r : BitReceiving)
+    (items : List ItemValue) → ((n : ℕ) → n < count → then n ≡ at n) → Searched c at count bits r items
+    → Searched c then count bits r items
+searched-same c at then count bits r items same s = record {
   stands = s.stands;
   are_items = s.are_items;
-  stored = at-longer at then (length bits) (length bits) r.batch.symbols (omega arith) same s.stored;
-  said = at-longer at then (length bits) (length bits) (map place_symbol items) (omega arith) same s.said;
+  stored = at-longer at then count count r.batch.symbols (omega arith) same s.stored;
+  said = at-longer at then count count (map place_symbol items) (omega arith) same s.said;
 }
 
 pub known-same : (rate : Option Rate) (c : Configuration) (at then : ℕ → ℕ) (count : ℕ) (r : BitReceiving)
@@ -102,33 +103,31 @@ pub searched-more : {T : Type 0} (took : T → ItemValue → T → Type 0) (c : 
     (r m now : BitReceiving) (taker taker_now : T) (bits piece all : List Bool) (items : List ItemValue)
     → r.batch.config ≡ c → Notes r m → (p : ReceivedAt took m now taker taker_now piece) → all ≡ bits ++ piece
     → length all < 2 ^ 63 → ((n : ℕ) → n < length bits → then n ≡ at n) → HasSymbols m (length all) then
-    → Searched c at bits r items
-    → Searched c then all now (items ++ p.received.items) × HasSymbols now (length all) then
+    → Searched c at (length bits) bits r items
+    → Searched c then (length all) all now (items ++ p.items) × HasSymbols now (length all) then
 searched-more took c at then r m now taker taker_now bits piece all items of notes p is few same has s =
     let both = bits ++ piece in
-    let others = p.received.items in
-    let config : m.batch.config ≡ c = ap (λ (v : BitReceiving). v.batch.config) notes ∙ of in
-    let stood = stands-noted r m bits notes s.stands in
-    let short : length both < 2 ^ 63 = omega (arith, few, ap length is) in
-    let it = p.symbols bits (length both) then short (omega arith) stood
-    (subst (λ (l : List Bool). HasSymbols m (length l) then) is has) in
-    subst (λ (l : List Bool). Searched c then l now (items ++ others) × HasSymbols now (length l) then) (sym is) (
-      record {
-        stands = p.received.stands bits short stood;
-        are_items = subst (λ (k : Configuration). AreItemsOf k bits (due k bits) items
-            → AreItemsOf k both (due k both) (items ++ others)) config (p.received.due bits items short stood) s.are_items;
-        stored = it.0.stored;
-        said = symbols-then then (length both) items others
-            (at-longer at then (length bits) (length both) (map place_symbol items)
-            (omega (arith, length-append bits piece)) same s.said) it.1;
-      },
-      it.0,
-    )
+    let count = length both in
+    let has_both = subst (λ (l : List Bool). HasSymbols m (length l) then) is has in
+    subst (λ (l : List Bool). Searched c then (length l) l now (items ++ p.items) × HasSymbols now (length l) then)
+    (sym is)
+    (subst (λ (k : Configuration). Searched k then count bits m items
+    → Searched k then count both now (items ++ p.items) × HasSymbols now count then)
+    (ap (λ (v : BitReceiving). v.batch.config) notes ∙ of)
+    (λ was. p.searched bits items count then (omega (arith, few, ap length is)) (omega arith) was has_both) (record {
+      stands = stands-noted r m bits notes s.stands;
+      are_items = s.are_items;
+      stored = has_both.stored;
+      said = at-longer at then (length bits) count (map place_symbol items)
+          (omega (arith, length-append bits piece)) same
+          s.said;
+    }))
 
 -- ---- the bits of a run of windows
 
 -- an origin was noted before them
-pub record RunOf (c : Configuration) (rate : Rate) (phase origin : ℕ) (done ready : List WindowBlock) (r m : BitReceiving)
+pub record RunOf (c : Configuration) (rate : Rate) (phase origin : ℕ) (done ready : List WindowBlock)
+    (r m : BitReceiving)
     : Type 0 where
   pub rate_is : c.inner ≡ Some rate
   pub notes : Notes r m
@@ -169,7 +168,7 @@ fits-run c rate phase origin done ready r m run n below =
 -- the symbols of all bits are known, before those of the run are received
 pub run-has : (c : Configuration) (rate : Rate) (phase origin : ℕ) (done ready : List WindowBlock) (r m : BitReceiving)
     (items : List ItemValue) → r.batch.config ≡ c → RunOf c rate phase origin done ready r m
-    → Searched c (symbol_at c phase done) (bits_of_blocks done) r items
+    → Searched c (symbol_at c phase done) (length (bits_of_blocks done)) (bits_of_blocks done) r items
     → AreKnown c.inner c (symbol_at c phase done) (length (bits_of_blocks done)) r
     → HasSymbols m (length (bits_of_blocks (done ++ ready))) (symbol_at c phase (done ++ ready))
     × ((to : ℕ) → length (bits_of_blocks done) + c.keep ≤ to → AreSpaced c.keep to m.origins.origins)

@@ -2,7 +2,6 @@
 use Rattle.std.proofs.Common.{◌≡◌, ◌<◌, ◌≤◌, ◌+◌, ◌^◌, ◌==◌, inl, inr, ℕ, Bool, List, [], ◌∷◌, ◌++◌, length, map, drop, refl, sym, ap, ◌∙◌, subst, arith, append_assoc, length-append, Option, Some}
 use Rattle.std.proofs.lemmas.List.{append-nil, length-map}
 use Rattle.tm_base.specs.Handed.{Handed, Item, items_of, on_handed}
-use Rattle.tm_base.specs.Pieces.{beyond}
 use Rattle.tm_base.proofs.HandedItems.{items_of-append, items_of-items}
 use Rattle.tm_config.specs.Accepted.{IsAccepted}
 use Rattle.tm_config.specs.Configuration.{Configuration}
@@ -20,20 +19,16 @@ use Rattle.tm_inner.proofs.FewBits.{whole-few}
 use Rattle.tm_inner.proofs.FollowedBits.{followed-whole_few}
 use Rattle.tm_inner.proofs.PhasePieces.{further, with_phase-more}
 use Rattle.tm_inner.proofs.ReceivedBits.{length-soft}
-use Rattle.tm_codeblock.specs.ReceivedCodeblock.{places_in}
-use Rattle.tm_channel.specs.Due.{due}
 use Rattle.tm_channel.specs.Handing.{AreReceived}
-use Rattle.tm_channel.specs.Items.{ItemValue, AreItems, AreItemsOf}
+use Rattle.tm_channel.specs.Items.{ItemValue, AreItems}
 use Rattle.tm_channel.specs.Most.{AreFew}
 use Rattle.tm_channel.specs.Origins.{AreAt, place_symbol}
 use Rattle.tm_channel.specs.OctetReceiving.{AreKnown, BitReceiving, Decoded, HasSymbols, NotesOrigin, Progress, ReceivedAt, ReceivedLast, Searched, Stages, StagesFor, bits_of_blocks}
 use Rattle.tm_channel.specs.declared.totals.Totals.{Totals}
-use Rattle.tm_channel.proofs.AllBits.{all-items}
 use Rattle.tm_channel.proofs.FewItems.{ends-few}
 use Rattle.tm_channel.proofs.FirstStage.{Ending, NotesRun, Settles, chosen-ended, first-kept, origin-coded}
 use Rattle.tm_channel.proofs.FurtherBits.{last-at, phased-items}
 use Rattle.tm_channel.proofs.GivenOctets.{behind, read-now}
-use Rattle.tm_channel.proofs.KeptSymbols.{symbols-then}
 use Rattle.tm_channel.proofs.Progress.{moved}
 use Rattle.tm_channel.proofs.Searched.{RunOf, coded-bits, plain-has, rate-cases, run-has, searched-more, symbols-more}
 use Rattle.tm_channel.proofs.Symbols.{at-longer, have-of}
@@ -59,7 +54,8 @@ at-end took s settled now taker middle settles d given done stood =
     let dec = d.decodes c given given stood.blocks done
     (moved c s settled given given given stood.blocks [] [] done settles.on
     (settles.stands given (stood.blocks ++ []) stood.progress.inner) stood.progress) in
-    let stands = subst (InnerDecoderStandsFor now.inner given) (append-nil (stood.blocks ++ dec.next)) dec.progress.inner in
+    let stands = subst (InnerDecoderStandsFor now.inner given)
+    (append-nil (stood.blocks ++ dec.next)) dec.progress.inner in
     let here = chosen-ended now.inner given (stood.blocks ++ dec.next) stands (d.ended ∙ settles.ended) in
     record {
       next = dec.next;
@@ -74,7 +70,8 @@ at-end took s settled now taker middle settles d given done stood =
 -- ---- the last window
 
 -- what is said of it, once it was decoded
-pub record LastRun (now last : InnerDecoding) (ready : List WindowBlock) (bits noted : BitReceiving) (origin left count : ℕ)
+pub record LastRun (now last : InnerDecoding) (ready : List WindowBlock) (bits noted : BitReceiving)
+    (origin left count : ℕ)
     (slips : Option ℕ) : Type 0 where
   pub ending : Ending now last.queue ready left count slips
   pub chosen : last.chosen ≡ now.chosen
@@ -125,7 +122,8 @@ last-of c now last ready front bits noted origin left count slips given rate is 
     }
 
 -- the symbols of all bits are known, before those of the last window are received
-last-has : (c : Configuration) (now : Stages) (last : InnerDecoding) (ready front : List WindowBlock) (noted : BitReceiving)
+last-has : (c : Configuration) (now : Stages) (last : InnerDecoding) (ready front : List WindowBlock)
+    (noted : BitReceiving)
     (origin left count : ℕ) (slips : Option ℕ) (given : List ℕ) (done : List (Handed ItemValue))
     → LastRun now.inner last ready now.bits noted origin left count slips → InnerDecoderStandsFor now.inner given front
     → IsChosen now.inner.config given now.inner.chosen → length (inner_bits c given front)
@@ -146,8 +144,9 @@ last-has c now last ready front noted origin left count slips given done l stand
           let is = coded-bits c coded.0 given front coded.1 in
           subst (λ (b : List Bool). HasSymbols noted (length b) then) (sym (coded-bits c coded.0 given all coded.1))
           (run-has c coded.0 phase origin front ready now.bits noted p.items p.of.1
-          (last-of c now.inner last ready front now.bits noted origin left count slips given coded.0 coded.1 p.of.0 p.of.1 l
-          stands choice) (subst (λ (b : List Bool). Searched c at b now.bits p.items) is p.searched)
+          (last-of c now.inner last ready front now.bits noted origin left count slips given coded.0 coded.1 p.of.0
+          p.of.1 l
+          stands choice) (subst (λ (b : List Bool). Searched c at (length b) b now.bits p.items) is p.searched)
           (subst (λ (b : List Bool). AreKnown c.inner c at (length b) now.bits) is p.known)).0
           )
     ]
@@ -155,15 +154,17 @@ last-has c now last ready front noted origin left count slips given done l stand
 -- ---- all bits
 
 pub ends : {T : Type 0} (took_phase : T → ℕ → ℕ → T → Type 0) (took : T → ItemValue → T → Type 0) (s : Stages)
-    (settled : InnerDecoding) (now : Stages) (last : InnerDecoding) (ready : List WindowBlock) (noted bits : BitReceiving)
+    (settled : InnerDecoding) (now : Stages) (last : InnerDecoding) (ready : List WindowBlock)
+    (noted bits : BitReceiving)
     (origin left : ℕ) (totals : Totals) (taker middle third taker_now : T) → Settles s.inner settled
     → (d : Decoded (on_handed took_phase took) (record { inner = settled; bits = s.bits }) now taker middle [])
     → LastRun now.inner last ready now.bits noted origin left totals.bits totals.slips
-    → (p : ReceivedAt took noted bits middle third (bits_of_blocks ready)) → (q : ReceivedLast took bits third taker_now)
+    → (p : ReceivedAt took noted bits middle third (bits_of_blocks ready))
+    → (q : ReceivedLast took bits third taker_now)
     → (given : List ℕ) (done : List (Handed ItemValue)) → StagesFor s given done
-    → AreReceived s.inner.config given (done ++ (d.more ++ map Item (p.received.items ++ q.items))) totals
+    → AreReceived s.inner.config given (done ++ (d.more ++ map Item (p.items ++ q.items))) totals
     × (IsAccepted s.inner.config
-    → AreFew s.inner.config 0 (items_of (d.more ++ map Item (p.received.items ++ q.items))))
+    → AreFew s.inner.config 0 (items_of (d.more ++ map Item (p.items ++ q.items))))
 ends took_phase took s settled now last ready noted bits origin left totals taker middle third taker_now settles d l p q
     given done stood =
     let c = s.inner.config in
@@ -173,7 +174,7 @@ ends took_phase took s settled now last ready noted bits origin left totals take
     let was = e.progress.items in
     let front = stood.blocks ++ e.next in
     let all = front ++ ready in
-    let others = p.received.items ++ q.items in
+    let others = p.items ++ q.items in
     let at = symbol_at c phase front in
     let then = symbol_at c phase all in
     let whole = subst (λ (k : Configuration). AreInnerBlocks k phase given all left
@@ -186,19 +187,19 @@ ends took_phase took s settled now last ready noted bits origin left totals take
     (bits_of_blocks ready) (inner_bits c given all) was e.progress.of.1 l.notes.0 p piece
     (omega (arith, whole-few c phase given all left whole.0, e.stands.few))
     (symbols-more c phase given front ready)
-    (last-has c now last ready front noted origin left totals.bits totals.slips given (done ++ d.more) l e.stands e.here long
+    (last-has c now last ready front noted origin left totals.bits totals.slips given
+    (done ++ d.more) l e.stands e.here long
     e.progress) e.progress.searched in
-    let config : bits.batch.config ≡ c = p.received.config ∙ ap (λ (v : BitReceiving). v.batch.config) l.notes.0
+    let config : bits.batch.config ≡ c = p.config ∙ ap (λ (v : BitReceiving). v.batch.config) l.notes.0
     ∙ e.progress.of.1 in
-    let rest = subst (λ (k : Configuration). AreItemsOf k (inner_bits c given all)
-    (beyond (due k (inner_bits c given all)) (places_in k (inner_bits c given all))) q.items) config
-    (q.last (inner_bits c given all) it.0.stands) in
-    let items = subst (AreItems c (inner_bits c given all)) (append_assoc was p.received.items q.items)
-    (all-items c (inner_bits c given all) (was ++ p.received.items) q.items it.0.are_items rest) in
-    let said = subst (λ k. AreAt then (length (inner_bits c given all)) (map place_symbol k))
-    (append_assoc was p.received.items q.items)
-    (symbols-then then (length (inner_bits c given all)) (was ++ p.received.items) q.items it.0.said
-    (q.symbols (length (inner_bits c given all)) then it.0.stored)) in
+    let number = length (inner_bits c given all) in
+    let done_all = was ++ p.items in
+    let last_all = subst (λ (k : Configuration). Searched k then number (inner_bits c given all) bits done_all
+    → AreItems k (inner_bits c given all) (done_all ++ q.items)
+    × AreAt then number (map place_symbol (done_all ++ q.items)))
+    config (q.all (inner_bits c given all) done_all number then) it.0 in
+    let joined_items = append_assoc was p.items q.items in
+    let items = subst (AreItems c (inner_bits c given all)) joined_items last_all.0 in
     let on = behind s now given given given done (done ++ d.more) e.next stood
     (λ k is. d.stays k (settles.on.stays k is)) e.progress in
     let joined = append_assoc stood.blocks e.next ready in
@@ -214,7 +215,8 @@ ends took_phase took s settled now last ready noted bits origin left totals take
           record { blocks = all; left = left; are_blocks = whole.0; are_bits = refl },
           (λ i. record { bits = whole.1 i; slips = whole.2 i }),
           items,
-          have-of then (length (inner_bits c given all)) (was ++ others) said,
+          have-of then number (was ++ others)
+              (subst (λ k. AreAt then number (map place_symbol k)) joined_items last_all.1),
         );
         are = sym (append_assoc done d.more (map Item others)) ∙ further chosen (done ++ d.more) was others e.are;
       },

@@ -1,9 +1,8 @@
 -- What a receiver hands over for received octets: the symbol phase, where it is to be found, and
 -- then items.
-use Rattle.std.specs.Prelude.{◌≡◌, ℕ, Bool, if◌then◌else◌, List, [], ◌∷◌, length, Option, Some, None}
-use Rattle.tm_base.specs.Handed.{Handed, Phase, Item}
+use Rattle.std.specs.Prelude.{◌≡◌, ℕ, Bool, if◌then◌else◌, List, length, Some, None}
+use Rattle.tm_base.specs.Handed.{Handed}
 use Rattle.tm_config.specs.Configuration.{Configuration}
-use Rattle.tm_windows.specs.declared.choosing.Chosen.{Chosen}
 use Rattle.tm_viterbi.specs.WindowBlock.{WindowBlock}
 use Rattle.tm_inner.specs.Inner.{Inner, reported_slips}
 use Rattle.tm_inner.specs.SymbolPlaces.{symbol_at}
@@ -11,17 +10,6 @@ use Rattle.tm_inner.specs.Phase.{WithPhase, WithPhaseSettled, WithPhaseSoFar}
 use Rattle.tm_channel.specs.declared.totals.Totals.{Totals}
 use Rattle.tm_channel.specs.Items.{ItemValue, AreItems, HaveSymbols}
 use Rattle.tm_channel.specs.Receive.{ReceiveDue, ReceiveFirst, ReceivePrefix}
-
--- the last phase among what was handed over, or else this one
-abbrev pub phase_from : {I : Type 0} → Option Chosen → List (Handed I) → Option Chosen
-phase_from before [] = before
-phase_from before (Phase skip cost ∷ handed) =
-    phase_from (Some (record { skip = skip; cost = cost })) handed
-phase_from before (Item item ∷ handed) = phase_from before handed
-
--- the phase that was handed over
-abbrev pub phase_of : {I : Type 0} → List (Handed I) → Option Chosen
-phase_of handed = phase_from None handed
 
 -- what octets come to that are received as these bits, in these blocks
 abbrev pub totals_of : Configuration → List Bool → List WindowBlock → Totals

@@ -21,14 +21,14 @@ use Rattle.tm_inner.specs.Phase.{IsChosen, IsChosenSoFar, skip_of, with_phase}
 use Rattle.tm_inner.specs.SymbolPlaces.{symbol_at}
 use Rattle.tm_inner.specs.Handing.{AreHandedDue}
 use Rattle.tm_inner.specs.InnerDecoding.{HasFilled, HoldsMore as ClosesMore, InnerDecoderStandsFor, InnerDecoding, unread}
-use Rattle.tm_channel.specs.Items.{ItemValue, AreItemsOf}
+use Rattle.tm_channel.specs.Items.{ItemValue, AreItems, AreItemsOf}
 use Rattle.tm_channel.specs.Due.{due, due_count}
 use Rattle.tm_channel.specs.declared.bit_receiver.BitReceiver.{BitReceiver}
 use Rattle.tm_channel.specs.declared.totals.Totals.{Totals}
 use Rattle.tm_channel.specs.Handing.{AreReceived, AreReceivedDue, AreReceivedFirst, AreReceivedPrefix}
 use Rattle.tm_channel.specs.Most.{AreFew}
 use Rattle.tm_channel.specs.Origins.{AreAt, AreSpaced, Noted, origin_at, place_symbol, symbol_by}
-use Rattle.tm_channel.specs.Receiving.{Batching, Stands, HoldsFound, HoldsMore, waiting_bits, GoesOn, AreDue, AreLast}
+use Rattle.tm_channel.specs.Receiving.{Batching, Stands, HoldsFound, HoldsMore, waiting_bits}
 
 -- what contracts see of a receiver of bits
 pub record BitReceiving : Type 0 where
@@ -66,14 +66,14 @@ AreKnown (Some rate) c at count r = AreSpaced c.keep count r.origins.origins
     × ((n : ℕ) → r.finder.passed ≤ n → n < count
     → symbol_by (Some rate) c (origin_at r.origins.origins n) n ≡ at n)
 
--- A search was given these bits, whose symbols are these: the items that are due of them, and the
--- codeblocks that are stored, say theirs.
-pub record Searched (c : Configuration) (at : ℕ → ℕ) (bits : List Bool) (r : BitReceiving)
-    (items : List ItemValue) : Type 0 where
+-- A search was given these bits, among the first ones, so many, whose symbols are these: the items
+-- that are due of them, and the codeblocks that are stored, say theirs.
+pub record Searched (c : Configuration) (at : ℕ → ℕ) (count : ℕ) (bits : List Bool)
+    (r : BitReceiving) (items : List ItemValue) : Type 0 where
   pub stands : BitReceiverStandsFor r bits
   pub are_items : AreItemsOf c bits (due c bits) items
-  pub stored : AreAt at (length bits) r.batch.symbols
-  pub said : AreAt at (length bits) (map place_symbol items)
+  pub stored : AreAt at count r.batch.symbols
+  pub said : AreAt at count (map place_symbol items)
 
 -- what contracts see of both stages of a receiver: the inner code, and the search for codeblocks in
 -- its bits
@@ -82,16 +82,16 @@ pub record Stages : Type 0 where
   pub bits : BitReceiving
 
 -- Stages of a configuration that were given these octets and no others, fewer than 2^60, and have
--- handed over this: the first stage has decoded these blocks, and then the ready ones. Of the blocks
--- before those, or with no inner code of the octets that were taken, the bits were searched, and the
--- items that are due of them handed over, after the phase, once it was read.
+-- handed over this: the first stage has decoded these blocks, and then the ready ones. The bits of
+-- the blocks before those, or with no inner code of the octets that were taken, were searched, and
+-- the items that are due of them handed over, after the phase, once it was read.
 pub record Progress (c : Configuration) (s : Stages) (given taken : List ℕ)
     (blocks ready : List WindowBlock) (done : List (Handed ItemValue)) : Type 0 where
   pub of : (s.inner.config ≡ c) × (s.bits.batch.config ≡ c)
   pub inner : InnerDecoderStandsFor s.inner given (blocks ++ ready)
   pub items : List ItemValue
   pub searched : Searched c (symbol_at c (skip_of s.inner.chosen) blocks)
-      (inner_bits c taken blocks) s.bits items
+      (length (inner_bits c taken blocks)) (inner_bits c taken blocks) s.bits items
   pub known : AreKnown c.inner c (symbol_at c (skip_of s.inner.chosen) blocks)
       (length (inner_bits c taken blocks)) s.bits
   pub read : s.inner.has_phase ≡ true → s.inner.chosen ≡ None → c.phase ≡ Given
@@ -120,7 +120,8 @@ pub record StagesFor (s : Stages) (given : List ℕ) (done : List (Handed ItemVa
 abbrev pub StagesOn : Stages → List ℕ → List (Handed ItemValue) → List (Handed WindowBlock)
     → Type 0
 StagesOn s given done before = (stands : StagesFor s given done)
-    × (more : List (Handed WindowBlock)) × (with_phase s.inner.chosen stands.blocks ≡ before ++ more)
+    × (more : List (Handed WindowBlock))
+    × (with_phase s.inner.chosen stands.blocks ≡ before ++ more)
 
 -- given the octets, fewer than 2^60 with those before, both stages go on and hand over more
 pub record StagesHand {T : Type 0} (took : T → Handed ItemValue → T → Type 0) (before now : Stages)
@@ -214,16 +215,17 @@ FinishChooses before now = (given : List ℕ) (done : List (Handed ItemValue))
 
 -- ---- codeblocks that are whole
 
--- Whatever bits it stood for, and whichever were given then, of which the search passed none: it
--- stands for all now, and after the items that were due these are due too.
+-- Whatever bits were searched, and whichever given then, of which the search passed none: all are
+-- searched now, and after the items that were due these are due too.
 abbrev pub Settles : BitReceiving → BitReceiving → List ItemValue → Type 0
-Settles before now items = (bits more : List Bool) → length (bits ++ more) < bits_bound
+Settles before now items = (bits more : List Bool) (done : List ItemValue) (count : ℕ) (at : ℕ → ℕ)
+    → length (bits ++ more) < bits_bound → length (bits ++ more) ≤ count
     → HoldsMore before.finder before.recent before.batch (due_count before.batch.config bits) bits
     more
-    → BitReceiverStandsFor now (bits ++ more) × ((done : List ItemValue)
     → AreItemsOf before.batch.config bits (due before.batch.config bits) done
-    → AreItemsOf before.batch.config (bits ++ more) (due before.batch.config (bits ++ more))
-    (done ++ items))
+    → AreAt at count (map place_symbol done) → HasSymbols before count at
+    → Searched before.batch.config at count (bits ++ more) now (done ++ items)
+    × HasSymbols now count at
 
 -- whichever symbols they have, those of the codeblocks that are stored are known still
 abbrev pub KeepsSymbols : BitReceiving → BitReceiving → Type 0
@@ -232,39 +234,21 @@ KeepsSymbols before now = (handed : ℕ) (bits : List Bool) (found : List Found)
     → HoldsFound before.finder before.recent before.batch handed bits found
     → HasSymbols before count at → HasSymbols now count at
 
--- whichever symbols they have, these items say theirs
-abbrev pub SettlesSymbols : BitReceiving → BitReceiving → List ItemValue → Type 0
-SettlesSymbols before now items = (bits more : List Bool) (count : ℕ) (at : ℕ → ℕ)
-    → length (bits ++ more) < bits_bound → length (bits ++ more) ≤ count
-    → HoldsMore before.finder before.recent before.batch (due_count before.batch.config bits) bits
-    more
-    → HasSymbols before count at
-    → HasSymbols now count at × AreAt at count (map place_symbol items)
-
 -- ---- bits that are received
 
--- these bits were received, and the items that are due with them were handed over
-pub record Received {T : Type 0} (took : T → ItemValue → T → Type 0) (before now : BitReceiving)
-    (taker taker_now : T) (bits : List Bool) : Type 0 where
-  pub config : now.batch.config ≡ before.batch.config
-  pub stands : GoesOn (BitReceiverStandsFor before) (BitReceiverStandsFor now) bits
-  pub items : List ItemValue
-  pub handed : HandedOver took taker items taker_now
-  pub due : AreDue before.batch.config (BitReceiverStandsFor before) bits items
-
--- whatever bits were given before: whichever symbols all have, these items say theirs
-abbrev pub SaySymbols : BitReceiving → BitReceiving → List Bool → List ItemValue → Type 0
-SaySymbols before now bits items = (given : List Bool) (count : ℕ) (at : ℕ → ℕ)
-    → length (given ++ bits) < bits_bound → length (given ++ bits) ≤ count
-    → BitReceiverStandsFor before given → HasSymbols before count at
-    → HasSymbols now count at × AreAt at count (map place_symbol items)
-
--- bits were received, no origin was noted, and the items say their symbols
+-- whatever bits were given before: these were received too, the items that are due with them handed
+-- over, and no origin noted
 pub record ReceivedAt {T : Type 0} (took : T → ItemValue → T → Type 0) (before now : BitReceiving)
     (taker taker_now : T) (bits : List Bool) : Type 0 where
-  pub received : Received took before now taker taker_now bits
+  pub config : now.batch.config ≡ before.batch.config
   pub origins : now.origins ≡ before.origins
-  pub symbols : SaySymbols before now bits received.items
+  pub items : List ItemValue
+  pub handed : HandedOver took taker items taker_now
+  pub searched : (given : List Bool) (done : List ItemValue) (count : ℕ) (at : ℕ → ℕ)
+      → length (given ++ bits) < bits_bound → length (given ++ bits) ≤ count
+      → Searched before.batch.config at count given before done → HasSymbols before count at
+      → Searched before.batch.config at count (given ++ bits) now (done ++ items)
+      × HasSymbols now count at
 
 -- the same receiver, with these bits in its room besides
 abbrev pub with_more : BitReceiving → List Bool → BitReceiving
@@ -310,9 +294,10 @@ pub record ReceivedLast {T : Type 0} (took : T → ItemValue → T → Type 0) (
     (taker taker_now : T) : Type 0 where
   pub items : List ItemValue
   pub handed : HandedOver took taker items taker_now
-  pub last : AreLast before.batch.config (BitReceiverStandsFor before) items
-  pub symbols : (count : ℕ) (at : ℕ → ℕ) → AreAt at count before.batch.symbols
-      → AreAt at count (map place_symbol items)
+  pub all : (bits : List Bool) (done : List ItemValue) (count : ℕ) (at : ℕ → ℕ)
+      → Searched before.batch.config at count bits before done
+      → AreItems before.batch.config bits (done ++ items)
+      × AreAt at count (map place_symbol (done ++ items))
 
 -- ---- octets that are taken
 

@@ -2,38 +2,16 @@
 use Rattle.std.specs.Prelude.{◌≡◌, ℕ, ◌+◌, ◌-◌, ◌*◌, ◌/◌, ◌<◌, ◌≤◌, Bool, true, List, [], ◌∷◌, ◌++◌, length, take, drop, map, get_or, nat_lt, if◌then◌else◌, ◌⊎◌, Option, Some, None}
 use Rattle.tm_base.specs.Bits.{bits_of}
 use Rattle.tm_base.specs.Marker.{marker_size}
-use Rattle.tm_base.specs.Pieces.{beyond}
 use Rattle.tm_config.specs.Configuration.{Configuration, codeblock_length}
 use Rattle.tm_sync.specs.declared.found.Columns.{Columns}
 use Rattle.tm_sync.specs.declared.found.Found.{Found}
 use Rattle.tm_sync.specs.Places.{settled_by}
 use Rattle.tm_sync.specs.Rescan.{reach}
 use Rattle.tm_sync.specs.Finding.{Finding, Recent, IsWhole, places_left}
-use Rattle.tm_sync.specs.Bits.{bits_bound}
 use Rattle.tm_codeblock.specs.ReceivedCodeblock.{rules_of, codeblock_in, columns_of, places_in, sound_in}
-use Rattle.tm_channel.specs.Items.{ItemValue, IsItem, AreItemsOf}
-use Rattle.tm_channel.specs.Due.{due_count, due}
+use Rattle.tm_channel.specs.Items.{ItemValue, IsItem}
+use Rattle.tm_channel.specs.Due.{due_count}
 use Rattle.tm_channel.specs.Origins.{PlaceSymbol}
-
--- ---- when an item is handed over
-
--- whatever bits the receiver stood for: after the items that were due of them, these are due too
--- once the piece follows
-abbrev pub AreDue : Configuration → (List Bool → Type 0) → List Bool → List ItemValue → Type 0
-AreDue c Stood piece items = (bits : List Bool) (done : List ItemValue)
-    → length (bits ++ piece) < bits_bound → Stood bits → AreItemsOf c bits (due c bits) done
-    → AreItemsOf c (bits ++ piece) (due c (bits ++ piece)) (done ++ items)
-
--- whatever bits the receiver stood for, these are the items that were not due before the end of the
--- bits was known
-abbrev pub AreLast : Configuration → (List Bool → Type 0) → List ItemValue → Type 0
-AreLast c Stood items = (bits : List Bool) → Stood bits
-    → AreItemsOf c bits (beyond (due c bits) (places_in c bits)) items
-
--- whatever bits the receiver stood for, it stands for these and the piece
-abbrev pub GoesOn : (List Bool → Type 0) → (List Bool → Type 0) → List Bool → Type 0
-GoesOn Stood Stands piece = (bits : List Bool) → length (bits ++ piece) < bits_bound → Stood bits
-    → Stands (bits ++ piece)
 
 -- ---- what is stored
 

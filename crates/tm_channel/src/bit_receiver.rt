@@ -9,7 +9,7 @@ ghost use Rattle.tm_codeblock.specs.ReceivedCodeblock.{places_in};
 ghost use Rattle.tm_channel.specs.Items.{ItemValue};
 ghost use Rattle.tm_channel.specs.Origins.{AreHandedSymbols, place_symbol};
 ghost use Rattle.tm_channel.specs.Receiving.{Agree, AreItemsFor, AreWritten, Fills, HoldsFound, IsHanded, IsReady, Stands, run_size};
-ghost use Rattle.tm_channel.specs.OctetReceiving.{GathersMore, KeepsSymbols, ReceivedAt, bits_of_blocks, Settles, SettlesSymbols, receiving};
+ghost use Rattle.tm_channel.specs.OctetReceiving.{GathersMore, KeepsSymbols, ReceivedAt, bits_of_blocks, Settles, receiving};
 
 use crate::crew::ReceiverCrew;
 use crate::item::ItemWatch;
@@ -164,8 +164,7 @@ impl BitReceiver {
         ensures ready { IsReady self.new.finder self.new.recent self.new.batch }
         ensures config { self.new.batch.config ≡ self.old.batch.config }
         ensures all { (items : List ItemValue) × HandedOver T.took taker.old items taker.new
-            × Settles (receiving self.old origins.now) (receiving self.new origins.now) items
-            × SettlesSymbols (receiving self.old origins.now) (receiving self.new origins.now) items }
+            × Settles (receiving self.old origins.now) (receiving self.new origins.now) items }
     {
         while self.keep_next(crew, origins) {
             self.hand_full(crew, taker);

@@ -39,12 +39,12 @@ returns-clause-handed g c =
     let middle = c.receive_ready.new.taker in
     let now = c.hand_last.new.taker in
     let totals : Totals = record { bits = l.result.bits; slips = l.result.slips } in
-    let others = p.received.items ++ q.items in (
+    let others = p.items ++ q.items in (
       d.ensures.decoded.more ++ map Item others,
       HandedOver-append (on_handed t.took_phase t.took) c.args.taker.now d.new.taker now d.ensures.decoded.more
           (map Item others) d.ensures.decoded.handed
           (HandedOver-items t.took_phase t.took d.new.taker now others
-          (HandedOver-append t.took d.new.taker middle now p.received.items q.items p.received.handed q.handed)),
+          (HandedOver-append t.took d.new.taker middle now p.items q.items p.handed q.handed)),
       ends t.took_phase t.took s c.settle.new.self (record { inner = d.new.inner; bits = d.new.stream }) l.new.self
           (ready_in l.new.self.queue) c.note.new.self c.receive_ready.new.self c.origin.result l.result.leftover totals
           c.args.taker.now d.new.taker middle now (settled-by g (goal.at.returns-clause-handed g c).After-last-end)

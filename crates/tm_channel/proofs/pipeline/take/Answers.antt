@@ -64,9 +64,11 @@ loop-done-preserved g c =
       within = omega (arith, e.most, i.within);
       inner = e.config ∙ d.ensures.of.0 ∙ i.inner;
       stream = d.ensures.of.1 ∙ i.stream;
-      filled = subst (Filled took start (record { inner = f.new.self; bits = d.new.stream }) c.args.taker.now d.new.taker) all
+      filled = subst (Filled took start (record { inner = f.new.self; bits = d.new.stream }) c.args.taker.now
+          d.new.taker) all
           (filled-more took start next f.new.self c.args.taker.now d.new.taker (take done octets)
-          (take f.result (drop done octets)) (sym c.has_inner_code.ensures ∙ c.if-not-has_inner_code.false) fills filled);
+          (take f.result (drop done octets)) (sym c.has_inner_code.ensures ∙ c.if-not-has_inner_code.false) fills
+          filled);
       told = λ going.
           subst (Hands watched AreTold c.args.inner.now f.new.self c.args.watch.now d.new.watch) all
           (hands-more watched AreTold c.args.inner.now d.new.inner f.new.self c.args.watch.now d.new.watch d.new.watch

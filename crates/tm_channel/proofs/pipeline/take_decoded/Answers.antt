@@ -32,12 +32,14 @@ loop-count-init g c =
       count = e.count ∙ ap (λ (k : InnerDecoding). length (ready_in k.queue)) (sym read);
       drained = λ none. subst (λ (k : InnerDecoding). IsDrained k.queue) (sym read) (e.drained none);
       there = subst (λ (k : InnerDecoding). AreThere k.queue) (sym read) e.there;
-      told = subst (λ (k : InnerDecoding). ToldBut g.W.WindowWatch.took c.args.inner.now k c.args.watch.now c.args.watch.now)
+      told = subst (λ (k : InnerDecoding). ToldBut g.W.WindowWatch.took c.args.inner.now k c.args.watch.now
+          c.args.watch.now)
           (sym read) (record {
             more = [];
             told = refl;
             are = λ given done is. told-read now given (done ++ windows_in now)
-                (told-run c.args.inner.now now e.config e.settled (λ given blocks s. (e.stands given blocks s).0) e.windows
+                (told-run c.args.inner.now now e.config e.settled
+                (λ given blocks s. (e.stands given blocks s).0) e.windows
                 given done is);
           });
       later = ap (λ (k : InnerDecoding). dropped_of (drop 1 (ready_in k.queue))) read ∙ e.later;
@@ -72,7 +74,8 @@ loop-count-preserved g c =
     } in
     record {
       config = e.config ∙ i.config;
-      stream = c.receive_ready.ensures.config ∙ ap (λ (v : BitReceiving). v.batch.config) c.note.ensures.same ∙ i.stream;
+      stream = c.receive_ready.ensures.config ∙ ap (λ (v : BitReceiving). v.batch.config) c.note.ensures.same
+          ∙ i.stream;
       settled = λ settled. e.still (i.settled settled);
       count = e.count;
       drained = e.drained;
@@ -104,7 +107,8 @@ returns-clause-decoded g c =
     let t = g.T.ItemWatch in
     subst (Decoded (on_handed t.took_phase t.took) (record { inner = c.args.inner.now; bits = c.args.stream.now })
     (record { inner = c.loop-count.inner; bits = c.loop-count.stream }) c.args.taker.now c.loop-count.taker)
-    (none-ready (ready_in c.loop-count.inner.queue) (omega (arith, c.loop-count-test.false, c.loop-count.invariant.count)))
+    (none-ready (ready_in c.loop-count.inner.queue)
+    (omega (arith, c.loop-count-test.false, c.loop-count.invariant.count)))
     c.loop-count.invariant.decoded
 
 pub returns-clause-watched : goal.returns-clause-watched

@@ -1,10 +1,9 @@
-use Rattle.std.proofs.Common.{◌∙◌, ◌++◌, [], refl}
+use Rattle.std.proofs.Common.{◌∙◌, ◌++◌, [], refl, sym, subst, append_assoc}
+use Rattle.std.proofs.lemmas.List.{append-nil}
 use Rattle.tm_base.proofs.Handing.{HandedOver-append}
 use Rattle.tm_channel.specs.OctetReceiving.{receiving}
-use Rattle.tm_channel.specs.Due.{due_count_of}
 use Rattle.tm_channel.proofs.Holding.{agree-batch}
-use Rattle.tm_channel.proofs.KeptSymbols.{symbols-handed, symbols-then}
-use Rattle.tm_channel.proofs.Settling.{settling-all, settling-handed, settling-start}
+use Rattle.tm_channel.proofs.Settling.{Settling, settling-all, settling-handed, settling-start}
 use Rattle.tm_channel.proofs.bit_receiver.BitReceiver.keep_all.Goals as goal
 
 pub loop-self-init : goal.loop-self-init
@@ -16,62 +15,50 @@ loop-self-init g c =
       settling = (
         [],
         refl,
-        λ bits more short h. settling-start start bits more h,
-        λ bits more count at few le h s. (s, tt),
+        λ bits more done count at few le h are said has.
+            subst (Settling start.batch.config at count (bits ++ more) start) (sym (append-nil done))
+            (settling-start start bits more done count at h are said has),
       );
     }
 
 pub loop-self-preserved : goal.loop-self-preserved
 loop-self-preserved g c =
     let i = c.loop-self.invariant in
-    let took = g.T.ItemWatch.took in
-    let start = receiving c.args.self.now c.args.origins.now in
+    let k = c.args.self.now.batch.config in
     let before = receiving c.loop-self.self c.args.origins.now in
     let middle = receiving c.keep_next.new.self c.args.origins.now in
     let now = receiving c.hand_full.new.self c.args.origins.now in
-    let stored = c.keep_next.ensures.kept c.loop-self-test.true in
-    let some = c.hand_full.ensures.all in record {
+    let keep = c.keep_next.ensures in
+    let hand = c.hand_full.ensures in
+    let stored = keep.kept c.loop-self-test.true in
+    let some = hand.all in record {
       agree =
-          agree-batch middle.finder now.finder middle.recent now.recent middle.batch now.batch
-          c.hand_full.ensures.finder c.hand_full.ensures.recent c.hand_full.ensures.config
-          c.hand_full.ensures.written c.keep_next.ensures.agree;
-      few = c.hand_full.ensures.few;
-      config = c.hand_full.ensures.config ∙ c.keep_next.ensures.config ∙ i.config;
+          agree-batch middle.finder now.finder middle.recent now.recent middle.batch now.batch hand.finder hand.recent
+          hand.config hand.written keep.agree;
+      few = hand.few;
+      config = hand.config ∙ keep.config ∙ i.config;
       settling = (
         i.settling.0 ++ some.0,
-        HandedOver-append took c.args.taker.now c.loop-self.taker c.hand_full.new.taker i.settling.0 some.0
+        HandedOver-append g.T.ItemWatch.took c.args.taker.now c.loop-self.taker c.hand_full.new.taker i.settling.0
+            some.0
             i.settling.1 some.2,
-        λ bits more short h. settling-handed start before middle now stored.0 some.0 i.config
-            c.keep_next.ensures.config c.hand_full.ensures.finder c.hand_full.ensures.recent
-            c.hand_full.ensures.config stored.1 some.1 bits (bits ++ more) i.settling.0 short
-            (i.settling.2 bits more short h),
-        λ bits more count at few le h s.
-            let was = i.settling.3 bits more count at few le h s in
-            let held = i.settling.2 bits more few h in
-            let kept = c.keep_next.ensures.symbols (due_count_of start.batch.config held.found) (bits ++ more) held.found
-            count at few le held.holds was.0 in
-            let now_at = symbols-handed middle now count at some.0 c.hand_full.ensures.finder c.hand_full.ensures.config
-            refl some.3 kept in
-            (now_at.0, symbols-then at count i.settling.0 some.0 was.1 now_at.1),
+        λ bits more done count at few le h are said has.
+            subst (Settling k at count (bits ++ more) now) (append_assoc done i.settling.0 some.0)
+            (settling-handed k at count before middle now stored.0 some.0 i.config keep.config hand.finder hand.recent
+            hand.config refl stored.1 keep.symbols some.1 some.3 (bits ++ more) (done ++ i.settling.0) few le
+            (i.settling.2 bits more done count at few le h are said has)),
       );
     }
 
 pub returns-clause-all : goal.returns-clause-all
 returns-clause-all g c =
     let i = c.loop-self.invariant in
-    let start = receiving c.args.self.now c.args.origins.now in
-    let before = receiving c.loop-self.self c.args.origins.now in
-    let now = receiving c.keep_next.new.self c.args.origins.now in (
+    let keep = c.keep_next.ensures in (
       i.settling.0,
       i.settling.1,
-      λ bits more short h. settling-all start before now i.config c.keep_next.ensures.config
-          (c.keep_next.ensures.none c.loop-self-test.false) bits more i.settling.0 short
-          (i.settling.2 bits more short h),
-      λ bits more count at few le h s.
-          let was = i.settling.3 bits more count at few le h s in
-          let held = i.settling.2 bits more few h in (
-            c.keep_next.ensures.symbols (due_count_of start.batch.config held.found) (bits ++ more) held.found
-                count at few le held.holds was.0,
-            was.1,
-          ),
+      λ bits more done count at few le h are said has.
+          settling-all c.args.self.now.batch.config at count (receiving c.loop-self.self c.args.origins.now)
+          (receiving c.keep_next.new.self c.args.origins.now) i.config keep.config (keep.none c.loop-self-test.false)
+          keep.symbols (bits ++ more) (done ++ i.settling.0) few le
+          (i.settling.2 bits more done count at few le h are said has),
     )

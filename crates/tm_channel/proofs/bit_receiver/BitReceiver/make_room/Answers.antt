@@ -12,7 +12,7 @@ returns-clause-gathers g c =
     let some = c.keep_all.ensures.all in
     more-all g.T.ItemWatch.took (receiving c.args.self.now c.args.origins.now)
     (receiving c.keep_all.new.self c.args.origins.now) c.args.taker.now c.keep_all.new.taker some.0
-    c.keep_all.ensures.config refl some.2 some.3 some.1
+    c.keep_all.ensures.config refl some.2 some.1
 
 pub keep_all-requires-clause-agree : goal.keep_all-requires-clause-agree
 keep_all-requires-clause-agree g c = c.requires.fills.agree

@@ -95,7 +95,7 @@ loop-first-preserved g c =
     (λ handed bits few h. holds-more before.finder before.recent c.push.new.self before.batch
     (piece_of first c.min.result begun octets) (ap (λ (l : Recent). l.bits) c.push.ensures) handed bits h)
     (λ count at h. symbols-stored before middle count at (omega arith) refl refl h.stored h)
-    c.keep_all.ensures.config refl some.2 some.3 some.1 in record {
+    c.keep_all.ensures.config refl some.2 some.1 in record {
       first = omega (arith, from, odd, rises);
       begun = omega arith;
       within = omega (arith, c.min.ensures, c.loop-first-test.true);

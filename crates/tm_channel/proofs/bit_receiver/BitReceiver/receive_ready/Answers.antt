@@ -61,7 +61,7 @@ returns-clause-handed g c =
     gathers-all g.T.ItemWatch.took (receiving c.args.self.now c.args.origins.now)
     (receiving c.loop-index.self c.args.origins.now) (receiving c.keep_all.new.self c.args.origins.now)
     c.args.taker.now c.loop-index.taker c.keep_all.new.taker (bits_of_blocks blocks) some.0 c.keep_all.ensures.config refl
-    some.2 some.3 some.1
+    some.2 some.1
     (subst (λ (l : List WindowBlock). Gathers g.T.ItemWatch.took (receiving c.args.self.now c.args.origins.now)
     (receiving c.loop-index.self c.args.origins.now) c.args.taker.now c.loop-index.taker (bits_of_blocks l)) all i.gathers)
 

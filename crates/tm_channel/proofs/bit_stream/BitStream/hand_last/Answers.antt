@@ -1,6 +1,8 @@
 use Rattle.std.proofs.Common.{sym, subst}
 use Rattle.tm_channel.specs.OctetReceiving.{BitReceiving, ReceivedLast}
 use Rattle.tm_channel.specs.Origins.{AreAt}
+use Rattle.tm_channel.proofs.AllBits.{all-items}
+use Rattle.tm_channel.proofs.KeptSymbols.{symbols-then}
 use Rattle.tm_channel.proofs.Streaming.{items-last}
 use Rattle.tm_channel.proofs.bit_stream.BitStream.hand_last.Goals as goal
 
@@ -13,6 +15,9 @@ returns-clause-handed g c =
     c.self.view_is (record {
       items = some.0;
       handed = some.2;
-      last = λ bits h. items-last b.config r.finder r.recent.bits b.stored bits some.0 h some.1;
-      symbols = λ count at are. subst (AreAt at count) (sym some.3) are;
+      all = λ bits done count at was. (
+        all-items b.config bits done some.0 was.are_items
+            (items-last b.config r.finder r.recent.bits b.stored bits some.0 was.stands some.1),
+        symbols-then at count done some.0 was.said (subst (AreAt at count) (sym some.3) was.stored),
+      );
     })

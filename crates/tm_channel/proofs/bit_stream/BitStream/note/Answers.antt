@@ -25,7 +25,8 @@ returns-clause-noted c = λ rate.
     let short : length r.recent.bits < settled_by (rules_of k).verify (rules_of k).block_bits =
     subst (λ (rules : Rules). length r.recent.bits < settled_by rules.verify rules.block_bits) agree.rules
     c.self.invariant.0.short in
-    subst (λ (v : BitReceiving). NotesOrigin v.batch.config v (receiving r c.note.new.self) rate c.args.origin) c.self.view_is
+    subst (λ (v : BitReceiving). NotesOrigin v.batch.config v (receiving r c.note.new.self) rate c.args.origin)
+    c.self.view_is
     (λ bits at then few stood known before after.
     let all = recent-count k r.finder r.recent.bits r.batch.stored (due_count k bits) bits (places_in k bits) stood in
     let is : c.note.new.self ≡ noted (length bits) c.args.origin o =

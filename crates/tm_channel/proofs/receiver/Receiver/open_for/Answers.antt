@@ -16,13 +16,12 @@ use Rattle.tm_inner.proofs.PlainBits.{bits-nil}
 use Rattle.tm_sync.specs.declared.found.Found.{Found}
 use Rattle.tm_channel.specs.Items.{ItemValue, AreItemsOf}
 use Rattle.tm_channel.specs.Due.{due}
-use Rattle.tm_channel.specs.Handing.{phase_of}
 use Rattle.tm_channel.specs.OctetReceiving.{AreKnown, BitReceiverStandsFor, BitReceiving, Stages, StagesFor}
 use Rattle.tm_channel.specs.Origins.{AreAt, AreSpaced}
 use Rattle.tm_channel.specs.Receiving.{Batching}
 use Rattle.tm_channel.proofs.AllBits.{due-nil}
 use Rattle.tm_channel.proofs.GivenOctets.{read-now}
-use Rattle.tm_channel.proofs.PhasedItems.{phase_of-with_phase}
+use Rattle.tm_channel.proofs.PhasedItems.{same-phase}
 use Rattle.tm_channel.proofs.receiver.Receiver.open_for.Goals as goal
 
 -- of no bits
@@ -41,7 +40,7 @@ stands-fresh s some of going inner bits nothing unnoted =
     let c = s.inner.config in
     let at = symbol_at c (skip_of s.inner.chosen) [] in
     let none : inner_bits c [] [] ≡ [] = bits-nil c.inner c in
-    let no_phase = sym (phase_of-with_phase _ inner.read.blocks) ∙ ap phase_of (sym inner.read.are) in
+    let no_phase = same-phase _ None inner.read.blocks [] (sym inner.read.are) in
     let no_blocks = sym (items_of-with_phase _ inner.read.blocks) ∙ ap items_of (sym inner.read.are) in
     record {
       going = going;
