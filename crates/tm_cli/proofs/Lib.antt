@@ -1,6 +1,6 @@
 pub mod Encoded
 pub mod Received
-pub mod Reporting
+pub mod GivenTexts
 pub mod Reports
 pub mod Generating
 pub mod FewSymbols

@@ -1,9 +1,8 @@
 -- What was received of the octets that were read.
-use Rattle.std.proofs.Common.{◌≡◌, ◌⊎◌, inl, inr, ℕ, ◌+◌, ◌*◌, ◌<◌, ◌≤◌, ◌^◌, Bool, true, false, cond, List, [], ◌∷◌, ◌++◌, length, take, refl, sym, ap, ◌∙◌, subst, arith, None, length-append, length-take, Err, IsErrOf}
-use Rattle.std.proofs.lemmas.List.{take_all}
-use Rattle.tm_base.specs.Takers.{HandedOver, HandedPart}
+use Rattle.std.proofs.Common.{◌≡◌, inl, inr, ℕ, ◌+◌, ◌*◌, ◌<◌, ◌≤◌, ◌^◌, Bool, List, [], ◌∷◌, ◌++◌, length, refl, sym, ap, ◌∙◌, subst, append_assoc, arith, None, length-append, length-take}
 use Rattle.tm_base.specs.Handed.{Handed, items_of}
-use Rattle.tm_base.proofs.Handing.{HandedOver-append, HandedPart-after}
+use Rattle.tm_base.specs.Limits.{most_limit}
+use Rattle.tm_base.proofs.HandedItems.{items_of-append}
 use Rattle.tm_config.specs.Accepted.{IsAccepted}
 use Rattle.tm_config.proofs.Choices.{never_both, given_or_find}
 use Rattle.tm_config.specs.declared.values.Sought.TheVariants.{Find}
@@ -15,37 +14,25 @@ use Rattle.tm_inner.proofs.GivenPieces.{few-soft}
 use Rattle.tm_inner.proofs.HandedPieces.{needed-some}
 use Rattle.tm_inner.proofs.PhasePieces.{items_of-with_phase}
 use Rattle.tm_sync.specs.declared.found.Found.{Found}
+use Rattle.tm_viterbi.specs.WindowSizes.{stream_bound}
 use Rattle.tm_channel.proofs.Apart.{places_in-count}
 use Rattle.tm_codeblock.specs.ReceivedCodeblock.{places_in}
 use Rattle.tm_channel.specs.Due.{due_count, due}
-use Rattle.tm_channel.specs.Items.{ItemValue, AreItemsOf, AreFirstItemsOf}
-use Rattle.tm_channel.specs.Receive.{ReceiveDue, ReceiveFirst, ReceivePrefix}
+use Rattle.tm_channel.specs.Items.{ItemValue, AreItemsOf}
+use Rattle.tm_channel.specs.Receive.{ReceiveDue}
 use Rattle.tm_channel.specs.declared.totals.Totals.{Totals}
-use Rattle.tm_channel.specs.Handing.{ReceiveAll, AreReceived, AreReceivedDue, AreReceivedFirst, AreReceivedPrefix}
+use Rattle.tm_channel.specs.Handing.{ReceiveAll, AreReceived, AreReceivedDue}
 use Rattle.tm_channel.specs.OctetReceiving.{OctetReceiving, ReceiverStandsFor}
-use Rattle.tm_channel.specs.declared.receiver.RecvError.{RecvError}
-use Rattle.tm_channel.specs.declared.receiver.RecvError.TheVariants.{Taker, Stopped}
-use Rattle.tm_driver.specs.Driven.{DrivenTo}
-use Rattle.tm_driver.specs.declared.ending.Ending.{Ending}
-use Rattle.tm_driver.specs.declared.ending.Ending.TheVariants.{Done, Bad, BadWindow, LeftOver, SourceFault, SinkFault, PastLimit}
+use Rattle.tm_driver.specs.Lines.{slips_text}
+use Rattle.tm_driver.specs.Writing.{Text, Note}
 use Rattle.tm_driver.specs.declared.ending.Outcome.{Outcome}
-use Rattle.tm_driver.specs.declared.ending.Outcome.TheVariants.{Done as Whole, Bad as Beyond, LeftOver as Left}
-use Rattle.tm_driver.specs.declared.ending.Stop.{Stop}
-use Rattle.tm_driver.specs.declared.ending.Stop.TheVariants.{SinkFault as FeedFault}
-use Rattle.tm_cli.specs.Receiving.{HandedDue, HandedFirst, Receives, ReceivesPart, HandedLast, HandedLastPart, ReceivedAll, ReceivedTo}
-
--- of two causes the other
-pub taker_failed : {T : Type 0} (e : RecvError) → (IsErrOf {T = T} (Err e) Stopped → ⊥) → IsErrOf {T = T} (Err e) Taker
-taker_failed Taker h = refl
-taker_failed Stopped h = absurd (h refl)
+use Rattle.tm_cli.specs.Lines.{report_end_text, totals_text}
+use Rattle.tm_cli.specs.Receiving.{Decodes, DecodesAll, HandedDue}
+use Rattle.tm_cli.specs.Taken.{AreCounted, IsOutcome, no_counts, texts_from}
+use Rattle.tm_cli.specs.declared.counts.Counts.{Counts}
+use Rattle.tm_cli.proofs.GivenTexts.{Counting, Given, texts-append}
 
 -- ---- items are at most as many as the bits of the octets
-
-first-count : (c : Configuration) (bits : List Bool) (fs : List Found) (items : List ItemValue)
-    → AreFirstItemsOf c bits fs items → length items ≤ length fs
-first-count c bits fs [] are = omega arith
-first-count c bits [] (item ∷ items) are = absurd are
-first-count c bits (f ∷ fs) (item ∷ items) are = omega (arith, first-count c bits fs items are.1)
 
 all-count : (c : Configuration) (bits : List Bool) (fs : List Found) (items : List ItemValue)
     → AreItemsOf c bits fs items → length items ≤ length fs
@@ -69,31 +56,10 @@ few-due c octets phase items r =
     (first-of-due c phase octets r.blocks r.are_due)) in
     omega (arith, all-count c bits (due c bits) items r.are_items, few)
 
-few-first : (c : Configuration) (octets : List ℕ) (phase : ℕ) (items : List ItemValue)
-    → ReceiveFirst c phase octets items → length items ≤ 8 * length octets
-few-first c octets phase items r =
-    let bits = inner_bits c octets r.blocks in
-    omega (
-      arith,
-      first-count c bits (places_in c bits) items r.are_items,
-      places_in-count c bits,
-      first-few c phase octets r.blocks r.are_first,
-    )
-
 few-bits : (c : Configuration) (octets : List ℕ) (phase : ℕ) (bits : List Bool) → Inner c phase octets bits
     → length bits ≤ 8 * length octets
 few-bits c octets phase bits inner =
     omega (arith, ap length inner.are_bits, whole-few c phase octets inner.blocks inner.left inner.are_blocks)
-
-few-prefix : (c : Configuration) (octets : List ℕ) (phase : ℕ) (items : List ItemValue)
-    → ReceivePrefix c phase octets items → length items ≤ 8 * length octets
-few-prefix c octets phase items r =
-    omega (
-      arith,
-      first-count c r.bits (places_in c r.bits) items r.are_items,
-      places_in-count c r.bits,
-      few-bits c octets phase r.bits r.inner,
-    )
 
 few-all : (c : Configuration) (totals : Totals) (octets : List ℕ) (phase : ℕ) (items : List ItemValue)
     → ReceiveAll c phase octets totals items → length items ≤ 8 * length octets
@@ -120,17 +86,6 @@ pub few-received_due : (c : Configuration) (octets : List ℕ) (handed : List (H
 few-received_due c octets handed (inl none) = omega (arith, ap (λ l. length (items_of l)) none.1)
 few-received_due c octets handed (inr phased) =
     few-with_phase (λ phase. ReceiveDue c phase octets) c octets handed (8 * length octets) (few-due c octets) phased.1
-
-pub few-received_first : (c : Configuration) (octets : List ℕ) (handed : List (Handed ItemValue))
-    → AreReceivedFirst c octets handed → length (items_of handed) ≤ 8 * length octets
-few-received_first c octets handed phased =
-    few-with_phase (λ phase. ReceiveFirst c phase octets) c octets handed (8 * length octets)
-    (few-first c octets) phased.1
-
-pub few-received_prefix : (c : Configuration) (octets : List ℕ) (handed : List (Handed ItemValue))
-    → AreReceivedPrefix c octets handed → length (items_of handed) ≤ 8 * length octets
-few-received_prefix c octets handed =
-    few-with_phase (λ phase. ReceivePrefix c phase octets) c octets handed (8 * length octets) (few-prefix c octets)
 
 pub few-received : (c : Configuration) (totals : Totals) (octets : List ℕ) (handed : List (Handed ItemValue))
     → AreReceived c octets handed totals → length (items_of handed) ≤ 8 * length octets
@@ -170,222 +125,140 @@ none-due c accepted = elim (given_or_find c.phase) as (λ _. AreReceivedDue c []
   | inr find ↦ inl (none-settled c accepted find, refl)
 ]
 
--- ---- one more piece
+-- a receiver that was given nothing has handed over nothing
+pub due-none : (c : Configuration) (receiver : OctetReceiving) → IsAccepted c → receiver.config ≡ c
+    → ReceiverStandsFor receiver [] [] → HandedDue c receiver no_counts []
+due-none c receiver accepted same stands = record {
+  handed = [];
+  config = same;
+  stands = λ _. (
+    stands,
+    none-due c accepted,
+    record { good = refl; bad = refl; fixed = refl; few = omega arith },
+  );
+}
 
-pub due-more : {T : Type 0} (took : T → Handed ItemValue → T → Type 0) (c : Configuration)
-    (before now : OctetReceiving) (start taker taker_now : T) (given octets : List ℕ) (more : List (Handed ItemValue))
-    → now.config ≡ before.config → HandedOver took taker more taker_now
-    → ((given : List ℕ) (done : List (Handed ItemValue)) → length given + length octets < 2 ^ 60
-    → ReceiverStandsFor before given done
-    → ReceiverStandsFor now (given ++ octets) (done ++ more)
+-- ---- more octets, and the end
+
+-- all items are few
+both-few : (done more : List (Handed ItemValue)) (octets : List ℕ)
+    → length (items_of (done ++ more)) ≤ 8 * length octets → length octets ≤ most_limit
+    → length (items_of done) + length (items_of more) < 2 ^ 53
+both-few done more octets few within =
+    omega (
+      arith,
+      few,
+      within,
+      ap length (items_of-append done more),
+      length-append (items_of done) (items_of more),
+    )
+
+counts-more : (counts counts_now : Counts) (done more : List (Handed ItemValue)) (octets : List ℕ)
+    → length (items_of (done ++ more)) ≤ 8 * length octets → length octets ≤ most_limit
+    → Counting counts counts_now (items_of more) → AreCounted (items_of done) counts
+    → AreCounted (items_of (done ++ more)) counts_now
+counts-more counts counts_now done more octets few within counting counted =
+    subst (λ (l : List ItemValue). AreCounted l counts_now) (sym (items_of-append done more))
+    (counting (items_of done) (both-few done more octets few within) counted)
+
+pub due-more : (c : Configuration) (before now : OctetReceiving) (counts counts_now : Counts) (given octets : List ℕ)
+    (more : List (Handed ItemValue)) → now.config ≡ before.config
+    → ((given : List ℕ) (done : List (Handed ItemValue)) → length given + length octets < stream_bound
+    → ReceiverStandsFor before given done → ReceiverStandsFor now (given ++ octets) (done ++ more)
     × AreReceivedDue before.config (given ++ octets) (done ++ more))
-    → HandedDue c before (λ handed. HandedOver took start handed taker) given
-    → HandedDue c now (λ handed. HandedOver took start handed taker_now) (given ++ octets)
-due-more took c before now start taker taker_now given octets more same handed stands was =
+    → Counting counts counts_now (items_of more)
+    → HandedDue c before counts given → HandedDue c now counts_now (given ++ octets)
+due-more c before now counts counts_now given octets more same stands counting was =
     let long = length-append given octets in
     let all = was.handed ++ more in
     record {
       handed = all;
       config = same ∙ was.config;
-      stands =
-          λ few. let go = stands given was.handed (omega (arith, few, long))
-          (was.stands (omega (arith, few, long))).0 in
-          (go.0, subst (λ (k : Configuration). AreReceivedDue k (given ++ octets) all) was.config go.1);
-      holds = HandedOver-append took start taker taker_now was.handed more was.holds handed;
+      stands = λ few.
+          let stood = was.stands (omega (arith, few, long)) in
+          let go = stands given was.handed (omega (arith, few, long)) stood.0 in
+          let due = subst (λ (k : Configuration). AreReceivedDue k (given ++ octets) all) was.config go.1 in (
+            go.0,
+            due,
+            counts-more counts counts_now was.handed more (given ++ octets)
+                (few-received_due c (given ++ octets) all due) few counting stood.2,
+          );
     }
 
-pub first-more : {T : Type 0} (took broke : T → Handed ItemValue → T → Type 0) (c : Configuration)
-    (before : OctetReceiving) (start taker taker_now : T) (given octets : List ℕ) (tried : List (Handed ItemValue))
-    → HandedPart took broke taker tried taker_now
-    → ((given : List ℕ) (done : List (Handed ItemValue)) → length given + length octets < 2 ^ 60
-    → ReceiverStandsFor before given done
-    → AreReceivedFirst before.config (given ++ octets) (done ++ tried))
-    → HandedDue c before (λ handed. HandedOver took start handed taker) given
-    → HandedFirst c (λ handed. HandedPart took broke start handed taker_now) (given ++ octets)
-first-more took broke c before start taker taker_now given octets tried handed first was =
-    let long = length-append given octets in
-    let all = was.handed ++ tried in
-    record {
-      handed = all;
-      are_first = λ few. subst (λ (k : Configuration). AreReceivedFirst k (given ++ octets) all) was.config
-          (first given was.handed (omega (arith, few, long)) (was.stands (omega (arith, few, long))).0);
-      holds = HandedPart-after took broke start taker taker_now was.handed tried was.holds handed;
-    }
-
--- a receiver that was given nothing has handed over nothing
-pub due-none : {T : Type 0} (took : T → Handed ItemValue → T → Type 0) (c : Configuration) (receiver : OctetReceiving)
-    (taker : T) → IsAccepted c → receiver.config ≡ c → ReceiverStandsFor receiver [] []
-    → HandedDue c receiver (λ handed. HandedOver took taker handed taker) []
-due-none took c receiver taker accepted same stands =
-    record { handed = []; config = same; stands = λ _. (stands, none-due c accepted); holds = refl }
-
--- ---- the end
-
-pub few : (c : Configuration) (octets : List ℕ) → IsAccepted c → length octets ≤ c.limit → length octets < 2 ^ 60
-few c octets accepted within = let most = accepted.limit in omega arith
-
-pub all-handed : {T : Type 0} (took : T → Handed ItemValue → T → Type 0) (c : Configuration)
-    (receiver : OctetReceiving) (start taker taker_now : T) (octets : List ℕ) (last : List (Handed ItemValue))
-    (totals : Totals)
-    → length octets < 2 ^ 60 → HandedDue c receiver (λ handed. HandedOver took start handed taker) octets
-    → HandedOver took taker last taker_now
+pub all-handed : (c : Configuration) (receiver : OctetReceiving) (counts counts_now : Counts) (octets : List ℕ)
+    (last : List (Handed ItemValue)) (totals : Totals) → length octets ≤ most_limit
     → ((given : List ℕ) (done : List (Handed ItemValue)) → ReceiverStandsFor receiver given done
     → AreReceived receiver.config given (done ++ last) totals)
-    → (handed : List (Handed ItemValue)) × AreReceived c octets handed totals × HandedOver took start handed taker_now
-all-handed took c receiver start taker taker_now octets last totals small p handed finish =
-    let all = p.handed ++ last in (
-      all,
-      subst (λ (k : Configuration). AreReceived k octets all totals) p.config
-          (finish octets p.handed (p.stands small).0),
-      HandedOver-append took start taker taker_now p.handed last p.holds handed,
+    → Counting counts counts_now (items_of last) → (due : HandedDue c receiver counts octets)
+    → AreReceived c octets (due.handed ++ last) totals × AreCounted (items_of (due.handed ++ last)) counts_now
+all-handed c receiver counts counts_now octets last totals small finish counting due =
+    let stood = due.stands small in
+    let all = due.handed ++ last in
+    let received = subst (λ (k : Configuration). AreReceived k octets all totals) due.config
+    (finish octets due.handed stood.0) in (
+      received,
+      counts-more counts counts_now due.handed last octets (few-received c totals octets all received) small counting
+          stood.2,
     )
 
-pub prefix-handed : {T : Type 0} (took broke : T → Handed ItemValue → T → Type 0) (c : Configuration)
-    (receiver : OctetReceiving) (start taker taker_now : T) (octets : List ℕ) (tried : List (Handed ItemValue))
-    → IsAccepted c → length octets ≤ c.limit → HandedDue c receiver
-    (λ handed. HandedOver took start handed taker) octets → HandedPart took broke taker tried taker_now
-    → ((given : List ℕ) (done : List (Handed ItemValue)) → ReceiverStandsFor receiver given done
-    → AreReceivedPrefix receiver.config given (done ++ tried))
-    → (handed : List (Handed ItemValue)) × AreReceivedPrefix c octets handed
-    × HandedPart took broke start handed taker_now
-prefix-handed took broke c receiver start taker taker_now octets tried accepted within p handed finish =
-    let all = p.handed ++ tried in (
-      all,
-      subst (λ (k : Configuration). AreReceivedPrefix k octets all) p.config
-          (finish octets p.handed (p.stands (few c octets accepted within)).0),
-      HandedPart-after took broke start taker taker_now p.handed tried p.holds handed,
-    )
+-- ---- the texts
 
--- ---- from a new receiver
+pub decodes-none : (receiver : OctetReceiving) (counts : Counts) → IsAccepted receiver.config
+    → ReceiverStandsFor receiver [] [] → counts ≡ no_counts → Decodes receiver.config receiver counts [] []
+unfolding due-none
+decodes-none receiver counts accepted stands new = subst
+    (λ (k : Counts). Decodes receiver.config receiver k [] []) (sym new)
+    (record { due = due-none receiver.config receiver accepted refl stands; are = λ _. refl })
 
--- what all of the octets come to
-all-received : {T : Type 0} (took : T → Handed ItemValue → T → Type 0) (c : Configuration) (receiver : OctetReceiving)
-    (start taker : T) (end : T → Totals → Type 0) (octets : List ℕ)
-    → IsAccepted c → length octets ≤ c.limit → HandedDue c receiver
-    (λ handed. HandedOver took start handed taker) octets → HandedLast took receiver taker end
-    → ReceivedAll took c octets start end
-all-received took c receiver start taker end octets accepted within due last =
-    let all = all-handed took c receiver start taker last.middle octets last.last last.totals
-    (few c octets accepted within) due last.handed last.received in
+pub decodes-more : {T : Type 0} (took : T → Text → T → Type 0) (before now : OctetReceiving)
+    (counts counts_now : Counts) (taker taker_now : T) (octets : List ℕ) (more : List (Handed ItemValue))
+    → now.config ≡ before.config
+    → ((given : List ℕ) (done : List (Handed ItemValue)) → length given + length octets < stream_bound
+    → ReceiverStandsFor before given done → ReceiverStandsFor now (given ++ octets) (done ++ more)
+    × AreReceivedDue before.config (given ++ octets) (done ++ more))
+    → (g : Given took counts counts_now taker taker_now more)
+    → (c : Configuration) (given : List ℕ) (done : List Text) → Decodes c before counts given done
+    → Decodes c now counts_now (given ++ octets) (done ++ g.texts)
+unfolding due-more
+decodes-more took before now counts counts_now taker taker_now octets more same stands g c given done d =
+    let handed = d.due.handed in
+    let due = due-more c before now counts counts_now given octets more same stands
+    (λ items small counted. (g.are items small counted).1) d.due in
     record {
-      handed = all.0;
-      totals = last.totals;
-      middle = last.middle;
-      are_received = all.1;
-      over = all.2;
-      is_end = last.is_end;
-      within = within;
+      due = due;
+      are = λ small.
+          let within : length given ≤ most_limit = omega (arith, small, length-append given octets) in
+          let few = few-received_due c (given ++ octets) (handed ++ more) (due.stands small).1 in
+          ap (λ l. l ++ g.texts) (d.are within)
+          ∙ ap (λ l. texts_from 0 handed ++ l) (g.are (items_of handed)
+          (both-few handed more (given ++ octets) few small) (d.due.stands within).2).0
+          ∙ sym (texts-append handed more);
     }
 
--- an outcome shows whether something is uncorrectable
-good-of : (is_good : Bool) → Whole ≡ cond is_good Whole Beyond → is_good ≡ true
-good-of true is = refl
-good-of false is = cc is
-
-bad-of : (is_good : Bool) → Beyond ≡ cond is_good Whole Beyond → is_good ≡ false
-bad-of true is = cc is
-bad-of false is = refl
-
-never-left : (is_good : Bool) → Left ≡ cond is_good Whole Beyond → ⊥
-never-left true is = cc is
-never-left false is = cc is
-
--- what a receiver is fed, in the words of the driver
-abbrev Fed : {F T : Type 0} → (F → OctetReceiving) → (F → T) → (T → Handed ItemValue → T → Type 0) → F → F → List ℕ
-    → Type 0
-Fed receiver taker took x y o = Receives took (receiver x) (receiver y) (taker x) (taker y) o
-
-abbrev FedPart : {F T : Type 0} → (F → OctetReceiving) → (F → T) → (took broke : T → Handed ItemValue → T → Type 0)
-    → F → F → List ℕ → Stop → Type 0
-FedPart receiver taker took broke x y o stop =
-    (stop ≡ FeedFault) × ReceivesPart took broke (receiver x) (taker x) (taker y) o
-
-abbrev Last : {F T : Type 0} → (F → OctetReceiving) → (F → T) → (T → Handed ItemValue → T → Type 0)
-    → (T → Totals → Bool → T → Type 0) → F → F → Outcome → Type 0
-Last receiver taker took took_end x y outcome =
-    (is_good : Bool) × (outcome ≡ cond is_good Whole Beyond)
-    × HandedLast took (receiver x) (taker x) (λ middle totals. took_end middle totals is_good (taker y))
-
-abbrev LastPart : {F T : Type 0} → (F → OctetReceiving) → (F → T) → (took broke : T → Handed ItemValue → T → Type 0)
-    → (T → Totals → T → Type 0) → F → F → Type 0
-LastPart receiver taker took broke broke_end x y =
-    HandedLastPart took broke (receiver x) (taker x) (taker y)
-    ⊎ HandedLast took (receiver x) (taker x) (λ middle totals. broke_end middle totals (taker y))
-
-received-to : {F T : Type 0} (receiver : F → OctetReceiving) (taker : F → T)
-    (took broke : T → Handed ItemValue → T → Type 0) (took_end : T → Totals → Bool → T → Type 0)
-    (broke_end : T → Totals → T → Type 0) (c : Configuration) (a b : F) (ended unended : Type 0) (e : Ending)
-    (octets : List ℕ)
-    → IsAccepted c → (receiver a).config ≡ c → ReceiverStandsFor (receiver a) [] []
-    → DrivenTo (Fed receiver taker took) (FedPart receiver taker took broke) (Last receiver taker took took_end)
-    (LastPart receiver taker took broke broke_end) c.limit a b ended unended e octets
-    → ReceivedTo took broke took_end broke_end c e octets (taker a) (taker b)
-received-to receiver taker took broke took_end broke_end c a b ended unended Done octets accepted same stands p =
-    let new = due-none took c (receiver a) (taker a) accepted same stands in
-    let m = p.middle in
-    let end = p.at_end in
-    all-received took c (receiver m) (taker a) (taker m) (λ middle totals. took_end middle totals true (taker b))
-    octets accepted p.within (p.were_fed c (taker a) [] new)
-    (subst (λ g. HandedLast took (receiver m) (taker m) (λ middle totals. took_end middle totals g (taker b)))
-    (good-of end.0 end.1) end.2)
-received-to receiver taker took broke took_end broke_end c a b ended unended Bad octets accepted same stands p =
-    let new = due-none took c (receiver a) (taker a) accepted same stands in
-    let m = p.middle in
-    let end = p.at_end in
-    all-received took c (receiver m) (taker a) (taker m) (λ middle totals. took_end middle totals false (taker b))
-    octets accepted p.within (p.were_fed c (taker a) [] new)
-    (subst (λ g. HandedLast took (receiver m) (taker m) (λ middle totals. took_end middle totals g (taker b)))
-    (bad-of end.0 end.1) end.2)
-received-to receiver taker took broke took_end broke_end c a b ended unended LeftOver octets accepted same stands p =
-    never-left p.at_end.0 p.at_end.1
-received-to receiver taker took broke took_end broke_end c a b ended unended BadWindow octets accepted same stands p =
-    cc p.0
-received-to receiver taker took broke took_end broke_end c a b ended unended SourceFault octets accepted same stands p =
-    let new = due-none took c (receiver a) (taker a) accepted same stands in
-    let due = p.0 c (taker a) [] new in
-    (due.handed, (due.stands (few c octets accepted p.1)).1, due.holds, p.1)
-received-to receiver taker took broke took_end broke_end c a b ended unended PastLimit octets accepted same stands p =
-    let new = due-none took c (receiver a) (taker a) accepted same stands in
-    let due = p.0 c (taker a) [] new in
-    let within : length (take c.limit octets) ≤ c.limit = omega (arith, length-take c.limit octets) in
-    (due.handed, (due.stands (few c (take c.limit octets) accepted within)).1, due.holds, p.1)
-received-to receiver taker took broke took_end broke_end c a b ended unended SinkFault octets
-    accepted same stands (inl p) =
-    let new = due-none took c (receiver a) (taker a) accepted same stands in
-    let first = p.0.1 c (taker a) [] new in
-    let within : length (take c.limit octets) ≤ c.limit = omega (arith, length-take c.limit octets) in
-    inl (first.handed, inl (first.are_first (few c (take c.limit octets) accepted within)), first.holds)
-received-to {F} {T} receiver taker took broke took_end broke_end c a b ended unended SinkFault octets accepted same
-    stands (inr p) =
-    let end = p.0 in
-    let m = end.middle in
-    let due = end.were_fed c (taker a) [] (due-none took c (receiver a) (taker a) accepted same stands) in
-    elim end.at_end as (λ _. ReceivedTo took broke took_end broke_end c SinkFault octets (taker a) (taker b)) [
-      | inl part ↦ (
-          let prefix = prefix-handed took broke c (receiver m) (taker a) (taker m)
-          (taker b) octets part.tried accepted end.within due part.handed part.prefix in
-          inl (
-            prefix.0,
-            inr (subst (λ l. AreReceivedPrefix c l prefix.0)
-                (sym (take_all c.limit octets end.within)) prefix.1),
-            prefix.2,
-          )
-          )
-      | inr last ↦ inr (all-received took c (receiver m) (taker a) (taker m)
-          (λ middle totals. broke_end middle totals (taker b)) octets accepted end.within due last)
-    ]
-
-pub received-driven : {F T : Type 0} (receiver : F → OctetReceiving) (taker : F → T)
-    (took broke : T → Handed ItemValue → T → Type 0) (took_end : T → Totals → Bool → T → Type 0)
-    (broke_end : T → Totals → T → Type 0) (c : Configuration) (limit : ℕ) (a b : F) (ended unended : Type 0)
-    (e : Ending) (octets : List ℕ)
-    → IsAccepted c → (receiver a).config ≡ c → ReceiverStandsFor (receiver a) [] [] → limit ≡ c.limit
-    → DrivenTo (Fed receiver taker took) (FedPart receiver taker took broke) (Last receiver taker took took_end)
-    (LastPart receiver taker took broke broke_end) limit a b ended unended e octets
-    → ReceivedTo took broke took_end broke_end c e octets (taker a) (taker b)
-received-driven receiver taker took broke took_end broke_end c limit a b ended unended e octets
-    accepted same stands is p =
-    received-to receiver taker took broke took_end broke_end c a b ended unended e octets accepted same stands
-    (subst (λ (n : ℕ). DrivenTo (Fed receiver taker took) (FedPart receiver taker took broke)
-    (Last receiver taker took took_end) (LastPart receiver taker took broke broke_end) n
-    a b ended unended e octets) is p)
+pub decodes-end : {T : Type 0} (took : T → Text → T → Type 0) (receiver : OctetReceiving)
+    (counts counts_now : Counts) (taker taker_now : T) (last : List (Handed ItemValue)) (totals : Totals) (by : Outcome)
+    → ((given : List ℕ) (done : List (Handed ItemValue)) → ReceiverStandsFor receiver given done
+    → AreReceived receiver.config given (done ++ last) totals)
+    → IsOutcome counts_now.bad by → (g : Given took counts counts_now taker taker_now last)
+    → (c : Configuration) (given : List ℕ) (done : List Text) → length given ≤ most_limit
+    → Decodes c receiver counts given done
+    → DecodesAll c given (done ++ (g.texts ++ Note (totals_text counts_now totals) ∷ [])) by
+decodes-end took receiver counts counts_now taker taker_now last totals by finish is g c given done small d =
+    let handed = d.due.handed in
+    let all = all-handed c receiver counts counts_now given last totals small finish
+    (λ items small counted. (g.are items small counted).1) d.due in
+    let few = few-received c totals given (handed ++ last) all.0 in
+    let texts : done ++ g.texts ≡ texts_from 0 (handed ++ last) =
+    ap (λ l. l ++ g.texts) (d.are small)
+    ∙ ap (λ l. texts_from 0 handed ++ l) (g.are (items_of handed) (both-few handed last given few small)
+    (d.due.stands small).2).0
+    ∙ sym (texts-append handed last) in
+    record {
+      handed = handed ++ last;
+      totals = totals;
+      are_received = all.0;
+      are = sym (append_assoc done g.texts (Note (totals_text counts_now totals) ∷ []))
+          ∙ (λ i. texts i ++ Note (slips_text totals.slips
+          ++ report_end_text (all.1.good i) (all.1.bad i) (all.1.fixed i) totals.bits) ∷ []);
+      is_outcome = subst (λ (n : ℕ). IsOutcome n by) all.1.bad is;
+    }

@@ -1,10 +1,10 @@
 -- What `soak` counts of the items that it receives.
-use Rattle.std.proofs.Common.{◌≡◌, inl, inr, ℕ, ◌+◌, ◌*◌, ◌<◌, ◌≤◌, ◌^◌, Bool, true, false, cond, List, [], ◌++◌, length, take, Some, None, Result, Ok, Err, IsErrOf, IsOk, IsTrue, refl, sym, ap, ◌∙◌, subst, arith, length-append, length-take}
+use Rattle.std.proofs.Common.{◌≡◌, inl, inr, ℕ, ◌+◌, ◌*◌, ◌≤◌, Bool, true, false, cond, List, [], ◌++◌, length, take, Some, Result, Ok, Err, IsErrOf, IsOk, IsTrue, refl, sym, ap, ◌∙◌, subst, arith, length-append, length-take}
 use Rattle.rand_pcg.specs.Lcg.{Lcg}
 use Rattle.tm_base.specs.Outside.{Rose}
 use Rattle.tm_base.specs.Pieces.{further}
-use Rattle.tm_base.specs.Takers.{HandedOver}
-use Rattle.tm_base.specs.Handed.{Handed, Phase, Item, items_of}
+use Rattle.tm_base.specs.Limits.{most_limit}
+use Rattle.tm_base.specs.Handed.{Handed, items_of}
 use Rattle.tm_base.specs.Written.{Wrote, WrotePrefix}
 use Rattle.tm_config.specs.Accepted.{IsAccepted}
 use Rattle.tm_config.specs.Configuration.{Configuration, word_length, codeblock_length}
@@ -16,22 +16,19 @@ use Rattle.tm_inner.specs.Symbols.{symbols_of_octets}
 use Rattle.tm_inner.proofs.Symbols.{symbols-go_on, symbols-none}
 use Rattle.tm_channel.specs.Items.{ItemValue}
 use Rattle.tm_channel.specs.declared.totals.Totals.{Totals}
-use Rattle.tm_channel.specs.Handing.{AreReceived, AreReceivedDue}
-use Rattle.tm_channel.specs.OctetReceiving.{OctetReceiving, ReceiverStandsFor}
+use Rattle.tm_channel.specs.Handing.{AreReceived}
+use Rattle.tm_channel.specs.OctetReceiving.{FeedHands, FinishHands, OctetReceiving, ReceiverStandsFor}
 use Rattle.tm_cli.specs.Generated.{drawn, draw_count, generated_unit, generated_units, generated}
 use Rattle.tm_cli.specs.HeldSymbols.{HeldSymbols}
 use Rattle.tm_cli.specs.Lines.{report_end_text}
 use Rattle.tm_cli.specs.Receiving.{HandedDue}
-use Rattle.tm_cli.specs.Report.{good, bad, fixed}
-use Rattle.tm_cli.specs.Soak.{CountedHanded, counts_of, IsSoakLine}
-use Rattle.tm_driver.specs.Courses.{SinkState}
-use Rattle.tm_driver.proofs.HandedAlong.{handed-along}
-use Rattle.tm_cli.specs.Taken.{no_counts, ReportedHanded}
+use Rattle.tm_cli.specs.Soak.{IsSoakLine}
+use Rattle.tm_cli.specs.Taken.{AreCounted, CountedHanded, no_counts}
 use Rattle.tm_cli.specs.declared.counts.Counts.{Counts}
 use Rattle.tm_cli.proofs.FewSymbols.{length-further}
 use Rattle.tm_cli.proofs.Generating.{units-none, units-more}
-use Rattle.tm_cli.proofs.Received.{due-none, due-more, few-received, all-handed}
-use Rattle.tm_cli.proofs.Reporting.{report-wrote}
+use Rattle.tm_cli.proofs.Received.{all-handed, due-more, due-none}
+use Rattle.tm_cli.proofs.GivenTexts.{counted-over}
 
 -- ---- one unit
 
@@ -80,64 +77,50 @@ unit-sent sender given unit (Err Stopped) before now new small stands fresh stop
 
 -- and what is due for it is received
 pub unit-received : (c : Configuration) (sender sender_now : InnerSending) (receiver receiver_now : OctetReceiving)
-    (start counts counts_now : Counts) (given unit octets : List ℕ)
-    (before now : HeldSymbols) (more : List (Handed ItemValue)) → before ≡ record { octets = []; is_full = false }
-    → octets ≡ now.octets
+    (counts counts_now : Counts) (given unit octets : List ℕ) (before now : HeldSymbols)
+    → before ≡ record { octets = []; is_full = false } → octets ≡ now.octets
     → InnerSends sender sender_now (Some before.octets) (Some now.octets) unit → InnerSenderStandsFor sender given
-    → receiver_now.config ≡ receiver.config → HandedOver CountedHanded counts more counts_now
-    → ((given : List ℕ) (done : List (Handed ItemValue)) → length given + length octets < 2 ^ 60
-    → ReceiverStandsFor receiver given done
-    → ReceiverStandsFor receiver_now (given ++ octets) (done ++ more)
-    × AreReceivedDue receiver.config (given ++ octets) (done ++ more))
-    → HandedDue c receiver (λ handed. HandedOver CountedHanded start handed counts)
-    (symbols_of_octets sender.config given)
-    → HandedDue c receiver_now (λ handed. HandedOver CountedHanded start handed counts_now)
-    (symbols_of_octets sender.config (given ++ unit))
-unit-received c sender sender_now receiver receiver_now start counts counts_now given unit octets before now more new
-    is sends stands same handed goes_on was =
-    let fed = due-more CountedHanded c receiver receiver_now start counts counts_now
-    (symbols_of_octets sender.config given) octets more same handed goes_on was in
+    → receiver_now.config ≡ receiver.config
+    → FeedHands CountedHanded receiver receiver_now counts counts_now octets
+    → HandedDue c receiver counts (symbols_of_octets sender.config given)
+    → HandedDue c receiver_now counts_now (symbols_of_octets sender.config (given ++ unit))
+unit-received c sender sender_now receiver receiver_now counts counts_now given unit octets before now new is sends
+    stands same handed was =
+    let fed = due-more c receiver receiver_now counts counts_now (symbols_of_octets sender.config given) octets
+    handed.0 same handed.2 (counted-over handed.0 counts counts_now handed.1) was in
     let wrote = subst (λ (b : HeldSymbols). Wrote (Some b.octets) (Some now.octets)
     (further (symbols_of_octets sender.config) given unit)) new (sends.fed.written given stands) in
     let all = ap (λ (l : List ℕ). symbols_of_octets sender.config given ++ l) is
     ∙ symbols-are sender.config given unit now.octets wrote in
-    subst (HandedDue c receiver_now (λ handed. HandedOver CountedHanded start handed counts_now)) all fed
+    subst (HandedDue c receiver_now counts_now) all fed
 
 -- ---- all units
 
 pub handed-none : (c : Configuration) (hits : ℕ) (receiver : OctetReceiving) → IsAccepted c → receiver.config ≡ c
     → ReceiverStandsFor receiver [] []
-    → (g : _) → HandedDue c receiver (λ handed. HandedOver CountedHanded no_counts handed no_counts)
-    (symbols_of_octets c (generated_units c 0 hits g))
+    → (g : _) → HandedDue c receiver no_counts (symbols_of_octets c (generated_units c 0 hits g))
 handed-none c hits receiver accepted same stands g =
     let none : [] ≡ symbols_of_octets c (generated_units c 0 hits g) =
     sym (ap (symbols_of_octets c) (units-none c hits g) ∙ symbols-none c) in
-    subst (HandedDue c receiver (λ handed. HandedOver CountedHanded no_counts handed no_counts)) none
-    (due-none CountedHanded c receiver no_counts accepted same stands)
+    subst (HandedDue c receiver no_counts) none (due-none c receiver accepted same stands)
 
 -- one more, for a sender of the same configuration
 pub handed-more : (c : Configuration) (hits frame : ℕ) (g at : Lcg) (sender : InnerSending)
     (receiver receiver_now : OctetReceiving) (counts counts_now : Counts) (unit : List ℕ)
     → sender.config ≡ c → at ≡ drawn (frame * draw_count c hits) g → unit ≡ generated_unit c hits at
-    → HandedDue c receiver (λ handed. HandedOver CountedHanded no_counts handed counts)
-    (symbols_of_octets c (generated_units c frame hits g))
-    → (HandedDue c receiver (λ handed. HandedOver CountedHanded no_counts handed counts)
-    (symbols_of_octets sender.config (generated_units c frame hits g))
-    → HandedDue c receiver_now (λ handed. HandedOver CountedHanded no_counts handed counts_now)
-    (symbols_of_octets sender.config (generated_units c frame hits g ++ unit)))
-    → HandedDue c receiver_now (λ handed. HandedOver CountedHanded no_counts handed counts_now)
-    (symbols_of_octets c (generated_units c (frame + 1) hits g))
+    → HandedDue c receiver counts (symbols_of_octets c (generated_units c frame hits g))
+    → (HandedDue c receiver counts (symbols_of_octets sender.config (generated_units c frame hits g))
+    → HandedDue c receiver_now counts_now (symbols_of_octets sender.config (generated_units c frame hits g ++ unit)))
+    → HandedDue c receiver_now counts_now (symbols_of_octets c (generated_units c (frame + 1) hits g))
 handed-more c hits frame g at sender receiver receiver_now counts counts_now unit same stand is was goes_on =
-    let before = subst (λ (k : Configuration). HandedDue c receiver
-    (λ handed. HandedOver CountedHanded no_counts handed counts)
+    let before = subst (λ (k : Configuration). HandedDue c receiver counts
     (symbols_of_octets k (generated_units c frame hits g))) (sym same) was in
     let all : symbols_of_octets sender.config (generated_units c frame hits g ++ unit)
     ≡ symbols_of_octets c (generated_units c (frame + 1) hits g) =
     ap (λ (k : Configuration). symbols_of_octets k (generated_units c frame hits g ++ unit)) same
     ∙ ap (λ (l : List ℕ). symbols_of_octets c (generated_units c frame hits g ++ l)) is
     ∙ ap (symbols_of_octets c) (units-more c frame hits g at stand) in
-    subst (HandedDue c receiver_now (λ handed. HandedOver CountedHanded no_counts handed counts_now)) all
-    (goes_on before)
+    subst (HandedDue c receiver_now counts_now) all (goes_on before)
 
 -- a unit is so long
 pub unit_few : (c : Configuration) (depth word : ℕ) → IsAccepted c → depth ≡ c.depth → word ≡ word_length c
@@ -157,55 +140,29 @@ units-long c frame hits g at unit stand is small few =
     ∙ ap length (units-more c frame hits g at stand) in
     omega (arith, both, small, few, length-append (generated_units c frame hits g) unit)
 
--- ---- counts
+-- ---- the end
 
--- a sink that says nothing
-abbrev silent : Counts → SinkState
-silent _ = record { taken = None; faults = 0 }
-
-reported : (a : Counts) (h : Handed ItemValue) (b : Counts) → CountedHanded a h b
-    → ReportedHanded (silent a) (silent b) a b h
-reported a (Phase skip cost) b same = (same, record { written = refl; same = refl })
-reported a (Item item) b one =
-    record { line = record { written = refl; same = refl }; counted = one.counted; few = one.few }
-
-counted-all : (handed : List (Handed ItemValue)) (counts : Counts) → length (items_of handed) < 2 ^ 53
-    → HandedOver CountedHanded no_counts handed counts → counts ≡ counts_of (items_of handed)
-counted-all handed counts few over =
-    let items = items_of handed in
-    let all = report-wrote silent (λ (k : Counts). k) handed no_counts counts refl few
-    (handed-along CountedHanded (λ a h b. ReportedHanded (silent a) (silent b) a b h) reported handed no_counts counts
-    over) in
-    let goods : counts.good ≡ good items = all.good ∙ omega arith in
-    let bads : counts.bad ≡ bad items = all.bad ∙ omega arith in
-    let fixeds : counts.fixed ≡ fixed items = all.fixed ∙ omega arith in
-    ap (λ (n : ℕ). record { good = n; bad = counts.bad; fixed = counts.fixed }) goods
-    ∙ ap (λ (n : ℕ). record { good = good items; bad = n; fixed = counts.fixed }) bads
-    ∙ ap (λ (n : ℕ). record { good = good items; bad = bad items; fixed = n }) fixeds
-
--- at the end all items of the octets are counted
+-- all items of the octets are counted
 pub all-counted : (c : Configuration) (receiver : OctetReceiving) (counts now : Counts) (octets : List ℕ)
-    (last : List (Handed ItemValue)) (totals : Totals) → length octets < 2 ^ 40
-    → HandedDue c receiver (λ handed. HandedOver CountedHanded no_counts handed counts) octets
-    → HandedOver CountedHanded counts last now
-    → ((given : List ℕ) (done : List (Handed ItemValue)) → ReceiverStandsFor receiver given done
-    → AreReceived receiver.config given (done ++ last) totals)
-    → (handed : List (Handed ItemValue)) × AreReceived c octets handed totals × (now ≡ counts_of (items_of handed))
-all-counted c receiver counts now octets last totals few was more finish =
-    let all = all-handed CountedHanded c receiver no_counts counts now octets last totals
-    (omega (arith, few)) was more finish in
-    (all.0, all.1, counted-all all.0 now (omega (arith, few, few-received c totals octets all.0 all.1)) all.2)
+    (totals : Totals) → length octets ≤ most_limit → HandedDue c receiver counts octets
+    → FinishHands CountedHanded receiver counts now totals
+    → (handed : List (Handed ItemValue)) × AreReceived c octets handed totals × AreCounted (items_of handed) now
+all-counted c receiver counts now octets totals few was more =
+    let all = all-handed c receiver counts now octets more.0 totals few more.2
+    (counted-over more.0 counts now more.1) was in
+    (was.handed ++ more.0, all.0, all.1)
 
 -- ---- the line
 
 pub counted-line : (c : Configuration) (seed frames hits : ℕ) (totals : Totals) (counts : Counts)
     → ((handed : List (Handed ItemValue)) × AreReceived c (generated c seed frames hits) handed totals
-    × (counts ≡ counts_of (items_of handed)))
+    × AreCounted (items_of handed) counts)
     → IsSoakLine c seed frames hits (report_end_text counts.good counts.bad counts.fixed totals.bits)
 counted-line c seed frames hits totals counts counted =
     record {
       handed = counted.0;
       totals = totals;
       are_received = counted.1;
-      is_line = ap (λ (k : Counts). report_end_text k.good k.bad k.fixed totals.bits) counted.2;
+      is_line =
+          (λ i. report_end_text (counted.2.good i) (counted.2.bad i) (counted.2.fixed i) totals.bits);
     }

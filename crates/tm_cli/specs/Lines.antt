@@ -1,9 +1,11 @@
 -- The lines of a report, and of a refusal, each ended by one line feed.
 use Rattle.std.specs.Prelude.{ℕ, Bool, if◌then◌else◌, List, [], ◌∷◌, ◌++◌, codes, decimal, flat_map}
-use Rattle.tm_driver.specs.Lines.{line_end}
+use Rattle.tm_driver.specs.Lines.{line_end, slips_text}
 use Rattle.tm_rs.specs.declared.answers.Answer.{Answer}
 use Rattle.tm_rs.specs.declared.answers.Answer.TheVariants.{Fixed, Beyond}
+use Rattle.tm_channel.specs.declared.totals.Totals.{Totals}
 use Rattle.tm_channel.specs.Items.{ItemValue}
+use Rattle.tm_cli.specs.declared.counts.Counts.{Counts}
 
 -- that the words are refused, for this reason
 abbrev pub refusal_text : List ℕ → List ℕ
@@ -42,3 +44,8 @@ abbrev pub report_end_text : (good bad fixed bits : ℕ) → List ℕ
 report_end_text good bad fixed bits =
     codes "frames " ++ decimal good ++ codes " bad " ++ decimal bad ++ codes " fixed "
     ++ decimal fixed ++ codes " bits " ++ decimal bits ++ line_end
+
+-- the same with how often octets were dropped before it, where the phase is followed
+abbrev pub totals_text : Counts → Totals → List ℕ
+totals_text counts totals = slips_text totals.slips
+    ++ report_end_text counts.good counts.bad counts.fixed totals.bits

@@ -1,7 +1,7 @@
 -- The command `soak`: generated frames, and what is received of them.
-use Rattle.std.specs.Prelude.{◌≡◌, ℕ, ◌*◌, ◌^◌, ◌≤◌, if◌then◌else◌, nat_le, nat_lt, List, [], codes, Option, Some, None}
-use Rattle.tm_config.specs.Configuration.{longest_codeblock, Configuration, correctable}
-use Rattle.tm_base.specs.Handed.{Handed, items_of, on_handed}
+use Rattle.std.specs.Prelude.{◌≡◌, ℕ, ◌*◌, ◌^◌, if◌then◌else◌, nat_le, nat_lt, List, [], codes, Option, Some, None}
+use Rattle.tm_config.specs.Configuration.{Configuration, correctable}
+use Rattle.tm_base.specs.Handed.{Handed, items_of}
 use Rattle.tm_channel.specs.declared.totals.Totals.{Totals}
 use Rattle.tm_channel.specs.Items.{ItemValue}
 use Rattle.tm_channel.specs.Handing.{AreReceived}
@@ -9,9 +9,7 @@ use Rattle.tm_base.specs.Written.{Wrote}
 use Rattle.tm_driver.specs.Meaning.{Meaning}
 use Rattle.tm_cli.specs.Decode.{HasBad}
 use Rattle.tm_cli.specs.Generated.{generated}
-use Rattle.tm_cli.specs.Report.{good, bad, fixed, fixed_of, counts_text}
-use Rattle.tm_cli.specs.Taken.{counts_after}
-use Rattle.tm_cli.specs.declared.counts.Counts.{Counts}
+use Rattle.tm_cli.specs.Report.{counts_text}
 use Rattle.tm_cli.specs.declared.soak_refusal.SoakRefusal.{SoakRefusal}
 use Rattle.tm_cli.specs.declared.soak_refusal.SoakRefusal.TheVariants.{Seed, Frames, Hits}
 
@@ -35,20 +33,6 @@ abbrev pub soak_reason : SoakRefusal → List ℕ
 soak_reason Seed = codes "seed"
 soak_reason Frames = codes "frames"
 soak_reason Hits = codes "hits"
-
--- an item was counted
-pub record Counted (was : Counts) (item : ItemValue) (counts : Counts) : Type 0 where
-  pub counted : counts ≡ counts_after was item.answers
-  pub few : fixed_of item.answers ≤ longest_codeblock
-
--- an item was counted, and no phase
-abbrev pub CountedHanded : Counts → Handed ItemValue → Counts → Type 0
-CountedHanded was handed counts = on_handed
-    (λ before skip cost now. now ≡ before) Counted was handed counts
-
--- what is counted of items
-abbrev pub counts_of : List ItemValue → Counts
-counts_of items = record { good = good items; bad = bad items; fixed = fixed items }
 
 -- the last line of the report of all items that are received of the generated frames
 pub record IsSoakLine (c : Configuration) (seed frames hits : ℕ) (line : List ℕ) : Type 0 where

@@ -1,15 +1,18 @@
--- What the takers of items and of windows write and count.
-use Rattle.std.specs.Prelude.{◌≡◌, ◌⊎◌, ℕ, ◌+◌, ◌≤◌, if◌then◌else◌, List, [], ◌∷◌, ◌++◌, length}
+-- What the takers of items give and count.
+use Rattle.std.specs.Prelude.{◌≡◌, ℕ, ◌+◌, ◌*◌, ◌≤◌, if◌then◌else◌, List, [], ◌∷◌, ◌++◌, length}
 use Rattle.tm_base.specs.Count.{raised_by}
-use Rattle.tm_base.specs.Handed.{Handed, Phase, Item, items_of}
+use Rattle.tm_base.specs.Handed.{Handed, Phase, Item, items_of, on_handed}
+use Rattle.tm_base.specs.Takers.{HandedOver}
 use Rattle.tm_config.specs.Configuration.{longest_codeblock}
 use Rattle.tm_rs.specs.declared.answers.Answer.{Answer}
+use Rattle.tm_channel.specs.declared.totals.Totals.{Totals}
 use Rattle.tm_channel.specs.Items.{ItemValue, are_fixed, frames_of}
-use Rattle.tm_driver.specs.Courses.{SinkState}
 use Rattle.tm_driver.specs.Lines.{phase_text}
-use Rattle.tm_driver.specs.Texts.{TookText, BrokeText}
+use Rattle.tm_driver.specs.Writing.{Text, Out, Note}
+use Rattle.tm_driver.specs.declared.ending.Outcome.{Outcome}
+use Rattle.tm_driver.specs.declared.ending.Outcome.TheVariants.{Done, Bad, LeftOver}
 use Rattle.tm_cli.specs.Lines.{item_text}
-use Rattle.tm_cli.specs.Report.{fixed_of, good, bad, fixed, handed_item_text, items_text}
+use Rattle.tm_cli.specs.Report.{fixed_of, good, bad, fixed, items_end_text}
 use Rattle.tm_cli.specs.declared.counts.Counts.{Counts}
 
 -- before the first item
@@ -28,49 +31,55 @@ counts_after counts answers = record {
   fixed = raised_by (fixed_of answers) counts.fixed;
 }
 
--- the line of an item was taken, and the item counted
-pub record Reported (before now : SinkState) (was counts : Counts) (item : ItemValue) : Type 0 where
-  pub line : TookText before now (item_text (number_of was) item)
+-- an item was counted
+pub record Counted (was : Counts) (item : ItemValue) (counts : Counts) : Type 0 where
   pub counted : counts ≡ counts_after was item.answers
   pub few : fixed_of item.answers ≤ longest_codeblock
 
--- the same of an item, or the line of the phase was taken, and nothing counted
-abbrev pub ReportedHanded : (before now : SinkState) → (was counts : Counts) → Handed ItemValue
-    → Type 0
-ReportedHanded before now was counts (Phase skip cost) = (counts ≡ was)
-    × TookText before now (phase_text skip cost)
-ReportedHanded before now was counts (Item item) = Reported before now was counts item
+-- an item was counted, and no phase
+abbrev pub CountedHanded : Counts → Handed ItemValue → Counts → Type 0
+CountedHanded = on_handed (λ before skip cost now. now ≡ before) Counted
 
--- the same of all, one after the other
-pub record ReportedAll (before now : SinkState) (was counts : Counts) (handed : List
-    (Handed ItemValue)) : Type 0 where
-  pub lines : TookText before now (items_text (was.good + was.bad) handed)
-  pub good : counts.good ≡ was.good + good (items_of handed)
-  pub bad : counts.bad ≡ was.bad + bad (items_of handed)
-  pub fixed : counts.fixed ≡ was.fixed + fixed (items_of handed)
+-- what is counted of items
+pub record AreCounted (items : List ItemValue) (counts : Counts) : Type 0 where
+  pub good : counts.good ≡ good items
+  pub bad : counts.bad ≡ bad items
+  pub fixed : counts.fixed ≡ fixed items
+  pub few : counts.fixed ≤ longest_codeblock * length items
+
+-- the frame of an item was given and then its line, and the item counted
+pub record Reported {T : Type 0} (took : T → Text → T → Type 0) (was counts : Counts)
+    (before now : T) (item : ItemValue) : Type 0 where
+  pub given : HandedOver took before
+      (Out item.frame ∷ Note (item_text (number_of was) item) ∷ []) now
+  pub counted : Counted was item counts
+
+-- the line of the phase was given, and nothing counted
+abbrev pub reported_phase : {T : Type 0} → (T → Text → T → Type 0) → (was counts : Counts)
+    → (before now : T) → (skip cost : ℕ) → Type 0
+reported_phase took was counts before now skip cost =
+    took before (Note (phase_text skip cost)) now × (counts ≡ was)
+
+-- the texts of what was handed over, with the items numbered from `number` on: the line of the
+-- phase, and of each item its frame and then its line
+abbrev pub texts_from : ℕ → List (Handed ItemValue) → List Text
+texts_from number [] = []
+texts_from number (Phase skip cost ∷ handed) = Note (phase_text skip cost)
+    ∷ texts_from number handed
+texts_from number (Item item ∷ handed) = Out item.frame ∷ Note (item_text number item)
+    ∷ texts_from (number + 1) handed
+
+-- all texts of what was handed over of octets that come to this
+abbrev pub all_texts : List (Handed ItemValue) → Totals → List Text
+all_texts handed totals =
+    texts_from 0 handed ++ Note (items_end_text (items_of handed) totals) ∷ []
+
+-- what came of an input in which this many codeblocks have an uncorrectable column
+abbrev pub IsOutcome : (bad : ℕ) → Outcome → Type 0
+IsOutcome bad Done = bad ≡ 0
+IsOutcome bad Bad = bad ≡ 0 → ⊥
+IsOutcome bad LeftOver = ⊥
 
 -- the frames of the items of what was handed over
 abbrev pub handed_frames : List (Handed ItemValue) → List ℕ
 handed_frames handed = frames_of (items_of handed)
-
--- After the frames and lines of `prefix`, a sink failed: the one of the frames in the frame of
--- `next`, and then its line was not begun, or the one of the lines in its line, and then its frame
--- was taken. A phase has no frame.
-abbrev pub DecodingBrokeAt : (out out_now : SinkState) → Type 0 → (notes notes_now : SinkState)
-    → Type 0 → List (Handed ItemValue) → Handed ItemValue → Type 0
-DecodingBrokeAt out out_now out_last notes notes_now notes_last prefix next =
-    (BrokeText out out_now out_last (handed_frames prefix) (handed_frames (next ∷ []))
-    × TookText notes notes_now (items_text 0 prefix))
-    ⊎ (TookText out out_now (handed_frames (prefix ++ next ∷ []))
-    × BrokeText notes notes_now notes_last (items_text 0 prefix) (handed_item_text
-    (length (items_of prefix)) next))
-
--- a sink failed in the frame or in the line of one of the items, or in the line of the phase
-pub record DecodingBroke (out out_now : SinkState) (out_last : Type 0)
-    (notes notes_now : SinkState) (notes_last : Type 0) (handed : List
-    (Handed ItemValue)) : Type 0 where
-  pub prefix : List (Handed ItemValue)
-  pub next : Handed ItemValue
-  pub rest : List (Handed ItemValue)
-  pub split : handed ≡ prefix ++ next ∷ rest
-  pub broke : DecodingBrokeAt out out_now out_last notes notes_now notes_last prefix next

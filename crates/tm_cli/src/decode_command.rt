@@ -5,13 +5,56 @@ ghost use Rattle.tm_driver.specs.Answered.{Answered, AnsweredAlone};
 ghost use Rattle.tm_driver.specs.Courses.{sink_call, source_call};
 
 use crate::counts::Counts;
-use crate::receiving::receive;
-use crate::takers::{Decoding, Report};
+use crate::receiving::{finish, receive};
+use crate::reporting::{Reporting, end_report};
 use std::alloc::Global;
 use std::thread::Threads;
 use tm_base::{NoMemory, Sink, Source, SureSink};
-use tm_channel::{Config, received_law};
-use tm_driver::Ending;
+use tm_channel::{Config, Receiver, received_law};
+use tm_driver::{Ending, Outcome, Stage, TextTaker, drive_stage};
+
+// A receiver, its threads, and what is counted of the items that it has handed over.
+#[derive(Drop)]
+struct Decoding<'a, R> {
+    rt: &'a R,
+    receiver: Receiver,
+    counts: Counts,
+}
+
+impl<'a, R: Threads + Sync> Stage for Decoding<'a, R> {
+    ghost use Rattle.std.specs.Prelude.{◌≡◌, false};
+    ghost use Rattle.std.specs.Thread.{IsSync};
+    ghost use Rattle.tm_cli.specs.Receiving.{Decodes, DecodesAll, IsByAll};
+
+    ghost stands = { λ s t octets texts. Decodes s.receiver.config t.receiver t.counts octets texts };
+
+    ghost stopped = { λ s t octets texts. ⊥ };
+
+    ghost finished = { λ s t octets texts outcome. DecodesAll s.receiver.config octets texts outcome };
+
+    ghost is_ready = { λ t. IsSync R.row × (t.receiver.has_stopped ≡ false) × IsByAll t.receiver };
+
+    fn feed<W: TextTaker>(&mut self, piece: &[u8], texts: &mut W) -> bool {
+        let mut reporting = Reporting {
+            texts,
+            counts: self.counts,
+        };
+        receive(self.rt, &mut self.receiver, piece, &mut reporting);
+        let Reporting { texts: _, counts } = reporting;
+        self.counts = counts;
+        true
+    }
+
+    fn finish<W: TextTaker>(&mut self, texts: &mut W) -> Outcome {
+        let mut reporting = Reporting {
+            texts,
+            counts: self.counts,
+        };
+        let totals = finish(self.rt, &mut self.receiver, &mut reporting);
+        let Reporting { texts, counts } = reporting;
+        end_report(texts, counts, totals)
+    }
+}
 
 /// Writes the frame of each codeblock that is found in the soft octets of the source, up to the limit in octets, and
 /// after it a line of the report on the notes; at the end of the input it writes the end of the report. Where the
@@ -32,20 +75,15 @@ pub fn decode<R: Threads + Sync, S: Source, O: Sink, N: Sink>(
     ensures memory { OnErr result ((source.new ≡ source.old) × (out.new ≡ out.old) × (notes.new ≡ notes.old)) }
 {
     received_law();
-    let report = Report {
-        lines: notes,
+    let Ok(receiver) = Receiver::open(alloc, *config) else {
+        return Err(NoMemory);
+    };
+    let mut decoding = Decoding {
+        rt,
+        receiver,
         counts: Counts::new(),
     };
-    let mut decoding = Decoding { out, report };
-    let ended = receive(rt, alloc, config, source, &mut decoding);
-    let Decoding {
-        out: _,
-        report: Report {
-            lines: _,
-            counts: _,
-        },
-    } = decoding;
-    ended
+    Ok(drive_stage(config.limit(), source, &mut decoding, out, notes))
 }
 
 /// Writes the report alone. Otherwise as `decode`.

@@ -2,9 +2,10 @@
 ghost use Rattle.std.specs.Prelude.{◌≡◌, ◌+◌, ◌*◌, ◌≤◌, ◌++◌, length, flat_map, OnOk, OnErr};
 ghost use Rattle.tm_base.specs.Outside.{HasCause};
 ghost use Rattle.tm_base.specs.Written.{Wrote, WrotePrefix};
-ghost use Rattle.tm_driver.specs.Lines.{line_room, slips_text};
-ghost use Rattle.tm_cli.specs.Lines.{marker_text, answer_room, answer_text, answers_text, item_text, report_end_text};
+ghost use Rattle.tm_driver.specs.Lines.{line_room};
+ghost use Rattle.tm_cli.specs.Lines.{marker_text, answer_room, answer_text, answers_text, item_text, report_end_text, totals_text};
 
+use crate::counts::Counts;
 use tm_base::{Failed, Sink};
 use tm_channel::{Answer, Item, Totals};
 use tm_driver::{Line, add_slips};
@@ -62,14 +63,11 @@ fn add_answers(line: &mut Line, answers: &[Answer])
     }
 }
 
-/// Writes what was received at a place, the item of this number: `frame K at P marker D words A1 .. AI`, where
-/// `bridged` stands for `marker` at a place where none matched, ` inverted` after D of an inverted codeblock, x for a
-/// column that is uncorrectable, and `uncoded` for the columns with no outer code. `Failed` comes only where the sink's
-/// count of faults rose.
-pub fn frame_line<O: Sink>(out: &mut O, number: u64, item: &Item<'_>) -> Result<(), Failed>
-    ensures ok { OnOk result (Wrote (O.taken out.old) (O.taken out.new) (item_text number item.now)) }
-    ensures err { OnErr result (WrotePrefix (O.taken out.old) (O.taken out.new) (item_text number item.now)) }
-    ensures cause { HasCause (O.faults out.old) (O.faults out.new) (O.is_last out.new) result }
+/// What was received at a place, the item of this number: `frame K at P marker D words A1 .. AI`, where `bridged` stands
+/// for `marker` at a place where none matched, ` inverted` after D of an inverted codeblock, x for a column that is
+/// uncorrectable, and `uncoded` for the columns with no outer code.
+pub fn item_text(number: u64, item: &Item<'_>) -> Line
+    ensures { result ≡ item_text number item.now }
 {
     let mut line = Line::new();
     line.text(b"frame ");
@@ -79,7 +77,17 @@ pub fn frame_line<O: Sink>(out: &mut O, number: u64, item: &Item<'_>) -> Result<
     add_marker(&mut line, item.bridged, item.distance, item.inverted);
     add_answers(&mut line, item.answers);
     line.text(b"\n");
-    line.put(out)
+    line
+}
+
+/// Writes what was received at a place, the item of this number. `Failed` comes only where the sink's count of faults
+/// rose.
+pub fn frame_line<O: Sink>(out: &mut O, number: u64, item: &Item<'_>) -> Result<(), Failed>
+    ensures ok { OnOk result (Wrote (O.taken out.old) (O.taken out.new) (item_text number item.now)) }
+    ensures err { OnErr result (WrotePrefix (O.taken out.old) (O.taken out.new) (item_text number item.now)) }
+    ensures cause { HasCause (O.faults out.old) (O.faults out.new) (O.is_last out.new) result }
+{
+    item_text(number, item).put(out)
 }
 
 /// Writes the end of a report: `frames G bad B fixed S bits N`, with the codeblocks without and with an uncorrectable
@@ -116,23 +124,19 @@ fn add_frames(line: &mut Line, good: u64, bad: u64, fixed: u64, bits: u64)
     line.text(b"\n");
 }
 
-/// Writes the end of a report with `slips N` before it, before how many windows octets were dropped, where the symbol
-/// phase is followed. `Failed` comes only where the sink's count of faults rose.
-pub fn totals_line<O: Sink>(
-    out: &mut O,
-    good: u64,
-    bad: u64,
-    fixed: u64,
-    totals: Totals,
-) -> Result<(), Failed>
-    ensures ok { OnOk result (Wrote (O.taken out.old) (O.taken out.new)
-        (slips_text totals.slips ++ report_end_text good bad fixed totals.bits)) }
-    ensures err { OnErr result (WrotePrefix (O.taken out.old) (O.taken out.new)
-        (slips_text totals.slips ++ report_end_text good bad fixed totals.bits)) }
-    ensures cause { HasCause (O.faults out.old) (O.faults out.new) (O.is_last out.new) result }
+/// The end of a report with `slips N` before it, before how many windows octets were dropped, where the symbol phase is
+/// followed.
+pub fn totals_text(counts: Counts, totals: Totals) -> Line
+    ensures { result ≡ totals_text counts totals }
 {
     let mut line = Line::new();
     add_slips(&mut line, totals.slips);
-    add_frames(&mut line, good, bad, fixed, totals.bits);
-    line.put(out)
+    add_frames(
+        &mut line,
+        counts.good,
+        counts.bad,
+        counts.fixed,
+        totals.bits,
+    );
+    line
 }

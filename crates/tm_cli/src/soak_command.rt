@@ -1,6 +1,5 @@
 // The command `soak`: generated frames are sent, and what is received of them is counted.
 ghost use Rattle.std.specs.Prelude.{◌≡◌, ◌⊎◌, ◌+◌, ◌*◌, ◌≤◌, ℕ, List, [], ◌++◌, length, false, Option, None, IfOk, OnErr};
-ghost use Rattle.tm_base.specs.Takers.{HandedOver};
 ghost use Rattle.tm_config.specs.Accepted.{IsAccepted};
 ghost use Rattle.tm_config.specs.Configuration.{Configuration, correctable};
 ghost use Rattle.tm_inner.specs.Sending.{InnerSenderStandsFor};
@@ -12,9 +11,8 @@ ghost use Rattle.tm_channel.specs.OctetReceiving.{ReceiverStandsFor};
 ghost use Rattle.tm_cli.specs.Generated.{generated};
 ghost use Rattle.tm_cli.specs.HeldSymbols.{unit_room};
 ghost use Rattle.tm_cli.specs.Receiving.{HandedDue, IsByAll};
-ghost use Rattle.tm_cli.specs.Soak.{soak_meaning, soak_refusal, CountedHanded, counts_of};
-ghost use Rattle.tm_cli.specs.Taken.{no_counts};
-ghost use Rattle.tm_cli.specs.declared.counts.Counts.{Counts};
+ghost use Rattle.tm_cli.specs.Soak.{soak_meaning, soak_refusal};
+ghost use Rattle.tm_cli.specs.Taken.{AreCounted};
 ghost use Rattle.tm_driver.specs.Courses.{SinkWent, sink_call};
 ghost use Rattle.tm_driver.specs.Meaning.{Ends, taken_by};
 ghost use Rattle.tm_driver.specs.Statuses.{is_sink_fault};
@@ -22,41 +20,31 @@ ghost use Rattle.tm_codeblock.specs.Cadu.{longest_cadu};
 
 use crate::counts::Counts;
 use crate::generated::generate_unit;
+use crate::receiving::{finish, receive};
 use crate::report_lines::frames_line;
 use crate::unit_symbols::UnitSymbols;
 use rand_pcg::Lcg64Xsh32;
 use std::alloc::Global;
 use std::thread::Threads;
 use tm_base::{Failed, NoMemory, Sink};
-use tm_channel::{Config, InnerSender, Item, ItemTaker, OpenGate, Receiver, Totals, received_law};
+use tm_channel::{Config, InnerSender, Item, ItemWatch, Receiver, Totals, received_law};
 use tm_codeblock::LONGEST_CADU;
 use tm_driver::Ending;
 
 // Counts the items, and writes none.
-impl ItemTaker for Counts {
+impl ItemWatch for Counts {
     ghost use Rattle.std.specs.Prelude.{◌≡◌};
-    ghost use Rattle.tm_cli.specs.Soak.{Counted};
-
-    ghost faults = { λ _. 0 };
-
-    ghost is_last = { λ _. ⊥ };
+    ghost use Rattle.tm_cli.specs.Taken.{Counted};
 
     ghost took = { Counted };
 
-    ghost broke = { λ _ _ _. ⊥ };
-
     ghost took_phase = { λ a _ _ b. b ≡ a };
 
-    ghost broke_phase = { λ _ _ _ _. ⊥ };
-
-    fn item(&mut self, item: &Item<'_>) -> Result<(), Failed> {
+    fn item(&mut self, item: &Item<'_>) {
         self.add(item.answers);
-        Ok(())
     }
 
-    fn phase(&mut self, _skip: u8, _cost: u64) -> Result<(), Failed> {
-        Ok(())
-    }
+    fn phase(&mut self, _skip: u8, _cost: u64) {}
 }
 
 // Sends a unit, receives its symbols, and counts the items that are due.
@@ -77,18 +65,15 @@ fn pass_unit<R: Threads + Sync>(
         → InnerSenderStandsFor sender.new (given ++ unit.now) }
     ensures ready { receiver.new.has_stopped ≡ false }
     ensures by { IsByAll receiver.new }
-    ensures handed { (c : Configuration) (start : Counts) (given : List ℕ) → InnerSenderStandsFor sender.old given
-        → HandedDue c receiver.old
-        (λ handed. HandedOver CountedHanded start handed counts.old) (symbols_of_octets sender.old.config given)
-        → HandedDue c receiver.new
-        (λ handed. HandedOver CountedHanded start handed counts.new)
-        (symbols_of_octets sender.old.config (given ++ unit.now)) }
+    ensures handed { (c : Configuration) (given : List ℕ) → InnerSenderStandsFor sender.old given
+        → HandedDue c receiver.old counts.old (symbols_of_octets sender.old.config given)
+        → HandedDue c receiver.new counts.new (symbols_of_octets sender.old.config (given ++ unit.now)) }
 {
     let mut symbols = UnitSymbols::new();
     let sent = sender.push(unit, &mut symbols);
     let octets = symbols.octets();
     sent.unwrap();
-    receiver.feed(rt, octets, counts, &OpenGate).unwrap();
+    receive(rt, receiver, octets, counts);
 }
 
 // Sends generated frames, and receives them. Returns what was counted of the items that are due.
@@ -110,8 +95,7 @@ fn pass_frames<R: Threads + Sync>(
     ensures few { length (generated config.now seed frames hits) ≤ unit_room * frames }
     ensures ready { receiver.new.has_stopped ≡ false }
     ensures by { IsByAll receiver.new }
-    ensures handed { HandedDue config.now receiver.new
-        (λ handed. HandedOver CountedHanded no_counts handed result) (generated config.now seed frames hits) }
+    ensures handed { HandedDue config.now receiver.new result (generated config.now seed frames hits) }
 {
     let mut draws = Lcg64Xsh32::new(seed, 0);
     let mut sender = InnerSender::new(config);
@@ -144,10 +128,10 @@ fn count_frames<R: Threads + Sync>(
     ensures by { IsByAll receiver.new }
     ensures counted { (handed : List (Handed ItemValue))
         × AreReceived config.now (generated config.now seed frames hits) handed result.1
-        × (result.0 ≡ counts_of (items_of handed)) }
+        × AreCounted (items_of handed) result.0 }
 {
     let mut counts = pass_frames(rt, config, seed, frames, hits, receiver);
-    let totals = receiver.finish(rt, &mut counts, &OpenGate).unwrap();
+    let totals = finish(rt, receiver, &mut counts);
     (counts, totals)
 }
 

@@ -3,11 +3,12 @@ use std::alloc::{AllocError, Global};
 use std::process::Abort;
 use std::test::Fail;
 use tm_base::{Failed, MemSink};
-use tm_channel::{Answer, Item, ItemTaker, Totals};
+use tm_channel::{Answer, Item, ItemWatch, Totals};
 use tm_cli::{
-    Counts, Decoding, Report, Tally, block_line, blocks_line, end_report, frame_line, frames_line,
+    Counts, Reporting, Tally, block_line, blocks_line, end_report, frame_line, frames_line,
     phase_line,
 };
+use tm_driver::{Outcome, TextTaker, Writer};
 use tm_viterbi::Block;
 
 const MOST: u64 = 18_446_744_073_709_551_615;
@@ -240,6 +241,25 @@ fn writes_where_octets_were_dropped(rt: HostRuntime) -> Result<(), Fail> {
     assert!(rt; block_line(&mut out, after(0, 0), &block_of(300, 64, 0)) == Ok(()));
     block.dropped = 1;
     assert!(rt; block_line(&mut out, after(1, 64), &block) == Ok(()));
+    assert!(rt; out.calls() == 3, "both lines are one piece");
+    let text = "slip 7 at 8192\n\
+        block 1 steps 8448 kept 8192 metric 127\n\
+        block 0 steps 300 kept 64 metric 0\n\
+        slip 1 at 64\n\
+        block 1 steps 8448 kept 8192 metric 127\n";
+    assert!(rt; out.octets() == text.as_bytes());
+    Ok(())
+}
+
+#[test]
+fn reports_how_often_octets_were_dropped(rt: HostRuntime) -> Result<(), Fail> {
+    let mut out = sink(&rt, rt.alloc(), 1024);
+    let mut notes = sink(&rt, rt.alloc(), 1024);
+    let mut writer = Writer {
+        out: &mut out,
+        notes: &mut notes,
+        has_failed: false,
+    };
     let counts = Counts {
         good: 1,
         bad: 0,
@@ -249,23 +269,26 @@ fn writes_where_octets_were_dropped(rt: HostRuntime) -> Result<(), Fail> {
         bits: 296,
         slips: Some(2),
     };
-    assert!(rt; end_report(&mut out, counts, followed) == Ok(true));
+    let first = end_report(&mut writer, counts, followed);
     let none = Totals {
         slips: Some(0),
         ..followed
     };
-    assert!(rt; end_report(&mut out, counts, none) == Ok(true));
-    assert!(rt; out.calls() == 5, "both lines are one piece");
-    let text = "slip 7 at 8192\n\
-        block 1 steps 8448 kept 8192 metric 127\n\
-        block 0 steps 300 kept 64 metric 0\n\
-        slip 1 at 64\n\
-        block 1 steps 8448 kept 8192 metric 127\n\
-        slips 2\n\
+    let second = end_report(&mut writer, counts, none);
+    let Writer {
+        out: _,
+        notes: _,
+        has_failed,
+    } = writer;
+    assert!(rt; !has_failed);
+    assert!(rt; first == Outcome::Done && second == Outcome::Done);
+    assert!(rt; notes.calls() == 2, "both lines are one piece");
+    let text = "slips 2\n\
         frames 1 bad 0 fixed 16 bits 296\n\
         slips 0\n\
         frames 1 bad 0 fixed 16 bits 296\n";
-    assert!(rt; out.octets() == text.as_bytes());
+    assert!(rt; notes.octets() == text.as_bytes());
+    assert!(rt; out.octets().is_empty());
     Ok(())
 }
 
@@ -280,28 +303,41 @@ fn lines_meet_a_full_sink(rt: HostRuntime) -> Result<(), Fail> {
     Ok(())
 }
 
+// Gives the frames and lines of these items. Returns what was counted of them.
+fn report_rows<W: TextTaker>(rt: &impl Abort, rows: &[Row], texts: &mut W) -> Counts {
+    let mut reporting = Reporting {
+        texts,
+        counts: Counts::new(),
+    };
+    for row in rows {
+        reporting.item(&item_of(rt, row));
+    }
+    reporting.counts
+}
+
 #[test]
 fn decodes_frames_and_their_report(rt: HostRuntime) -> Result<(), Fail> {
     let mut out = sink(&rt, rt.alloc(), 1024);
     let mut notes = sink(&rt, rt.alloc(), 1024);
-    let mut decoding = Decoding {
+    let mut writer = Writer {
         out: &mut out,
-        report: Report {
-            lines: &mut notes,
-            counts: Counts::new(),
-        },
+        notes: &mut notes,
+        has_failed: false,
     };
-    for row in &ROWS[..8] {
-        assert!(rt; decoding.item(&item_of(&rt, row)) == Ok(()));
-    }
-    let counts = decoding.report.counts;
+    let counts = report_rows(&rt, &ROWS[..8], &mut writer);
+    let outcome = end_report(&mut writer, counts, plain(1_000_296));
+    let Writer {
+        out: _,
+        notes: _,
+        has_failed,
+    } = writer;
     let wanted = Counts {
         good: 5,
         bad: 3,
         fixed: 62,
     };
     assert!(rt; counts == wanted);
-    assert!(rt; end_report(&mut notes, counts, plain(1_000_296)) == Ok(false));
+    assert!(rt; outcome == Outcome::Bad && !has_failed);
     assert!(rt; out.octets() == [0x7B, 0x7C, 0x7D, 0x7E, 1, 2, 3, 4].as_slice());
     let mut text = lines_of(rt.alloc(), &ROWS[..8])?;
     text.extend_from_slice("frames 5 bad 3 fixed 62 bits 1000296\n".as_bytes())?;
@@ -312,33 +348,53 @@ fn decodes_frames_and_their_report(rt: HostRuntime) -> Result<(), Fail> {
 #[test]
 fn reports_after_the_phase(rt: HostRuntime) -> Result<(), Fail> {
     let mut out = sink(&rt, rt.alloc(), 1024);
-    let mut report = Report {
-        lines: &mut out,
+    let mut notes = sink(&rt, rt.alloc(), 1024);
+    let mut writer = Writer {
+        out: &mut out,
+        notes: &mut notes,
+        has_failed: false,
+    };
+    let mut reporting = Reporting {
+        texts: &mut writer,
         counts: Counts::new(),
     };
-    assert!(rt; report.phase(1, 0) == Ok(()));
-    assert!(rt; report.item(&item_of(&rt, &ROWS[0])) == Ok(()));
-    let counts = report.counts;
-    assert!(rt; end_report(&mut out, counts, plain(296)) == Ok(true));
+    reporting.phase(1, 0);
+    reporting.item(&item_of(&rt, &ROWS[0]));
+    let counts = reporting.counts;
+    let outcome = end_report(&mut writer, counts, plain(296));
+    let Writer {
+        out: _,
+        notes: _,
+        has_failed,
+    } = writer;
+    assert!(rt; outcome == Outcome::Done && !has_failed);
     let text = "phase 1 cost 0\nframe 0 at 0 marker 0 words 0\nframes 1 bad 0 fixed 0 bits 296\n";
-    assert!(rt; out.octets() == text.as_bytes());
+    assert!(rt; notes.octets() == text.as_bytes());
+    assert!(rt; out.octets() == [0x7B].as_slice());
     Ok(())
+}
+
+// What the sinks of these sizes take of three items.
+fn write_three(rt: &impl Abort, out: &mut MemSink, notes: &mut MemSink) -> bool {
+    let mut writer = Writer {
+        out,
+        notes,
+        has_failed: false,
+    };
+    report_rows(rt, &ROWS[..3], &mut writer);
+    let Writer {
+        out: _,
+        notes: _,
+        has_failed,
+    } = writer;
+    has_failed
 }
 
 #[test]
 fn out_fails_in_a_frame(rt: HostRuntime) -> Result<(), Fail> {
     let mut out = sink(&rt, rt.alloc(), 2);
     let mut notes = sink(&rt, rt.alloc(), 1024);
-    let mut decoding = Decoding {
-        out: &mut out,
-        report: Report {
-            lines: &mut notes,
-            counts: Counts::new(),
-        },
-    };
-    assert!(rt; decoding.item(&item_of(&rt, &ROWS[0])) == Ok(()));
-    assert!(rt; decoding.item(&item_of(&rt, &ROWS[1])) == Ok(()));
-    assert!(rt; decoding.item(&item_of(&rt, &ROWS[2])) == Err(Failed));
+    assert!(rt; write_three(&rt, &mut out, &mut notes));
     assert!(rt; out.octets() == [0x7B, 0x7C].as_slice());
     let text = lines_of(rt.alloc(), &ROWS[..2])?;
     assert!(rt; notes.octets() == text.as_slice());
@@ -349,16 +405,7 @@ fn out_fails_in_a_frame(rt: HostRuntime) -> Result<(), Fail> {
 fn notes_fail_in_a_line(rt: HostRuntime) -> Result<(), Fail> {
     let mut out = sink(&rt, rt.alloc(), 1024);
     let mut notes = sink(&rt, rt.alloc(), 70);
-    let mut decoding = Decoding {
-        out: &mut out,
-        report: Report {
-            lines: &mut notes,
-            counts: Counts::new(),
-        },
-    };
-    assert!(rt; decoding.item(&item_of(&rt, &ROWS[0])) == Ok(()));
-    assert!(rt; decoding.item(&item_of(&rt, &ROWS[1])) == Ok(()));
-    assert!(rt; decoding.item(&item_of(&rt, &ROWS[2])) == Err(Failed));
+    assert!(rt; write_three(&rt, &mut out, &mut notes));
     assert!(rt; out.octets() == [0x7B, 0x7C, 0x7D].as_slice());
     let text = lines_of(rt.alloc(), &ROWS[..3])?;
     assert!(rt; notes.octets().len() == 70);

@@ -1,13 +1,10 @@
 use Rattle.std.proofs.Common.{◌≡◌, ◌*◌, ◌≤◌, ◌++◌, length, List, sym, ap, ◌∙◌, subst, arith}
 use Rattle.std.proofs.lemmas.Grind.{common_steps}
-use Rattle.tm_base.specs.Takers.{HandedOver}
 use Rattle.tm_config.specs.Configuration.{codeblock_length}
 use Rattle.tm_inner.specs.Sending.{InnerSenderStandsFor}
 use Rattle.tm_inner.specs.Symbols.{symbols_of_octets}
 use Rattle.tm_cli.specs.Generated.{generator_of, drawn, draw_count, generated_units}
 use Rattle.tm_cli.specs.Receiving.{HandedDue}
-use Rattle.tm_cli.specs.Soak.{CountedHanded}
-use Rattle.tm_cli.specs.Taken.{no_counts}
 use Rattle.tm_cli.specs.declared.counts.Counts.{Counts}
 use Rattle.tm_cli.proofs.FewSymbols.{length-symbols}
 use Rattle.tm_cli.proofs.Generating.{drawn-none, units-none, units-more, draws-frames}
@@ -30,8 +27,7 @@ loop-frame-init g c =
       ready = c.requires.ready;
       by = c.requires.by;
       handed =
-          subst (λ (k : Counts). HandedDue config c.args.receiver.now
-          (λ handed. HandedOver CountedHanded no_counts handed k)
+          subst (λ (k : Counts). HandedDue config c.args.receiver.now k
           (symbols_of_octets config (generated_units config 0 c.args.hits start)))
           (sym c.new-counts.ensures) (handed-none config c.args.hits c.args.receiver.now c.depth.ensures.accepted
           c.requires.config c.requires.new start);
@@ -79,7 +75,7 @@ loop-frame-preserved g c =
       handed =
           handed-more config hits frame start here.draws here.sender here.receiver pass.new.receiver here.counts
           pass.new.counts made.new.unit was.config was.draws made.ensures.unit was.handed
-          (pass.ensures.handed config no_counts (generated_units config frame hits start) was.stands);
+          (pass.ensures.handed config (generated_units config frame hits start) was.stands);
     }
 
 pub returns-clause-few : goal.returns-clause-few
@@ -104,6 +100,5 @@ returns-clause-handed g c =
       c.loop-frame.auto._frame-end,
       c.loop-frame-test.false,
     ) in
-    subst (λ n. HandedDue config c.loop-frame.receiver (λ handed. HandedOver CountedHanded no_counts handed
-    c.loop-frame.counts) (symbols_of_octets config (generated_units config n c.args.hits start)))
-    end c.loop-frame.invariant.handed
+    subst (λ n. HandedDue config c.loop-frame.receiver c.loop-frame.counts
+    (symbols_of_octets config (generated_units config n c.args.hits start))) end c.loop-frame.invariant.handed

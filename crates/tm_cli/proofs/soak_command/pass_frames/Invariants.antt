@@ -1,11 +1,8 @@
 use Rattle.std.proofs.Common.{◌≡◌, ◌*◌, ◌≤◌, length, false}
-use Rattle.tm_base.specs.Takers.{HandedOver}
 use Rattle.tm_inner.specs.Sending.{InnerSenderStandsFor}
 use Rattle.tm_inner.specs.Symbols.{symbols_of_octets}
 use Rattle.tm_cli.specs.Generated.{generator_of, drawn, draw_count, generated_units}
 use Rattle.tm_cli.specs.Receiving.{HandedDue, IsByAll}
-use Rattle.tm_cli.specs.Soak.{CountedHanded}
-use Rattle.tm_cli.specs.Taken.{no_counts}
 use Rattle.tm_cli.proofs.soak_command.pass_frames.Given as goal
 
 abbrev pub invariant-loop-frame : goal.invariant-loop-frame
@@ -17,6 +14,6 @@ invariant-loop-frame g l = record {
   few : length (generated_units l.config l._frame l.hits (generator_of l.seed)) ≤ 2044 * l._frame;
   ready : l.receiver.has_stopped ≡ false;
   by : IsByAll l.receiver;
-  handed : HandedDue l.config l.receiver (λ handed. HandedOver CountedHanded no_counts handed l.counts)
+  handed : HandedDue l.config l.receiver l.counts
       (symbols_of_octets l.config (generated_units l.config l._frame l.hits (generator_of l.seed)));
 }

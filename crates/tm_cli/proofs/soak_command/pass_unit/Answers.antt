@@ -10,12 +10,10 @@ unwrap-requires g c =
     push.ensures.stopped.0 push.ensures.prefix push.ensures.rose c.octets-octets.ensures.full
 
 pub returns-clause-handed : goal.returns-clause-handed
-returns-clause-handed g c = λ config start given stands was.
+returns-clause-handed g c = λ config given stands was.
     let push = c.push-sent in
-    let feed = c.feed in
+    let r = c.receive in
     let sent = IfOk-at_ok _ c.unwrap.ensures push.ensures.sent in
-    let handed = IfOk-at_ok _ c.unwrap-2.ensures feed.ensures.feeds.handed in
-    unit-received config c.args.sender.now push.new.self c.args.receiver.now feed.new.self start c.args.counts.now
-    feed.new.taker given c.args.unit.now c.octets-octets.result.now
-    c.new-symbols.result push.new.out handed.0 c.new-symbols.ensures c.octets-octets.ensures.octets sent stands
-    feed.ensures.feeds.config handed.1 handed.2 was
+    unit-received config c.args.sender.now push.new.self c.args.receiver.now r.new.receiver c.args.counts.now
+    r.new.items given c.args.unit.now c.octets-octets.result.now c.new-symbols.result push.new.out c.new-symbols.ensures
+    c.octets-octets.ensures.octets sent stands r.ensures.config r.ensures.handed was

@@ -1,4 +1,4 @@
-use Rattle.std.proofs.Common.{sym, ap, ◌∙◌}
+use Rattle.std.proofs.Common.{sym, ◌∙◌}
 use Rattle.tm_cli.specs.Generated.{generated}
 use Rattle.tm_cli.specs.Lines.{report_end_text}
 use Rattle.tm_cli.proofs.Reports.{is_bad, not_bad}
@@ -19,7 +19,7 @@ returns-in-Ok-frames_line-clause-ends g c = λ noted.
     (counted-line config c.args.seed c.args.frames c.args.hits totals counts counted)
     c.in-Ok-frames_line.ensures.ok
     (not_bad c.received_law.ensures.one config totals sent counted.0 all.accepted counted.1
-    (ap (λ k. k.bad) (sym counted.2) ∙ c.if-counts-eq0.true))
+    (sym counted.2.bad ∙ c.if-counts-eq0.true))
 
 pub returns-in-Ok-2-clause-ends : goal.returns-in-Ok-2-clause-ends
 returns-in-Ok-2-clause-ends g c = λ noted.
@@ -31,7 +31,7 @@ returns-in-Ok-2-clause-ends g c = λ noted.
     let counted = c.count_frames.ensures.counted in
     soak-bad config c.args.seed c.args.frames c.args.hits line _ _ noted
     (counted-line config c.args.seed c.args.frames c.args.hits totals counts counted) c.in-Ok-2.ensures.ok
-    (is_bad config totals sent counted.0 counted.1 (λ none. c.if-counts-eq0.false (ap (λ k. k.bad) counted.2 ∙ none)))
+    (is_bad config totals sent counted.0 counted.1 (λ none. c.if-counts-eq0.false (counted.2.bad ∙ none)))
 
 pub returns-clause-ends : goal.returns-clause-ends
 returns-clause-ends g c = λ noted.
