@@ -1,20 +1,19 @@
--- Columns of a window, one after the other, and how far they are written.
-use Rattle.std.proofs.Common.{◌≡◌, ℕ, zero, suc, ◌+◌, ◌-◌, ◌<◌, ◌≤◌, ◌∙◌, refl, sym, ap, subst, arith, List, [], ◌∷◌, ◌++◌, Bool, Option, take, drop, length, get_or, length-append, append_assoc, inl, inr}
+-- Columns of a window, one after the other, and those that are given.
+use Rattle.std.proofs.Common.{◌≡◌, ℕ, zero, suc, ◌+◌, ◌-◌, ◌≤◌, ◌∙◌, refl, sym, ap, subst, arith, List, [], ◌∷◌, ◌++◌, Bool, Option, take, drop, length, get_or, length-append, append_assoc, inl, inr}
 use Rattle.std.proofs.lemmas.Bool.{cases_lt}
 use Rattle.std.proofs.lemmas.List.{append-nil, get_or_append_left, length-take-le}
 use Rattle.std.proofs.lemmas.Grind.{flat_map-append}
 use Rattle.std.proofs.Math.Seq.{get_or-append_seam, take-add}
 use Rattle.std.specs.Prelude.{flat_map}
-use Rattle.std.specs.Io.KnownBytes.{append_known}
-use Rattle.tm_base.specs.Written.{Wrote, WrotePrefix}
 use Rattle.tm_conv.specs.declared.rates.Rate.{Rate}
 use Rattle.tm_conv.specs.Path.{step_size, steps_size}
 use Rattle.tm_conv.specs.Columns.{IsColumn}
 use Rattle.tm_conv.proofs.Paths.{steps_size-zero, steps_size-more}
+use Rattle.tm_driver.specs.Writing.{Text, Out, TookOut}
+use Rattle.tm_driver.proofs.Writing.{took_out-more, took_out-one}
 use Rattle.tm_viterbi.specs.Starts.{starts_from}
 use Rattle.tm_cert_file.specs.Window.{column_octets}
 use Rattle.tm_cert_file.specs.Certificate.{AreColumns}
-use Rattle.tm_cert_file.proofs.WrittenPrefixes.{wrote-more, prefix-first, prefix-more}
 use Rattle.tm_conv.proofs.Sizes.{steps_size-le}
 
 -- octets of whole steps have a column
@@ -115,21 +114,22 @@ columns-all exists rate invert starts t steps octets there =
 
 -- ---- what is written of them
 
--- the columns before and after the first steps were taken
-pub record TookColumns (rate : Rate) (invert : Bool) (starts : Option ℕ) (t steps : ℕ) (octets : List ℕ)
-    (taken taken_now : Option (List ℕ)) : Type 0 where
+-- the columns before and after the first steps were given
+pub record TookColumns {T : Type 0} (took : T → Text → T → Type 0) (rate : Rate) (invert : Bool) (starts : Option ℕ)
+    (t steps : ℕ) (octets : List ℕ) (before now : T) : Type 0 where
   pub columns : List (List ℕ)
   pub are : AreColumns rate invert starts t steps octets columns
-  pub wrote : Wrote taken taken_now (flat_map column_octets columns)
+  pub gave : TookOut took before now (flat_map column_octets columns)
 
-pub took-first : (rate : Rate) (invert : Bool) (starts : Option ℕ) (t : ℕ) (octets column : List ℕ)
-    (taken taken_now : Option (List ℕ))
-    → IsColumn (starts_from starts) rate invert t [] column → Wrote taken taken_now (column_octets column)
-    → TookColumns rate invert starts t 0 octets taken taken_now
-took-first rate invert starts t octets column taken taken_now is wrote = record {
+pub took-first : {T : Type 0} (took : T → Text → T → Type 0) (rate : Rate) (invert : Bool) (starts : Option ℕ) (t : ℕ)
+    (octets column : List ℕ) (a b : T) → IsColumn (starts_from starts) rate invert t [] column
+    → took a (Out (column_octets column)) b → TookColumns took rate invert starts t 0 octets a b
+took-first took rate invert starts t octets column a b is gave = record {
   columns = column ∷ [];
   are = columns-first rate invert starts t octets column is;
-  wrote = wrote ∙ ap (append_known taken) (sym (append-nil (column_octets column)));
+  gave =
+      subst (TookOut took a b) (sym (append-nil (column_octets column)))
+      (took_out-one took a b (column_octets column) gave);
 }
 
 flat-push : (columns : List (List ℕ)) (column : List ℕ) → flat_map column_octets (columns ++ column ∷ [])
@@ -138,64 +138,18 @@ flat-push columns column =
     flat_map-append column_octets columns (column ∷ [])
     ∙ ap (λ v. flat_map column_octets columns ++ v) (append-nil (column_octets column))
 
-pub took-push : (rate : Rate) (invert : Bool) (starts : Option ℕ) (t steps : ℕ) (octets column : List ℕ)
-    (taken middle taken_now : Option (List ℕ))
-    → TookColumns rate invert starts t steps octets taken middle
+pub took-push : {T : Type 0} (took : T → Text → T → Type 0) (rate : Rate) (invert : Bool) (starts : Option ℕ)
+    (t steps : ℕ) (octets column : List ℕ) (a b c : T) → TookColumns took rate invert starts t steps octets a b
     → IsColumn (starts_from starts) rate invert t (take (steps_size rate t (steps + 1)) octets) column
-    → Wrote middle taken_now (column_octets column) → TookColumns rate invert starts t
-    (steps + 1) octets taken taken_now
-took-push rate invert starts t steps octets column taken middle taken_now took is wrote = record {
-  columns = took.columns ++ column ∷ [];
-  are = columns-push rate invert starts t steps octets column took.columns took.are is;
-  wrote =
-      wrote-more taken middle taken_now (flat_map column_octets took.columns) (column_octets column) took.wrote wrote
-      ∙ ap (append_known taken) (sym (flat-push took.columns column));
+    → took b (Out (column_octets column)) c → TookColumns took rate invert starts t (steps + 1) octets a c
+took-push took rate invert starts t steps octets column a b c first is gave = record {
+  columns = first.columns ++ column ∷ [];
+  are = columns-push rate invert starts t steps octets column first.columns first.are is;
+  gave =
+      subst (TookOut took a c) (sym (flat-push first.columns column))
+      (took_out-more took a b c (flat_map column_octets first.columns) (column_octets column) first.gave
+      (took_out-one took b c (column_octets column) gave));
 }
-
--- a prefix of all columns was taken
-abbrev pub TookPrefix : Rate → Bool → Option ℕ → ℕ → ℕ → List ℕ → Option (List ℕ) → Option (List ℕ) → Type 0
-TookPrefix rate invert starts t steps octets taken taken_now =
-    (columns : List (List ℕ)) × AreColumns rate invert starts t steps octets columns
-    × WrotePrefix taken taken_now (flat_map column_octets columns)
-
-pub cut-first : HasColumn → (rate : Rate) (invert : Bool) (starts : Option ℕ) (t steps count : ℕ)
-    (octets column : List ℕ) (taken taken_now : Option (List ℕ))
-    → steps_size rate t steps ≤ length octets → IsColumn (starts_from starts) rate invert t [] column
-    → count ≤ length (column_octets column)
-    → Wrote taken taken_now (take count (column_octets column))
-    → TookPrefix rate invert starts t steps octets taken taken_now
-cut-first exists rate invert starts t steps count octets column taken taken_now there is few wrote =
-    let r = columns-from exists rate invert starts t steps octets column there is in (
-      column ∷ r.0,
-      r.1,
-      prefix-first taken taken_now count (column_octets column)
-          (flat_map column_octets r.0) few wrote,
-    )
-
-pub cut-push : HasColumn → (rate : Rate) (invert : Bool) (starts : Option ℕ) (t steps all count : ℕ)
-    (octets column : List ℕ) (taken middle taken_now : Option (List ℕ))
-    → steps < all → steps_size rate t all ≤ length octets → TookColumns rate invert starts t steps octets taken middle
-    → IsColumn (starts_from starts) rate invert t (take (steps_size rate t (steps + 1)) octets) column
-    → count ≤ length (column_octets column)
-    → Wrote middle taken_now (take count (column_octets column))
-    → TookPrefix rate invert starts t all octets taken taken_now
-cut-push exists rate invert starts t steps all count octets column taken middle taken_now less there took is few wrote =
-    let more : ℕ = all - (steps + 1) in
-    let whole : steps + 1 + more ≡ all = omega arith in
-    let pushed = columns-push rate invert starts t steps octets column took.columns took.are is in
-    let r = columns-more exists rate invert starts t (steps + 1) more octets (took.columns ++ column ∷ [])
-    (omega (arith, there, ap (steps_size rate t) whole)) pushed in
-    let columns : List (List ℕ) = (took.columns ++ column ∷ []) ++ r.0 in
-    let text : flat_map column_octets took.columns ++ (column_octets column ++ flat_map column_octets r.0)
-    ≡ flat_map column_octets columns =
-    sym (flat_map-append column_octets took.columns (column ∷ r.0))
-    ∙ ap (flat_map column_octets) (sym (append_assoc took.columns (column ∷ []) r.0)) in (
-      columns,
-      subst (λ n. AreColumns rate invert starts t n octets columns) whole r.1,
-      subst (WrotePrefix taken taken_now) text (prefix-more taken middle taken_now
-          (flat_map column_octets took.columns) (column_octets column ++ flat_map column_octets r.0) took.wrote
-          (prefix-first middle taken_now count (column_octets column) (flat_map column_octets r.0) few wrote)),
-    )
 
 -- ---- the sums that give the columns
 

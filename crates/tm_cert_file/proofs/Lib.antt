@@ -13,9 +13,6 @@ mod RoundTrip
 mod ColumnsPass
 mod WindowPasses
 mod AllPass
-mod WrittenPrefixes
 mod ColumnLists
 mod WindowTexts
 pub mod ManyWindows
-pub mod WrittenBlocks
-pub mod Continuing

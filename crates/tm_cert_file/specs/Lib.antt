@@ -5,5 +5,4 @@ pub mod Seen
 pub mod File
 pub mod Shown
 pub mod Passes
-pub mod Certifying
 pub mod Reading

@@ -1,15 +1,12 @@
 // What holds of certificates, over the definitions alone.
 ghost use Rattle.std.specs.Prelude.{◌≡◌, ℕ, ◌+◌, ◌-◌, ◌<◌, ◌≤◌, Bool, List, ◌++◌, length, map, take, Option};
 ghost use Rattle.tm_base.specs.Bits.{AreOctets};
-ghost use Rattle.tm_base.specs.Written.{Wrote, WrotePrefix};
 ghost use Rattle.tm_conv.specs.declared.rates.Rate.{Rate};
-ghost use Rattle.tm_conv.specs.Path.{steps_size};
-ghost use Rattle.tm_conv.specs.Columns.{last_certified};
 ghost use Rattle.tm_viterbi.specs.Settings.{Settings};
 ghost use Rattle.tm_viterbi.specs.WindowBlock.{WindowBlock};
-ghost use Rattle.tm_viterbi.specs.Blocks.{AreBlocks, AreBlocksOf};
+ghost use Rattle.tm_viterbi.specs.Blocks.{AreBlocksOf};
 ghost use Rattle.tm_viterbi.specs.Due.{Place, Closed};
-ghost use Rattle.tm_viterbi.specs.WindowSizes.{most_keep, most_ahead, most_window};
+ghost use Rattle.tm_viterbi.specs.WindowSizes.{most_window};
 ghost use Rattle.tm_cert_file.specs.declared.seen.Reason.{Reason};
 ghost use Rattle.tm_cert_file.specs.declared.seen.Seen.{Seen};
 ghost use Rattle.tm_cert_file.specs.declared.seen.Seen.TheVariants.{Failed};
@@ -19,14 +16,12 @@ ghost use Rattle.tm_cert_file.specs.Before.{Rules};
 ghost use Rattle.tm_cert_file.specs.File.{IsRead, IsWhole, all_kept};
 ghost use Rattle.tm_cert_file.specs.Shown.{AreAllShown};
 ghost use Rattle.tm_cert_file.specs.Passes.{rules_by, block_of};
-ghost use Rattle.tm_cert_file.specs.Certifying.{Certifying, AreNext, WroteBlocks, WroteBlocksPrefix, with_place};
 
 use tm_conv::columns_law;
 use tm_path_cert::verdict_law;
 
 /// The blocks of soft octets have one certificate. That of the blocks of closed windows precedes that of blocks after
-/// them, and stays the same whatever octets come. Where a sink takes windows of keep, at most 65,536, and ahead, at
-/// most 4,096, steps one after another, it takes the certificate of their blocks. It does nothing.
+/// them, and stays the same whatever octets come. It does nothing.
 pub fn certified_law()
     ensures exists { (s : Settings) (octets : List ℕ) (blocks : List WindowBlock) (left : ℕ)
         → AreBlocksOf s octets blocks left
@@ -55,32 +50,6 @@ pub fn certified_law()
         → Closed rate invert keep ahead from blocks to
         → AreCertified rate invert from.starts from.t from.octets blocks text
         → AreCertified rate invert from.starts from.t (from.octets ++ more) blocks text }
-    ensures closed { (c now : Certifying) (keep ahead : ℕ) (to : Place) (blocks : List WindowBlock)
-        (taken taken_now : Option (List ℕ))
-        → keep ≤ most_keep → ahead ≤ most_ahead → c.place.t + length c.place.octets ≤ last_certified
-        → Closed c.rate c.invert keep ahead c.place blocks to
-        → WroteBlocks c now blocks taken taken_now → (now ≡ with_place c to) × (text : List ℕ) × AreNext c blocks text
-        × Wrote taken taken_now text }
-    ensures last { (c now : Certifying) (keep ahead steps : ℕ) (blocks : List WindowBlock)
-        (taken taken_now : Option (List ℕ))
-        → keep ≤ most_keep → ahead ≤ most_ahead → c.place.t + length c.place.octets ≤ last_certified
-        → steps_size c.rate c.place.t steps ≤ length c.place.octets
-        → AreBlocks c.rate c.invert keep ahead c.place.starts c.place.t steps c.place.octets blocks
-        → WroteBlocks c now blocks taken taken_now → (text : List ℕ) × AreNext c blocks text
-        × Wrote taken taken_now text }
-    ensures closed_prefix { (c : Certifying) (keep ahead : ℕ) (to : Place) (blocks : List WindowBlock)
-        (taken taken_now : Option (List ℕ))
-        → keep ≤ most_keep → ahead ≤ most_ahead → c.place.t + length c.place.octets ≤ last_certified
-        → Closed c.rate c.invert keep ahead c.place blocks to
-        → WroteBlocksPrefix c blocks taken taken_now → (text : List ℕ) × AreNext c blocks text
-        × WrotePrefix taken taken_now text }
-    ensures last_prefix { (c : Certifying) (keep ahead steps : ℕ) (blocks : List WindowBlock)
-        (taken taken_now : Option (List ℕ))
-        → keep ≤ most_keep → ahead ≤ most_ahead → c.place.t + length c.place.octets ≤ last_certified
-        → steps_size c.rate c.place.t steps ≤ length c.place.octets
-        → AreBlocks c.rate c.invert keep ahead c.place.starts c.place.t steps c.place.octets blocks
-        → WroteBlocksPrefix c blocks taken taken_now → (text : List ℕ) × AreNext c blocks text
-        × WrotePrefix taken taken_now text }
 {
     columns_law();
 }

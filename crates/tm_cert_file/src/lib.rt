@@ -3,7 +3,6 @@
 //! reader on the checker of tm_path_cert alone, and knows nothing of the decoder.
 #![tactic(auto)]
 
-mod certifying;
 mod judging;
 mod laws;
 mod numbers;
@@ -11,7 +10,6 @@ mod reader;
 mod seen;
 mod writing;
 
-pub use certifying::{Certifier, Certifying, PIECE};
 pub use laws::{certified_law, passes_law, read_law, shown_law};
 pub use reader::Reader;
 pub use seen::{Next, Reason, Seen};

@@ -9,12 +9,12 @@ ghost use Rattle.tm_cert_file.specs.Seen.{IsSeen};
 ghost use Rattle.tm_cert_file.specs.File.{is_cut, kept_octets};
 ghost use Rattle.tm_cert_file.specs.Reading.{IsOpen, HasPassed, ReaderStandsFor};
 
-use crate::certifying::span;
 use crate::judging::{
     are_bits, has_shape, is_joined, next_after, register_after, seen_by, verdict_on,
 };
 use crate::numbers::{COLUMN, HEADER, read_u32, read_u64};
 use crate::seen::{Next, Reason, Seen};
+use crate::writing::span;
 use std::alloc::Global;
 use std::marker::Model;
 use tm_base::{Held, NoMemory};

@@ -2,27 +2,22 @@
 
 use std::alloc::Global;
 use std::process::Abort;
-use tm_base::MemSink;
-use tm_cert_file::{Certifier, Certifying};
+use tm_base::{MemSink, SureSink};
+use tm_cert_file::write_window;
 use tm_conv::Rate;
-use tm_viterbi::{Block, BlockTaker, Start, WindowShape};
+use tm_driver::Writer;
+use tm_viterbi::Block;
 
 // The certificate.
 fn certificate(rt: &impl Abort, alloc: Global) -> MemSink {
     let mut out = MemSink::new(alloc, 1000, Vec::new(alloc)).expect(rt, "memory");
-    let shape = WindowShape {
-        rate: Rate::R12,
-        invert: true,
-        keep: 64,
-        ahead: 3,
-    };
-    let mut certifying = Certifying::open(alloc, Start::Zero, shape).expect(rt, "memory");
-    certifying.give(&[0x80, 0x00]);
-    let mut certifier = Certifier {
-        certifying: &mut certifying,
+    let mut notes = SureSink::new();
+    let mut texts = Writer {
         out: &mut out,
+        notes: &mut notes,
+        has_failed: false,
     };
-    let taken = certifier.block(&Block {
+    let block = Block {
         start: 0,
         steps: 1,
         kept: 1,
@@ -30,8 +25,22 @@ fn certificate(rt: &impl Abort, alloc: Global) -> MemSink {
         bits: &[1],
         end_state: 32,
         dropped: 0,
-    });
-    taken.expect(rt, "room");
+    };
+    write_window(
+        &mut texts,
+        Rate::R12,
+        true,
+        0,
+        Some(0),
+        &[0x80, 0x00],
+        &block,
+    );
+    let Writer {
+        out: _,
+        notes: _,
+        has_failed,
+    } = texts;
+    assert!(rt; !has_failed);
     out
 }
 

@@ -1,5 +1,5 @@
 -- Of received octets few windows are handed over, which keep few bits; and what is due comes first.
-use Rattle.std.proofs.Common.{◌≡◌, ℕ, ◌<◌, ◌≤◌, List, [], ◌++◌, length, sym, ◌∙◌, ap, subst, arith, length-append, Option, Some, None}
+use Rattle.std.proofs.Common.{ℕ, ◌<◌, ◌≤◌, List, [], ◌++◌, length, sym, ◌∙◌, ap, subst, arith, length-append, Option, Some, None}
 use Rattle.std.proofs.lemmas.List.{append-nil}
 use Rattle.tm_base.specs.Handed.{Handed, items_of}
 use Rattle.tm_base.proofs.HandedItems.{items_of-append}
@@ -14,10 +14,7 @@ use Rattle.tm_inner.specs.Phase.{skip_of}
 use Rattle.tm_inner.specs.Handing.{AreHanded, AreHandedDue}
 use Rattle.tm_inner.proofs.FollowedBits.{followed-count_all, followed-whole}
 use Rattle.tm_inner.proofs.ReceivedBits.{length-soft}
-use Rattle.tm_inner.proofs.HandedBits.{handed-due-none}
 use Rattle.tm_inner.proofs.PhasePieces.{items_of-with_phase}
-use Rattle.tm_inner.specs.Receiving.{InnerReceiving, InnerReceiverStandsFor}
-use Rattle.tm_path_commands.specs.Tracing.{StandsAt}
 
 -- windows that are at most as many as octets, and keep no more bits than these are
 abbrev pub AreFew : List WindowBlock → List ℕ → Type 0
@@ -56,11 +53,3 @@ few-due law c octets handed accepted due =
       omega (arith, few.0, same, ap length items, length-append (items_of handed) (items_of all.0)),
       omega (arith, few.1, same, ap kept_of items, kept-append (items_of handed) (items_of all.0)),
     )
-
-pub stands-new : (c : Configuration) (r : InnerReceiving) → IsAccepted c → r.config ≡ c
-    → InnerReceiverStandsFor r [] [] → StandsAt r [] []
-stands-new c r accepted same stands = (
-  stands,
-  subst (λ (k : Configuration). AreHandedDue k [] []) (sym same)
-      (handed-due-none c (let keep = accepted.some_keep in omega arith)),
-)

@@ -1,13 +1,11 @@
 pub mod TraceLines
-pub mod CertifierTook
-pub mod CertifyingPlace
 pub mod FewHanded
 pub mod TraceStage
 pub mod TraceEndings
 pub mod CheckedWindows
 pub mod CheckEndings
-pub mod CertifyingPieces
-pub mod CertifyingEnd
+pub mod CertifiedWindows
+pub mod CertifyStage
 pub mod CertifyEndings
 pub mod Certificates
 pub mod PackedBits

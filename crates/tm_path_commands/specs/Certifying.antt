@@ -1,123 +1,86 @@
--- How far a certificate is written.
-use Rattle.std.specs.Prelude.{◌≡◌, ◌⊎◌, ℕ, ◌+◌, ◌-◌, ◌<◌, ◌≤◌, false, List, [], ◌++◌, length, take, Option, Some, None}
-use Rattle.tm_base.specs.Handed.{Handed}
-use Rattle.tm_base.specs.Written.{Wrote, WrotePrefix}
+-- What certifying gives of the octets that were read.
+use Rattle.std.specs.Prelude.{◌≡◌, ℕ, ◌<◌, ◌≤◌, false, List, [], ◌∷◌, length, take, Option, Some, None}
 use Rattle.tm_config.specs.Accepted.{IsAccepted}
 use Rattle.tm_config.specs.Configuration.{Configuration}
 use Rattle.tm_conv.specs.Columns.{last_certified}
-use Rattle.tm_conv.specs.declared.rates.Rate.{Rate}
-use Rattle.tm_viterbi.specs.Due.{Closed, first_place}
+use Rattle.tm_driver.specs.Writing.{Text, AreOut, TookOut}
+use Rattle.tm_viterbi.specs.Starts.{first_start}
 use Rattle.tm_viterbi.specs.WindowBlock.{WindowBlock}
-use Rattle.tm_inner.specs.Handing.{AreHandedFirst}
-use Rattle.tm_inner.specs.Inner.{AreInnerDue, settings_of, soft_octets}
-use Rattle.tm_inner.specs.Phase.{WithPhase, IsSettled, phase_octets, skip_of}
-use Rattle.tm_inner.specs.Receiving.{InnerReceiving, InnerReceiverStandsFor}
-use Rattle.tm_inner.specs.Symbols.{is_inverted}
-use Rattle.tm_cert_file.specs.Certificate.{IsCertificate}
-use Rattle.tm_cert_file.specs.Certifying.{Certifying, with_octets, soft_room, most_given}
+use Rattle.tm_windows.specs.Queue.{Queueing, octets_of, step_of, window_size}
+use Rattle.tm_inner.specs.InnerDecoding.{HasChosen, InnerDecoding, InnerDecoderStandsFor, IsDrained, IsQueueOf, ready_in}
+use Rattle.tm_inner.specs.Phase.{IsSoFarBy, phase_octets, skip_of}
+use Rattle.tm_cert_file.specs.Certificate.{AreCertified, IsCertified}
 use Rattle.tm_path_commands.specs.Certify.{IsCertifiedAll, TextAt}
-use Rattle.tm_path_commands.specs.Tracing.{StandsAt}
 
--- before the phase is settled all soft octets are buffered, and nothing was handed over or written
-pub record Waits (c : Configuration) (rate : Rate) (now : Certifying) (octets : List ℕ)
-    (handed : List (Handed WindowBlock)) (text : List ℕ) : Type 0 where
-  pub unsettled : IsSettled c octets → ⊥
-  pub place : now.place ≡ first_place (settings_of c rate) (phase_octets c octets)
-  pub nothing : handed ≡ []
-  pub is_text : text ≡ []
+-- from which registers the window after these blocks starts
+abbrev pub starts_after : Option ℕ → List WindowBlock → Option ℕ
+starts_after start [] = start
+starts_after start (block ∷ blocks) = starts_after (Some block.end_state) blocks
 
--- once it is settled, the next window begins where those end that are closed, and these are written
-pub record Goes (c : Configuration) (rate : Rate) (now : Certifying) (octets : List ℕ)
-    (handed : List (Handed WindowBlock)) (text : List ℕ) : Type 0 where
-  pub settled : IsSettled c octets
-  pub are_due : WithPhase (λ phase. AreInnerDue c phase octets) c octets handed
-  pub closed : Closed rate (is_inverted rate c.invert) c.keep c.ahead
-      (first_place (settings_of c rate) (soft_octets c (skip_of are_due.chosen) octets))
-      are_due.items now.place
-  pub is_text : IsCertificate (settings_of c rate)
-      (soft_octets c (skip_of are_due.chosen) octets) are_due.items text
+-- ---- the windows that are ready
 
--- what is written of the octets that were given, and where the next window begins; with no inner
--- code nothing is written
-abbrev pub WritesAt : Option Rate → Configuration → Certifying → List ℕ → List (Handed WindowBlock)
-    → List ℕ → Type 0
-WritesAt None c now octets handed text = text ≡ []
-WritesAt (Some rate) c now octets handed text =
-    (now.rate ≡ rate) × (now.invert ≡ is_inverted rate c.invert)
-    × (now.room ≡ soft_room (c.keep + c.ahead))
-    × (Waits c rate now octets handed text ⊎ Goes c rate now octets handed text)
-
--- the receiver, which does not follow a phase, was given these octets, fewer than 2^44, and the
--- sink took the certificate of what is due for them
-pub record Certifies (c : Configuration) (receiver : InnerReceiving) (now : Certifying)
-    (taken taken_now : Option (List ℕ)) (octets : List ℕ) : Type 0 where
-  pub config : receiver.config ≡ c
-  pub unfollowed : c.follow ≡ false
-  pub few : length octets < last_certified
-  pub handed : List (Handed WindowBlock)
-  pub stands : StandsAt receiver octets handed
+-- a window of a queue was given, whose paths start from `start`
+pub record GaveWindow {T : Type 0} (took : T → Text → T → Type 0) (q : Queueing) (index : ℕ)
+    (start : Option ℕ) (block : WindowBlock) (texts texts_now : T) : Type 0 where
   pub text : List ℕ
-  pub writes : WritesAt c.inner c now octets handed text
-  pub wrote : Wrote taken taken_now text
+  pub gave : TookOut took texts texts_now text
+  pub is : step_of q index ≤ last_certified
+      → IsCertified q.windows.settings.rate q.windows.settings.invert start (step_of q index)
+      (take (window_size q index block) (octets_of q index)) block text
 
--- the soft octets of a piece were given, as far as there was room for them
-pub record GavePiece (receiver : InnerReceiving) (before now : Certifying)
-    (piece : List ℕ) : Type 0 where
-  pub soft : List ℕ
-  pub few : length soft ≤ most_given
-  pub are_soft : (octets : List ℕ) (handed : List (Handed WindowBlock))
-      → InnerReceiverStandsFor receiver octets handed
-      → phase_octets receiver.config (octets ++ piece) ≡ phase_octets receiver.config octets ++ soft
-  pub given : now ≡ with_octets before
-      (before.place.octets ++ take (before.room - length before.place.octets) soft)
+-- windows that are ready begin at steps that are certified
+abbrev pub BeginEarly : Queueing → (count : ℕ) → Type 0
+BeginEarly q count = (index : ℕ) → index < count → step_of q index ≤ last_certified
 
--- the sink failed in the certificate of the first blocks of these octets
-pub record CertifyFails (c : Configuration) (taken taken_now : Option (List ℕ))
-    (octets : List ℕ) : Type 0 where
-  pub unfollowed : c.follow ≡ false
-  pub handed : List (Handed WindowBlock)
-  pub are_first : AreHandedFirst c octets handed
+-- this is the certificate of blocks that are ready
+abbrev pub IsReadyText : Option Queueing → (start : Option ℕ) → List ℕ → Type 0
+IsReadyText None start text = text ≡ []
+IsReadyText (Some q) start text = BeginEarly q (length q.ready) → AreCertified
+    q.windows.settings.rate q.windows.settings.invert start q.run_t q.read q.ready text
+
+-- it was given, by a decoder whose queue is that of its configuration, and so the next window starts
+pub record GaveReady {T : Type 0} (took : T → Text → T → Type 0) (d : InnerDecoding)
+    (start start_now : Option ℕ) (texts texts_now : T) : Type 0 where
+  pub of : IsQueueOf d.config d.queue
+  pub same : HasChosen d.queue d.chosen
   pub text : List ℕ
-  pub is_text : TextAt c.inner c
-      (skip_of are_first.1.chosen) octets are_first.1.items text
-  pub wrote : WrotePrefix taken taken_now text
+  pub gave : TookOut took texts texts_now text
+  pub is : IsReadyText d.queue start text
+  pub next : start_now ≡ starts_after start (ready_in d.queue)
 
--- the sink took the certificate of these octets
-abbrev pub WroteCertificate : Configuration → (taken taken_now : Option (List ℕ)) → List ℕ → Type 0
-WroteCertificate c taken taken_now octets = (text : List ℕ) × IsCertifiedAll c octets text
-    × Wrote taken taken_now text
+-- ---- what was given of the octets
 
--- the sink took a prefix of it
-abbrev pub WroteCertificatePrefix : Configuration → (taken taken_now : Option (List ℕ)) → List ℕ
-    → Type 0
-WroteCertificatePrefix c taken taken_now octets = (text : List ℕ) × IsCertifiedAll c octets text
-    × WrotePrefix taken taken_now text
+-- a decoder whose windows are certified, and from which registers the next one starts
+pub record Certifier : Type 0 where
+  pub decoder : InnerDecoding
+  pub start : Option ℕ
 
--- Given these octets, a receiver, what is kept to write, and a sink go from what they were to what
--- they are now, and the certificate goes on; or the sink fails in it.
-abbrev pub CertifiesMore : (receiver : InnerReceiving) (kept : Certifying) (out : Option (List ℕ))
-    (receiver_now : InnerReceiving) (kept_now : Certifying) (out_now : Option (List ℕ)) → List ℕ
-    → Type 0
-CertifiesMore receiver kept out receiver_now kept_now out_now octets =
-    (c : Configuration) (start : Option (List ℕ)) (given : List ℕ) → IsAccepted c
-    → (length given < last_certified → Certifies c receiver kept start out given)
-    → length (given ++ octets) < last_certified
-    → Certifies c receiver_now kept_now start out_now (given ++ octets)
+abbrev pub certifier : InnerDecoding → Option ℕ → Certifier
+certifier decoder start = record { decoder = decoder; start = start }
 
-abbrev pub FailsCertifying : (receiver : InnerReceiving) (kept : Certifying)
-    (out out_now : Option (List ℕ)) → List ℕ → Type 0
-FailsCertifying receiver kept out out_now octets =
-    (c : Configuration) (start : Option (List ℕ)) (given : List ℕ) → IsAccepted c
-    → (length given < last_certified → Certifies c receiver kept start out given)
-    → length (given ++ octets) < last_certified → CertifyFails c start out_now (given ++ octets)
+-- It does not follow a phase. It was given these octets, and the certificate of the windows that
+-- were decoded was given.
+pub record Certifies (s : Certifier) (octets : List ℕ) (texts : List Text) : Type 0 where
+  pub accepted : IsAccepted s.decoder.config
+  pub unfollowed : s.decoder.config.follow ≡ false
+  pub blocks : List WindowBlock
+  pub stands : InnerDecoderStandsFor s.decoder octets blocks
+  pub start : s.start ≡ starts_after (first_start s.decoder.config.start) blocks
+  pub text : List ℕ
+  pub is_text : TextAt s.decoder.config.inner s.decoder.config (skip_of s.decoder.chosen) octets
+      blocks text
+  pub are : AreOut texts text
 
--- what was begun is written to its end, or the sink fails in it
-abbrev pub EndsCertificate : InnerReceiving → Certifying → (out out_now : Option (List ℕ)) → Type 0
-EndsCertificate receiver kept out out_now =
-    (c : Configuration) (start : Option (List ℕ)) (octets : List ℕ) → IsAccepted c
-    → Certifies c receiver kept start out octets → WroteCertificate c start out_now octets
+-- by a configuration, and all windows that are due were decoded
+pub record CertifiesDue (c : Configuration) (s : Certifier) (octets : List ℕ) (texts : List Text)
+    : Type 0 where
+  pub config : s.decoder.config ≡ c
+  pub drained : IsDrained s.decoder.queue
+  pub so_far : IsSoFarBy s.decoder.config (phase_octets s.decoder.config octets) s.decoder.chosen
+  pub certifies : Certifies s octets texts
 
-abbrev pub CutsCertificate : InnerReceiving → Certifying → (out out_now : Option (List ℕ)) → Type 0
-CutsCertificate receiver kept out out_now =
-    (c : Configuration) (start : Option (List ℕ)) (octets : List ℕ) → IsAccepted c
-    → Certifies c receiver kept start out octets → WroteCertificatePrefix c start out_now octets
+-- the certificate of all windows of these octets was given
+pub record CertifiesAll (c : Configuration) (octets : List ℕ) (texts : List Text) : Type 0 where
+  pub text : List ℕ
+  pub is_text : IsCertifiedAll c octets text
+  pub are : AreOut texts text

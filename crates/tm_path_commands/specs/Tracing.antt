@@ -7,10 +7,10 @@ use Rattle.tm_config.specs.Configuration.{Configuration}
 use Rattle.tm_driver.specs.Lines.{phase_text}
 use Rattle.tm_driver.specs.Writing.{Text, Out}
 use Rattle.tm_viterbi.specs.WindowBlock.{WindowBlock}
-use Rattle.tm_inner.specs.Handing.{AreHanded, AreHandedDue}
+use Rattle.tm_inner.specs.Handing.{AreHanded}
 use Rattle.tm_inner.specs.Inner.{inner_bits}
 use Rattle.tm_inner.specs.InnerDecoding.{InnerDecoding}
-use Rattle.tm_inner.specs.Receiving.{HasHanded, InnerReceiving, InnerReceiverStandsFor}
+use Rattle.tm_inner.specs.Receiving.{HasHanded}
 use Rattle.tm_path_commands.specs.declared.tally.Tally.{Tally}
 use Rattle.tm_path_commands.specs.Lines.{block_text, no_blocks, trace_end_text}
 
@@ -74,9 +74,3 @@ pub record TracesAll (c : Configuration) (octets : List ℕ) (texts : List Text)
   pub lines : texts ≡ lines_by no_blocks handed ++ Out (trace_end_text
       (counted_by no_blocks handed).blocks
       (length (inner_bits c octets (items_of handed))) left) ∷ []
-
--- an inner receiver that was given these octets and no others, and has handed over what is due of
--- them
-abbrev pub StandsAt : InnerReceiving → List ℕ → List (Handed WindowBlock) → Type 0
-StandsAt receiver octets handed = InnerReceiverStandsFor receiver octets handed
-    × AreHandedDue receiver.config octets handed

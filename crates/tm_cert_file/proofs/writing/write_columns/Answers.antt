@@ -1,12 +1,11 @@
-use Rattle.std.proofs.Common.{rules, [], ◌≡◌, ◌+◌, ◌<◌, ◌≤◌, ◌∙◌, sym, ap, subst, arith, length, take}
-use Rattle.std.specs.Io.KnownBytes.{append_known}
+use Rattle.std.proofs.Common.{rules, ℕ, List, [], ◌≡◌, ◌+◌, ◌<◌, ◌≤◌, ◌∙◌, sym, ap, subst, arith, length, take}
 use Rattle.tm_conv.specs.Path.{steps_size, step_size}
 use Rattle.tm_conv.proofs.Sizes.{step_size_pos, same_from_steps_size}
 use Rattle.tm_conv.proofs.Paths.{steps_size-zero, steps_size-more}
+use Rattle.tm_driver.specs.Writing.{Out}
 use Rattle.tm_viterbi.specs.Summing.{SumsFor}
 use Rattle.tm_cert_file.proofs.Spans.{steps_below, step_fits}
-use Rattle.tm_cert_file.proofs.WrittenPrefixes.{on_err-all}
-use Rattle.tm_cert_file.proofs.ColumnLists.{TookColumns, column-of, octets-next, took-first, took-push, cut-first, cut-push}
+use Rattle.tm_cert_file.proofs.ColumnLists.{TookColumns, column-of, octets-next, took-first, took-push}
 use Rattle.tm_cert_file.proofs.writing.write_columns.Goals as goal
 
 pub loop-at-init : goal.loop-at-init
@@ -14,8 +13,9 @@ loop-at-init g c =
     let none : c.new-sums.result.steps ≡ 0 = c.new-sums.ensures.began.4 in
     let is = column-of c.new-sums.ensures.began.0 c.new-sums.ensures.began.1 c.new-sums.ensures.began.3
     c.new-sums.ensures.began.2 (c.column.ensures.least [] c.new-sums.ensures.stands) in
-    let wrote = c.in_ok-put_all.ensures.ok ∙ ap (append_known (g.O.Sink.taken c.args.out.now)) c.column_octets.ensures
-    in
+    let took = g.W.TextTaker.took in
+    let gave = subst (λ (o : List ℕ). took c.args.texts.now (Out o) c.out.new.self) c.column_octets.ensures
+    c.out.ensures in
     record {
       at = omega (arith, steps_size-zero c.args.rate c.args.first, ap (steps_size c.args.rate c.args.first) none);
       within = omega arith;
@@ -28,23 +28,11 @@ loop-at-init g c =
       );
       stands = c.new-sums.ensures.stands;
       took =
-          subst (λ n. TookColumns c.args.rate c.args.invert c.args.start c.args.first n c.args.octets.now
-          (g.O.Sink.taken c.args.out.now) (g.O.Sink.taken c.put_all.new.out)) (sym none)
-          (took-first c.args.rate c.args.invert c.args.start c.args.first c.args.octets.now c.column.result.now _ _ is
-          wrote);
-      faults = c.in_ok-put_all.ensures.cause.same;
+          subst (λ n. TookColumns took c.args.rate c.args.invert c.args.start c.args.first n c.args.octets.now
+          c.args.texts.now c.out.new.self) (sym none)
+          (took-first took c.args.rate c.args.invert c.args.start c.args.first c.args.octets.now c.column.result.now _ _
+          is gave);
     }
-
-pub returns-in_err-put_all-clause-err : goal.returns-in_err-put_all-clause-err
-returns-in_err-put_all-clause-err g c =
-    let is = column-of c.new-sums.ensures.began.0 c.new-sums.ensures.began.1 c.new-sums.ensures.began.3
-    c.new-sums.ensures.began.2 (c.column.ensures.least [] c.new-sums.ensures.stands) in
-    let broke = c.in_err-put_all.ensures.err in
-    on_err-all c.from_residual.result (λ steps size.
-    cut-first c.columns_law.ensures.exists c.args.rate c.args.invert c.args.start c.args.first steps broke.0
-    c.args.octets.now c.column.result.now _ _ (omega (arith, size)) is
-    (omega (arith, broke.1, ap length c.column_octets.ensures))
-    (broke.2 ∙ ap (λ v. append_known (g.O.Sink.taken c.args.out.now) (take broke.0 v)) c.column_octets.ensures))
 
 pub slice_bounds-step-end : goal.slice_bounds-step-end
 slice_bounds-step-end g c =
@@ -71,27 +59,6 @@ step-requires-clause-few g c =
     (omega (arith, c.loop-at.invariant.at, c.requires.steps.2, c.loop-at-test.true)) in
     omega (arith, few, c.requires.steps.1)
 
-pub returns-in_err-put_all-2-clause-err : goal.returns-in_err-put_all-2-clause-err
-returns-in_err-put_all-2-clause-err g c =
-    let here = c.loop-at in
-    let began = here.invariant.began in
-    let now = c.step.ensures.began in
-    let stands = subst (SumsFor c.step.new.self)
-    (octets-next c.args.rate c.args.first here.sums.steps c.args.octets.now here.invariant.at here.invariant.t
-    c.step_len.ensures) (c.step.ensures.stands (take here.at c.args.octets.now) here.invariant.stands) in
-    let is = column-of (now.0 ∙ began.0) (now.1 ∙ began.1) (now.3 ∙ began.3) (now.2 ∙ began.2)
-    (c.column-in-loop-at.ensures.least _ stands) in
-    let broke = c.in_err-put_all-2.ensures.err in
-    on_err-all c.from_residual-in_err-put_all-2.result (λ steps size.
-    cut-push c.columns_law.ensures.exists c.args.rate c.args.invert c.args.start c.args.first here.sums.steps steps
-    broke.0 c.args.octets.now c.column-in-loop-at.result.now _ _ _
-    (steps_below c.args.rate c.args.first here.sums.steps steps
-    (omega (arith, here.invariant.at, size, c.loop-at-test.true)))
-    (omega (arith, size)) here.invariant.took is
-    (omega (arith, broke.1, ap length c.column_octets-in-loop-at.ensures))
-    (broke.2 ∙ ap (λ v. append_known (g.O.Sink.taken here.out) (take broke.0 v))
-    c.column_octets-in-loop-at.ensures))
-
 pub overflow_add-t : goal.overflow_add-t
 overflow_add-t g c =
     let few : c.loop-at.sums.steps < c.requires.steps.0 =
@@ -110,8 +77,10 @@ loop-at-preserved g c =
     let is = column-of (now.0 ∙ began.0) (now.1 ∙ began.1) (now.3 ∙ began.3) (now.2 ∙ began.2)
     (c.column-in-loop-at.ensures.least _ stands) in
     let count : c.step.new.self.steps ≡ here.sums.steps + 1 = c.step.ensures.steps in
-    let wrote = c.in_ok-put_all-2.ensures.ok ∙ ap (append_known (g.O.Sink.taken here.out))
-    c.column_octets-in-loop-at.ensures in
+    let took = g.W.TextTaker.took in
+    let texts = c.out-in-loop-at.new.self in
+    let gave = subst (λ (o : List ℕ). took here.texts (Out o) texts) c.column_octets-in-loop-at.ensures
+    c.out-in-loop-at.ensures in
     let size : c.step_len.result ≡ step_size c.args.rate (c.args.first + here.sums.steps) = c.step_len.ensures
     ∙ ap (step_size c.args.rate) here.invariant.t in
     let few : here.sums.steps < c.requires.steps.0 =
@@ -133,11 +102,10 @@ loop-at-preserved g c =
       began = (now.0 ∙ began.0, now.1 ∙ began.1, now.2 ∙ began.2, now.3 ∙ began.3);
       stands = subst (λ n. SumsFor c.step.new.self (take n c.args.octets.now)) (sym end) stands;
       took =
-          subst (λ n. TookColumns c.args.rate c.args.invert c.args.start c.args.first n c.args.octets.now
-          (g.O.Sink.taken c.args.out.now) (g.O.Sink.taken c.put_all-in-loop-at.new.out)) (sym count)
-          (took-push c.args.rate c.args.invert c.args.start c.args.first here.sums.steps c.args.octets.now
-          c.column-in-loop-at.result.now _ _ _ here.invariant.took is wrote);
-      faults = c.in_ok-put_all-2.ensures.cause.same ∙ here.invariant.faults;
+          subst (λ n. TookColumns took c.args.rate c.args.invert c.args.start c.args.first n c.args.octets.now
+          c.args.texts.now texts) (sym count)
+          (took-push took c.args.rate c.args.invert c.args.start c.args.first here.sums.steps c.args.octets.now
+          c.column-in-loop-at.result.now _ _ _ here.invariant.took is gave);
     }
 
 pub loop-at-smaller : goal.loop-at-smaller
@@ -146,12 +114,12 @@ loop-at-smaller g c =
     let some : 0 < step_size c.args.rate here.t = step_size_pos c.args.rate here.t in
     omega (arith, some, c.step_len.ensures, c.loop-at-test.true)
 
-pub returns-clause-ok : goal.returns-clause-ok
-returns-clause-ok g c = λ steps size.
+pub returns : goal.returns
+returns g c = λ steps size.
     let here = c.loop-at in
     let end : steps_size c.args.rate c.args.first here.sums.steps ≡ steps_size c.args.rate c.args.first steps =
     omega (arith, size, here.invariant.at, here.invariant.within, c.loop-at-test.false) in
     let same : here.sums.steps ≡ steps = same_from_steps_size c.args.rate c.args.first here.sums.steps steps end in
-    let took = subst (λ n. TookColumns c.args.rate c.args.invert c.args.start c.args.first n c.args.octets.now
-    (g.O.Sink.taken c.args.out.now) (g.O.Sink.taken here.out)) same here.invariant.took in
-    (took.columns, took.are, took.wrote)
+    let gave = subst (λ n. TookColumns g.W.TextTaker.took c.args.rate c.args.invert c.args.start c.args.first n
+    c.args.octets.now c.args.texts.now here.texts) same here.invariant.took in
+    (gave.columns, gave.are, gave.gave)

@@ -11,9 +11,7 @@ invariant-loop-at g l = record {
   t : l.t ≡ l.first + l.sums.steps;
   began : (l.sums.rate ≡ l.rate) × (l.sums.invert ≡ l.invert) × (l.sums.first ≡ l.first) × (l.sums.start ≡ l.fn.start);
   stands : SumsFor l.sums (take l.at l.octets);
-  took : TookColumns l.rate l.invert l.fn.start l.first l.sums.steps l.octets (g.O.Sink.taken l.fn.out)
-      (g.O.Sink.taken l.out);
-  faults : g.O.Sink.faults l.out ≡ g.O.Sink.faults l.fn.out;
+  took : TookColumns g.W.TextTaker.took l.rate l.invert l.fn.start l.first l.sums.steps l.octets l.fn.texts l.texts;
 }
 
 abbrev pub decreases-loop-at : goal.decreases-loop-at

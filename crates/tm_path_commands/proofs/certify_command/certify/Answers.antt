@@ -1,37 +1,43 @@
-use Rattle.std.proofs.Common.{rules, ◌≡◌, ◌∙◌, ap, subst, ℕ, List, Option}
+use Rattle.std.proofs.Common.{None, ◌∙◌, ap, arith}
 use Rattle.tm_config.specs.Configuration.{Configuration, unfollowed}
-use Rattle.tm_driver.specs.Courses.{source_call}
-use Rattle.tm_driver.specs.Meaning.{Ends, taken_by}
+use Rattle.tm_driver.specs.Courses.{sink_call, sink_state, source_call}
+use Rattle.tm_driver.specs.Meaning.{taken_by}
+use Rattle.tm_driver.specs.Statuses.{is_sink_fault}
 use Rattle.tm_driver.proofs.Answered.{answered-alone}
-use Rattle.tm_path_commands.specs.Certify.{certified_meaning, certify_meaning}
-use Rattle.tm_path_commands.specs.declared.certify_command.Certificate.{Certificate}
-use Rattle.tm_path_commands.proofs.CertifyEndings.{driven-ends}
+use Rattle.tm_driver.proofs.TwoSinks.{first-alone}
+use Rattle.tm_viterbi.specs.Starts.{first_start}
+use Rattle.tm_path_commands.specs.declared.certify_command.Certifying.{Certifying}
+use Rattle.tm_path_commands.specs.Certify.{certified_meaning}
+use Rattle.tm_path_commands.proofs.CertifyEndings.{certify-ends}
+use Rattle.tm_path_commands.proofs.CertifyStage.{certifies-new, some-small}
 use Rattle.tm_path_commands.proofs.certify_command.certify.Goals as goal
+
+pub drive_stage-requires : goal.drive_stage-requires
+drive_stage-requires g c = record {
+  ready = (c.in-Ok.ensures.going, some-small c.first_start.result c.first_start.ensures.small);
+  limit = (let most = c.limit.ensures.accepted.limit in omega (arith, most, c.limit.ensures.value));
+  fresh =
+      certifies-new c.unfollowed-found.result c.in-Ok.inner c.first_start.result c.unfollowed-found.ensures.accepted
+      (ap (λ (k : Configuration). k.follow) c.unfollowed-found.ensures.value) c.in-Ok.ensures.config
+      c.in-Ok.ensures.stands
+      (c.first_start.ensures.value ∙ ap (λ (k : Configuration). first_start k.start) c.values.ensures.value);
+}
 
 pub returns-clause-answered : goal.returns-clause-answered
 returns-clause-answered g c =
-    let h = c.drive-ending.ensures.driven in
-    let found = c.unfollowed-found.result in
-    let now = c.drive-ending.new.feed in
+    let d = c.drive_stage.ensures.staged in
+    let config = unfollowed c.args.config.now in
     let law = c.certified_law.ensures in
-    let is : found ≡ unfollowed c.args.config.now = c.unfollowed-found.ensures.value in
-    let done : (noted : Option (List ℕ)) → Ends c.drive-ending.result (certified_meaning found) found.limit h.0
-    (taken_by (g.O.Sink.taken c.args.out.now) (g.O.Sink.taken now.out.now) noted noted) =
-    λ noted. driven-ends c.one_windows_law.ensures.exists c.due_windows_law.ensures.first c.phase_law.ensures.exists
-    c.whole_window_law.ensures.prefix c.closed_prefix_law.ensures
-    law.exists law.one law.split law.longer (λ (t : Certificate g.row.O.Denot). t.receiver.now) (λ t. t.certifying.now)
-    (λ t. g.O.Sink.taken t.out.now)
-    found _ now noted c.limit.ensures.accepted
-    (c.in-Ok-open.ensures c.in-Ok.receiver (g.O.Sink.taken c.args.out.now) c.in-Ok.ensures.config
-    c.in-Ok.ensures.stands)
-    c.limit.result c.limit.ensures.value _ _ c.drive-ending.result h.0 h.3 in
+    let by = c.drive_stage.result in
+    let now = c.drive_stage.new.stage in
+    let out = c.drive_stage.new.out in
+    let limit = c.limit.ensures.value ∙ ap (λ (k : Configuration). k.limit) c.unfollowed-found.ensures.value in
     let source = source_call g.S.Source.given g.S.Source.left g.S.Source.ended g.S.Source.faults g.S.Source.is_last
-    c.args.source.now c.drive-ending.new.source in
-    let same : (noted : Option (List ℕ)) → Ends c.drive-ending.result
-    (certify_meaning c.args.config.now) c.args.config.now.limit h.0
-    (taken_by (g.O.Sink.taken c.args.out.now) (g.O.Sink.taken now.out.now) noted noted) =
-    λ noted. subst (λ (k : Configuration). Ends c.drive-ending.result (certified_meaning k) k.limit h.0
-    (taken_by (g.O.Sink.taken c.args.out.now) (g.O.Sink.taken now.out.now) noted noted)) is (done noted) in
-    answered-alone h.0 _ _ _ _ source _ (c.limit.ensures.value ∙ ap (λ (k : Configuration). k.limit) is) h.1 h.2
-    (search rules) c.drive-ending.ensures.source
-    (search rules)
+    c.args.source.now c.drive_stage.new.source in
+    let sink = sink_call g.O.Sink.taken g.O.Sink.faults g.O.Sink.is_last c.args.out.now out in
+    answered-alone d.0 by (certified_meaning config) config.limit c.limit.result source sink limit d.2 d.3
+    (λ noted. certify-ends c.handed_law.ensures law.exists law.one law.longer (λ (t : Certifying). t.inner)
+    (λ t. t.start) config c.in-Ok.inner.config c.limit.result
+    (c.in-Ok.ensures.config ∙ c.unfollowed-found.ensures.value) limit now by d.0 d.1
+    (taken_by (g.O.Sink.taken c.args.out.now) (g.O.Sink.taken out) None None) noted d.4 d.5)
+    c.drive_stage.ensures.source (first-alone (is_sink_fault by) sink (sink_state None 0) c.drive_stage.ensures.sinks)

@@ -1,6 +1,6 @@
 use Rattle.std.proofs.Common.{◌≡◌, ◌+◌, ap, arith}
 use Rattle.tm_conv.specs.Path.{steps_size}
-use Rattle.tm_cert_file.proofs.certifying.span.Goals as goal
+use Rattle.tm_cert_file.proofs.writing.span.Goals as goal
 use Rattle.tm_conv.proofs.Sizes.{steps_size-add}
 
 pub overflow_sub-result : goal.overflow_sub-result
