@@ -1,4 +1,4 @@
-use Rattle.std.proofs.Common.{rules, ◌≡◌, ◌∙◌, ◌++◌, length, false, sym, subst, arith}
+use Rattle.std.proofs.Common.{rules, [], ◌≡◌, ◌∙◌, ◌++◌, length, false, sym, subst, arith}
 use Rattle.tm_base.specs.Handed.{items_of}
 use Rattle.tm_channel.specs.OctetReceiving.{OctetReceiving, ReceiverStandsFor}
 use Rattle.tm_channel.specs.Handing.{AreReceivedDue}
@@ -66,8 +66,8 @@ returns-clause-watched g c = λ given done few is.
       h.more,
       h.handed,
       subst (λ (k : Configuration). AreFurtherWindows k given octets h.more) config
-          (told-further took d now.stages.inner c.args.watch.now r.new.watch given octets stood.inner.blocks h
-          (r.ensures.of.1 ∙ sym r.ensures.of.0) few stood.inner.stands
+          (told-further took d now.stages.inner c.args.watch.now r.new.watch given octets (stood.blocks ++ []) h
+          (r.ensures.of.1 ∙ sym r.ensures.of.0) few stood.progress.inner
           (λ blocks is. c.self.invariant going stood.going given blocks is stood.so_far)
           (λ blocks is. r.ensures.all (omega arith) went there.going (given ++ octets) blocks is there.so_far)),
     )

@@ -1,4 +1,4 @@
-use Rattle.std.proofs.Common.{rules, ◌≡◌, ◌++◌, false, sym, subst}
+use Rattle.std.proofs.Common.{rules, [], ◌≡◌, ◌++◌, false, sym, subst}
 use Rattle.tm_base.specs.Handed.{items_of}
 use Rattle.tm_channel.specs.OctetReceiving.{OctetReceiving, ReceiverStandsFor}
 use Rattle.tm_channel.specs.declared.totals.Totals.{Totals}
@@ -68,7 +68,7 @@ returns-clause-watched g c = λ given done is.
             h.0,
             h.1,
             subst (λ (k : Configuration). AreLastWindows k given h.0) config
-                (told-rest d given stood.inner.blocks h.0 stood.inner.stands
+                (told-rest d given (stood.blocks ++ []) h.0 stood.progress.inner
                 (λ blocks is. c.self.invariant going stood.going given blocks is stood.so_far)
                 (λ before told. subst (λ (k : Configuration). AreWindows k given (before ++ h.0)) (sym r.ensures.of.0)
                 (h.2 given before told))),
