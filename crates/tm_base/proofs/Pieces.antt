@@ -6,10 +6,6 @@ use Rattle.std.specs.Io.KnownBytes.{append_known}
 use Rattle.tm_base.proofs.Known.{append_known-more, append_known-nil}
 use Rattle.tm_base.specs.Pieces.{beyond, further, GoesOn, Fed, FedPrefix}
 
--- what is due beyond nothing is all
-pub further-from_nothing : (due : List ℕ → List ℕ) (piece : List ℕ) → due [] ≡ [] → further due [] piece ≡ due piece
-further-from_nothing due piece none = ap (λ (l : List ℕ). beyond l (due piece)) none
-
 -- nothing more is due for nothing more
 further-of_nothing : (due : List ℕ → List ℕ) (given : List ℕ) → further due given [] ≡ []
 further-of_nothing due given =

@@ -13,53 +13,31 @@ pub fn zeros(alloc: Global, count: usize) -> Result<Vec<u8>, AllocError>
     vec![in alloc; 0u8; count]
 }
 
-/// Octets in a buffer of fixed size. Those that are dropped stay readable until the next ones are put in. It takes all
-/// its memory at `open`.
+/// Octets in a buffer of fixed size. It takes all its memory at `open`.
 #[derive(Drop)]
 pub struct Held {
     octets: Vec<u8>,
-    // The octets stand here, behind those that were dropped.
-    first: usize,
     len: usize,
 }
 
 impl Model for Held {
-    ghost use Rattle.std.specs.Prelude.{◌+◌, ◌≤◌, drop, take, vec_len};
+    ghost use Rattle.std.specs.Prelude.{◌≤◌, take, vec_len};
     ghost use Rattle.tm_base.specs.HeldOctets.{HeldOctets};
 
     ghost Value = { HeldOctets };
 
-    ghost view = { λ h. record {
-      octets = take h.len (drop h.first h.octets.items);
-      room = vec_len h.octets;
-      behind = take h.first h.octets.items;
-    } };
+    ghost view = { λ h. record { octets = take h.len h.octets.items; room = vec_len h.octets } };
 
-    ghost invariant = { λ h. h.first + h.len ≤ vec_len h.octets };
-}
-
-// Moves `len` octets from number `first` on to the start.
-fn move_down(octets: &mut [u8], first: usize, len: usize)
-    requires inside { first + len ≤ length octets.old }
-    ensures moved { take len octets.new ≡ take len (drop first octets.old) }
-    ensures long { length octets.new ≡ length octets.old }
-{
-    if first > 0 {
-        octets.copy_within(first..first + len, 0);
-    }
+    ghost invariant = { λ h. h.len ≤ vec_len h.octets };
 }
 
 impl Held {
     /// Room for `room` octets, with none in it. It fails only where there isn't enough memory.
     pub fn open(alloc: Global, room: usize) -> Result<Held, AllocError>
-        ensures { IfOk result (λ held. (held.octets ≡ []) × (held.room ≡ room) × (held.behind ≡ [])) }
+        ensures { IfOk result (λ held. (held.octets ≡ []) × (held.room ≡ room)) }
     {
         let octets = vec![in alloc; 0u8; room]?;
-        Ok(Held {
-            octets,
-            first: 0,
-            len: 0,
-        })
+        Ok(Held { octets, len: 0 })
     }
 
     /// Takes an octet, for which there is to be room.
@@ -67,10 +45,7 @@ impl Held {
         requires { length self.old.octets < self.old.room }
         ensures octets { self.new.octets ≡ self.old.octets ++ octet ∷ [] }
         ensures room { self.new.room ≡ self.old.room }
-        ensures behind { self.new.behind ≡ [] }
     {
-        move_down(&mut self.octets, self.first, self.len);
-        self.first = 0;
         self.octets[self.len] = octet;
         self.len += 1;
     }
@@ -80,41 +55,31 @@ impl Held {
         requires { length self.old.octets + length octets.now ≤ self.old.room }
         ensures octets { self.new.octets ≡ self.old.octets ++ octets.now }
         ensures room { self.new.room ≡ self.old.room }
-        ensures behind { self.new.behind ≡ [] }
     {
-        move_down(&mut self.octets, self.first, self.len);
-        self.first = 0;
         let end = self.len + octets.len();
         self.octets[self.len..end].copy_from_slice(octets);
         self.len = end;
     }
 
-    /// Takes as many of the next octets as there is room for, at most `limit`, and returns how many.
+    /// Takes as many of the next octets as there is room for, at most `limit`, and answers how many.
     pub fn fill(&mut self, octets: &[u8], limit: usize) -> usize
         ensures count { result ≡ min (min (length octets.now) limit) (self.old.room - length self.old.octets) }
         ensures octets { self.new.octets ≡ self.old.octets ++ take result octets.now }
         ensures room { self.new.room ≡ self.old.room }
-        ensures behind { self.new.behind ≡ [] }
     {
-        move_down(&mut self.octets, self.first, self.len);
-        self.first = 0;
-        let from = self.len;
-        let count = octets.len().min(limit).min(self.octets.len() - from);
-        self.octets[from..from + count].copy_from_slice(&octets[..count]);
+        let first = self.len;
+        let count = octets.len().min(limit).min(self.octets.len() - first);
+        self.octets[first..first + count].copy_from_slice(&octets[..count]);
         self.len += count;
         count
     }
 
-    /// Converts the octets from number `first` on, which are signed, to unsigned ones. Those that were dropped are
-    /// readable no more.
+    /// Converts the octets from number `first` on, which are signed, to unsigned ones.
     pub fn to_unsigned(&mut self, first: usize)
         requires { first ≤ length self.old.octets }
         ensures octets { self.new.octets ≡ take first self.old.octets ++ from_form true (drop first self.old.octets) }
         ensures room { self.new.room ≡ self.old.room }
-        ensures behind { self.new.behind ≡ [] }
     {
-        move_down(&mut self.octets, self.first, self.len);
-        self.first = 0;
         to_unsigned(&mut self.octets[first..self.len]);
     }
 
@@ -122,10 +87,12 @@ impl Held {
     pub fn drop_first(&mut self, count: usize)
         ensures octets { self.new.octets ≡ drop count self.old.octets }
         ensures room { self.new.room ≡ self.old.room }
-        ensures behind { self.new.behind ≡ self.old.behind ++ take count self.old.octets }
     {
         let count = count.min(self.len);
-        self.first += count;
+        if count == 0 {
+            return;
+        }
+        self.octets.as_mut_slice().copy_within(count..self.len, 0);
         self.len -= count;
     }
 
@@ -133,9 +100,7 @@ impl Held {
     pub fn clear(&mut self)
         ensures octets { self.new.octets ≡ [] }
         ensures room { self.new.room ≡ self.old.room }
-        ensures behind { self.new.behind ≡ self.old.behind ++ self.old.octets }
     {
-        self.first += self.len;
         self.len = 0;
     }
 
@@ -158,13 +123,6 @@ impl Held {
         ensures octets { result.now ≡ self.now.octets }
         ensures room { length result.now ≤ self.now.room }
     {
-        &self.octets[self.first..self.first + self.len]
-    }
-
-    /// The octets that were dropped since the last ones were put in.
-    pub fn behind(&self) -> &[u8]
-        ensures { result.now ≡ self.now.behind }
-    {
-        &self.octets[..self.first]
+        &self.octets[..self.len]
     }
 }

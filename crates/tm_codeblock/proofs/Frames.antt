@@ -101,6 +101,3 @@ whole_frames-more size octets more pos =
     frames-are size (octets ++ more) (whole_frames size octets ++ others) rest
     (splits-more size octets more held rest (whole_frames size octets) others (splits size octets pos)
     (splits size (held ++ more) pos))
-
-pub whole_frames-none : (size : ℕ) → 0 < size → whole_frames size [] ≡ []
-whole_frames-none size pos = frames-are size [] [] [] (record { whole = refl; sized = tt; partial = pos })

@@ -1,12 +1,12 @@
 -- The places of a configuration's codeblocks, where they are looked for inside others too.
-use Rattle.std.proofs.Common.{◌≡◌, ◌≤◌, ◌<◌, ◌+◌, ◌*◌, ℕ, Bool, true, false, cond, List, ◌++◌, length, take, drop, map, Some, None, sym, ap, ◌∙◌, subst, arith, length-drop}
+use Rattle.std.proofs.Common.{◌≡◌, ◌≤◌, ◌+◌, ◌*◌, ℕ, Bool, true, false, cond, List, ◌++◌, length, take, drop, map, Some, None, sym, ap, ◌∙◌, subst, arith, length-drop}
 use Rattle.std.specs.List.{AllByRecursion}
 use Rattle.std.proofs.lemmas.List.{drop-append-le, take-append-le, drop-drop}
 use Rattle.tm_base.specs.Bits.{octets_of}
 use Rattle.tm_base.specs.Marker.{marker_size}
 use Rattle.tm_config.specs.Configuration.{Configuration, codeblock_length, correctable, data_length, is_sought}
 use Rattle.tm_sync.specs.Bits.{flip, complement}
-use Rattle.tm_sync.specs.Places.{complemented_place, places, settled_by}
+use Rattle.tm_sync.specs.Places.{complemented_place, places}
 use Rattle.tm_sync.specs.Rescan.{Fits, places_with}
 use Rattle.tm_sync.proofs.Complemented.{take-complement, drop-complement, in_polarity-complemented, places_with-complemented}
 use Rattle.tm_sync.proofs.Prefixes.{Rise, places_after-rise, places_with-goes_on, places_with-end, places_with-sound}
@@ -120,18 +120,6 @@ places_in-append c bits more =
     (sym (places_in-more c bits more))
     (places_with-goes_on (rules_of c) (columns_of c) (sound_in c (bits ++ more)) bits more
     (fits c)).0
-
--- and the others are not settled in these
-pub places_in-after : (c : Configuration) (bits more : List Bool)
-    → AllByRecursion (λ f. length bits < f.place + settled_by c.verify (8 * codeblock_length c))
-    (drop (length (places_in c bits)) (places_in c (bits ++ more)))
-places_in-after c bits more =
-    subst (λ fs. AllByRecursion (λ f. length bits < f.place + settled_by c.verify
-    (8 * codeblock_length c))
-    (drop (length fs) (places_in c (bits ++ more))))
-    (sym (places_in-more c bits more))
-    (places_with-goes_on (rules_of c) (columns_of c) (sound_in c (bits ++ more)) bits more
-    (fits c)).1
 
 -- each codeblock is whole
 pub places_in-end : (c : Configuration) (bits : List Bool)

@@ -39,7 +39,3 @@ codeblock_length-le c accepted =
       | inl none ↦ without_code c.depth (data_length c) c.code (accepted.no_depth none.1) none.1 accepted.data_fits
       | inr some ↦ mul-le-mul accepted.depth (word_length-le c accepted some.1)
     ]
-
--- a frame has an octet at least
-pub some_frame : (c : Configuration) → IsAccepted c → 1 ≤ c.frame_length
-some_frame c accepted = let product = mul-le-mul accepted.some_depth accepted.some_data in omega (arith, accepted.whole)

@@ -1,5 +1,5 @@
 -- What octets say against symbols, a step at a time.
-use Rattle.std.proofs.Common.{◌≡◌, ℕ, zero, suc, ◌+◌, ◌-◌, ◌*◌, ◌%◌, ◌<◌, ◌≤◌, ◌∙◌, ◌++◌, Bool, List, [], ◌∷◌, length, take, drop, get_or, refl, sym, ap, arith, length-append}
+use Rattle.std.proofs.Common.{◌≡◌, ℕ, zero, suc, ◌+◌, ◌-◌, ◌%◌, ◌<◌, ◌≤◌, ◌∙◌, ◌++◌, Bool, List, [], ◌∷◌, length, take, drop, get_or, refl, sym, ap, arith, length-append}
 use Rattle.std.specs.Prelude.{if◌then◌else◌, nat_eq, sum_by}
 use Rattle.std.proofs.lemmas.List.{take-append-drop, at_drop_more, drop-drop, length-drop, length-take-le}
 use Rattle.std.proofs.lemmas.List.Sums.{sum_by-append}
@@ -10,7 +10,7 @@ use Rattle.tm_conv.specs.declared.encoder.Symbols.{Symbols}
 use Rattle.tm_conv.specs.Path.{c1, c2, next_register, sent, step_symbols, step_size, steps_size, path, period}
 use Rattle.tm_conv.specs.Encoding.{symbol_list}
 use Rattle.tm_conv.specs.Cost.{distance}
-use Rattle.tm_conv.specs.Counts.{added, counts_of, counts_by, distances, is_wrong, none_counted, square}
+use Rattle.tm_conv.specs.Counts.{added, counts_by, distances, is_wrong, none_counted, square}
 use Rattle.tm_conv.proofs.Encoded.{sent-position}
 use Rattle.tm_conv.proofs.Paths.{length-step_symbols, steps_size-more}
 use Rattle.tm_conv.proofs.Sizes.{steps_size-le}
@@ -36,16 +36,6 @@ added-append counts xs ys =
       wrong = by (λ x. if is_wrong x then 1 else 0) counts.wrong i;
       distance = by (λ x. x) counts.distance i;
       squares = by square counts.squares i;
-    }
-
-pub added-none : (counts : SymbolCounts) → added counts [] ≡ counts
-added-none counts =
-    let same = λ (n : ℕ). let e : n + 0 ≡ n = omega arith in e in
-    λ i. record {
-      octets = same counts.octets i;
-      wrong = same counts.wrong i;
-      distance = same counts.distance i;
-      squares = same counts.squares i;
     }
 
 pub none-added : (far : List ℕ) → added none_counted far ≡ counts_by far

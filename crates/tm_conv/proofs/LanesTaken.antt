@@ -1,17 +1,10 @@
 -- A vector's lanes at the places of another.
-use Rattle.std.proofs.Common.{◌≡◌, ◌<◌, ◌+◌, ◌*◌, ◌/◌, ◌∙◌, ℕ, List, [], ◌∷◌, get_or, refl, sym, ap, arith, suc, length, w8}
+use Rattle.std.proofs.Common.{◌≡◌, ◌<◌, ◌+◌, ◌*◌, ◌/◌, ◌∙◌, ℕ, List, get_or, sym, ap, arith, length, w8}
 use Rattle.std.specs.Prelude.{All}
 use Rattle.std.proofs.lemmas.List.{ext_get_or, get_or-map, length-map}
-use Rattle.std.proofs.lemmas.Simd.{swz_l, SwzOk, length-swz_l, get_or-swz_l_below, SwzOk-from_below}
+use Rattle.std.proofs.lemmas.Simd.{swz_l, length-swz_l, get_or-swz_l_below}
 use lib.Lanes.{Each1}
 use Rattle.tm_conv.specs.Octets.{elements_at}
-
-each : (n : ℕ) (places : List ℕ) → All (λ place. place < n) places → Each1 (λ place. place < n) places
-each n [] are = tt
-each n (x ∷ xs) are = (are 0 0 (omega arith), each n xs (λ k d within. are (suc k) d (omega arith)))
-
-pub places_fit : (places : List ℕ) → length places ≡ 16 → All (λ place. place < 16) places → SwzOk w8 16 16 0 places
-places_fit places long small = SwzOk-from_below w8 16 1 16 0 places refl (omega (arith, long)) (each 16 places small)
 
 pub lanes_taken : (lanes places : List ℕ) → length places ≡ 16 → All (λ place. place < 16) places
     → swz_l w8 16 lanes 0 places ≡ elements_at places lanes

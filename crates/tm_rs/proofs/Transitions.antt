@@ -1,5 +1,5 @@
 -- How the state of the recurrence goes on.
-use Rattle.std.proofs.Common.{◌≡◌, ◌≢◌, ◌<◌, ◌≤◌, ◌+◌, ◌-◌, ◌*◌, ◌/◌, ℕ, zero, suc, List, length, arith, ap, sym, ◌∙◌, refl, inl, inr, subst, ◌⊎◌, add-one}
+use Rattle.std.proofs.Common.{◌≡◌, ◌≢◌, ◌<◌, ◌≤◌, ◌+◌, ◌-◌, ◌*◌, ◌/◌, ℕ, suc, List, length, arith, ap, sym, ◌∙◌, refl, inl, inr, subst, ◌⊎◌, add-one}
 use Rattle.tm_rs_code.specs.Code.{weight}
 use Rattle.tm_rs_code.specs.Pattern.{Explains}
 use Rattle.tm_gf256.specs.Field.{times}
@@ -8,10 +8,10 @@ use Rattle.std.proofs.lemmas.Bool.{cases_lt}
 use Rattle.std.proofs.lemmas.List.{get_or_past}
 use Rattle.tm_gf256.proofs.Ring.{times-assoc, times-comm, times-one}
 use Rattle.tm_rs_code.specs.Recurrence.{discrepancy, patched, Generates}
-use Rattle.tm_rs_code.proofs.Recurrence.{step, step_same, step_first, now_failed, patched-lt}
+use Rattle.tm_rs_code.proofs.Recurrence.{step, step_first, now_failed, patched-lt}
 use Rattle.tm_rs_code.proofs.Locator.{bound}
 use Rattle.tm_gf256.specs.Poly.{entry}
-use Rattle.tm_rs.specs.State.{Before, Fresh, IsShortest, IsState, Unexplained}
+use Rattle.tm_rs.specs.State.{Before, Fresh, IsState, Unexplained}
 
 -- the same at k + 1 and suc k
 next : (c : ℕ → ℕ) (l : ℕ) (s : ℕ → ℕ) (k : ℕ) → Generates c l s (suc k) → Generates c l s (k + 1)
@@ -27,20 +27,6 @@ prior_later b s l m d k (inr p) = inr record {
   gap = omega (arith, p.gap);
   positive = omega arith;
   both = p.both;
-}
-
--- the term fits
-pub fits : (count : ℕ) (s c b : ℕ → ℕ) (l m d k : ℕ) → IsState count s c b l m d k → discrepancy c s k (suc l) ≡ 0
-    → IsState count s c b l (m + 1) d (k + 1)
-fits count s c b l m d k h z = record {
-  generates = next c l s k (step_same c s l k h.generates z);
-  elements = h.elements;
-  elements_b = h.elements_b;
-  scale = h.scale;
-  few = h.few;
-  known = omega (arith, h.known);
-  least = h.least;
-  prior = prior_later b s l m d k h.prior;
 }
 
 patched_generates : (s c b : ℕ → ℕ) (l l' m d k f q : ℕ) → Generates c l s k → Fresh b l m k ⊎ Before b l m d k s
@@ -136,28 +122,3 @@ arrayed count s f b l m d k end xs ys at changed same zeros h =
 pub zeros_after : (count : ℕ) (s c b : ℕ → ℕ) (l m d k end : ℕ) → end ≡ count / 2 + 1 → IsState count s c b l m d k
     → (i : ℕ) → end ≤ i → c i ≡ 0
 zeros_after count s c b l m d k end at h i ge = h.generates.beyond i (omega (arith, h.few, at))
-
--- all terms are taken in
-pub ended : (count : ℕ) (s c b : ℕ → ℕ) (l m d k : ℕ) → k ≡ count → IsState count s c b l m d k → IsShortest count s c l
-ended count s c b l m d k e h = record {
-  generates = subst (Generates c l s) e h.generates;
-  elements = h.elements;
-  few = h.few;
-  least = h.least;
-}
-
-pub at_start : (count : ℕ) (s c : ℕ → ℕ) → c 0 ≡ 1 → ((i : ℕ) → 1 ≤ i → c i ≡ 0) → IsState count s c c 0 1 1 0
-at_start count s c one none = record {
-  generates = record { first = one; beyond = λ i h. none i (omega arith); meets = λ k low high. absurd (omega arith) };
-  elements = small;
-  elements_b = small;
-  scale = λ bad. omega arith;
-  few = omega arith;
-  known = omega arith;
-  least = λ e n h w p. omega arith;
-  prior = inl record { none = refl; gap = omega arith; single = none };
-}
-  where
-    small : (i : ℕ) → c i < 256
-    small zero = rw one (omega arith)
-    small (suc i) = rw (none (suc i) (omega arith)) (omega arith)

@@ -1,5 +1,5 @@
 -- Words with erased places and their error patterns.
-use Rattle.std.proofs.Common.{◌≡◌, ◌<◌, ◌≤◌, ◌≢◌, ℕ, suc, ◌+◌, ◌*◌, List, [], ◌∷◌, length, refl, ap, sym, ◌∙◌, arith, inl, inr, eqb, cond, true, false, Bool}
+use Rattle.std.proofs.Common.{◌≡◌, ◌<◌, ◌≤◌, ◌≢◌, ℕ, suc, ◌+◌, ◌*◌, List, [], ◌∷◌, length, refl, ap, sym, ◌∙◌, arith, inl, inr, true, false, Bool}
 use Rattle.std.specs.Prelude.{bit_xor}
 use Rattle.std.specs.Int.Bits.{xor_zero_r, xor_self}
 use Rattle.std.proofs.lemmas.Bool.{cases_eq}
@@ -147,10 +147,6 @@ beyond_erased_none e bound fs s old len el values none c code near =
 pub length-places_named : (g : List ℕ) (fs : List Bool) → length (places_named g fs) ≡ length fs
 length-places_named g [] = refl
 length-places_named g (f ∷ fs) = ap suc (length-places_named g fs)
-
-one_at_most : (b : Bool) → cond (eqb (cond b 1 0) 0) 0 1 ≤ 1
-one_at_most true = omega arith
-one_at_most false = omega arith
 
 one_not : (n : ℕ) → n ≡ 1 → n ≡ 0 → ⊥
 one_not n e z = omega arith

@@ -5,14 +5,10 @@ use Rattle.std.specs.Int.Bits.{xor_self}
 use Rattle.std.proofs.lemmas.Bool.{cases_eq}
 use Rattle.tm_gf256.specs.Field.{times}
 use Rattle.tm_gf256.specs.Poly.{value_at}
-use Rattle.tm_gf256.proofs.Ring.{times-lt, times-zero, zero-times, plus-lt}
-use Rattle.tm_rs_code.specs.Code.{AreElements, root}
+use Rattle.tm_gf256.proofs.Ring.{times-zero, zero-times}
+use Rattle.tm_rs_code.specs.Code.{root}
 use Rattle.tm_rs_code.specs.Pattern.{carry}
 use Rattle.tm_rs_code.proofs.Factor.{value_at-carry, product_of, length-product_of}
-
-pub AreElements-carry : (r a : ℕ) (qs : List ℕ) → AreElements qs → AreElements (carry r a qs)
-AreElements-carry r a [] h = (times-lt r a, tt)
-AreElements-carry r a (q ∷ qs) h = (plus-lt q (times r a) h.0 (times-lt r a), AreElements-carry r q qs h.1)
 
 -- the first n roots of the code
 abbrev pub roots : ℕ → ℕ → List ℕ

@@ -133,16 +133,6 @@ step c b s l l_b l' n n_b m d d_b q g f dn qd nm pos both grow far = record {
       ];
 }
 
--- where the term n fits
-pub step_same : (c s : ℕ → ℕ) (l n : ℕ) → Generates c l s n → discrepancy c s n (suc l) ≡ 0 → Generates c l s (suc n)
-step_same c s l n g d = record {
-  first = g.first;
-  beyond = g.beyond;
-  meets =
-      λ k low high. elim (cases_eq k n)
-      [ inl e ↦ ap (λ (y : ℕ). discrepancy c s y (suc l)) e ∙ d | inr ne ↦ g.meets k low (omega arith) ];
-}
-
 -- where the length grows, what was is what failed
 pub now_failed : (c s : ℕ → ℕ) (l n d : ℕ) → Generates c l s n → discrepancy c s n (suc l) ≡ d → Failed c l s n d
 now_failed c s l n d g e = record { beyond = g.beyond; met = g.meets; failed = e }

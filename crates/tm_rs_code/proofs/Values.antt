@@ -49,10 +49,6 @@ scaled-unscaled x (t ∷ ts) l h a =
     ∙ times-one t.value h.0)
     ∙ ap (λ (us : List Term). t ∷ us) (scaled-unscaled x ts l h.3 a.1)
 
--- x + (x + y) is y
-back : (x y : ℕ) → bit_xor x (bit_xor x y) ≡ y
-back x y = sym (xor_assoc x x y) ∙ ap (λ (z : ℕ). bit_xor z y) (xor_self x)
-
 cancel_right : (a b c : ℕ) → bit_xor a c ≡ bit_xor b c → a ≡ b
 cancel_right a b c e =
     sym (xor_assoc a c c ∙ ap (bit_xor a) (xor_self c) ∙ xor_zero_r a)

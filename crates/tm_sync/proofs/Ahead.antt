@@ -132,17 +132,6 @@ passes-none f f' count bits within none rules columns moved = record {
       (moved few).1;
 }
 
-pub passes-first : (f : Finding) (bits : List Bool) → Passes f f bits bits
-passes-first f bits = record {
-  rules = refl;
-  columns = refl;
-  count = 0;
-  within = omega arith;
-  rest = refl;
-  passed = λ few. omega arith;
-  same = λ few sound more. refl;
-}
-
 pub passes-then : (f g h : Finding) (a b c : List Bool) → Passes f g a b → Passes g h b c
     → Passes f h a c
 passes-then f g h a b c p q =
@@ -259,23 +248,6 @@ pub followed-shut : (rules : Rules) (columns : Columns) (at : ℕ) (last : Last)
 followed-shut rules columns at last bits inverted sound match =
     (λ i. not (sound i) || (nat_le last.end (at + reach columns) && is_none (match i)))
     ∙ and-false (nat_le last.end (at + reach columns))
-
-pub unsound-open : (rules : Rules) (columns : Columns) (at : ℕ) (last : Last) (bits : List Bool)
-    → last.sound ≡ false → is_open rules columns at last bits ≡ true
-unsound-open rules columns at last bits sound =
-    λ i. not (sound i) ||
-    (nat_le last.end (at + reach columns) && is_none (match_of rules (drop (last.end - at) bits)))
-
-or-true : (b : Bool) → (b || true) ≡ true
-or-true true = refl
-or-true false = refl
-
-pub late-open : (rules : Rules) (columns : Columns) (at : ℕ) (last : Last) (bits : List Bool)
-    → last.end ≤ at + reach columns → match_of rules (drop (last.end - at) bits) ≡ None
-    → is_open rules columns at last bits ≡ true
-late-open rules columns at last bits late match =
-    let test : nat_le last.end (at + reach columns) ≡ true = grind (arith, nat_tests) in
-    (λ i. not last.sound || (test i && is_none (match i))) ∙ or-true (not last.sound)
 
 pub inside-finds : (f : Finding) (bits : List Bool) (inverted : Bool) → Fits f.rules f.columns
     → IsOpen f bits

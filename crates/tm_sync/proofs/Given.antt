@@ -2,7 +2,7 @@
 use Rattle.std.proofs.Common.{◌≡◌, ℕ, zero, suc, ◌+◌, ◌-◌, ◌*◌, ◌/◌, ◌%◌, ◌^◌, ◌<◌, ◌≤◌, Bool, true, false, cond, ◌==◌, ◌&&◌, nat_le, List, [], ◌∷◌, ◌++◌, length, take, drop, refl, sym, ap, ◌∙◌, subst, arith, Option, Some, None, IsSome, IfSome, IfNone, bit_or, unwrap_or, append_assoc, length-append, length-drop, take-append-drop, ◌⊎◌, inl, inr}
 use mir.Val.{bool_byte}
 use Rattle.std.specs.Option.{option_map, option_map_or, is_some}
-use Rattle.std.proofs.lemmas.List.{length-take-le, append-nil, append_cancel_left, nil_from_length, take_at, drop_at, drop-drop}
+use Rattle.std.proofs.lemmas.List.{length-take-le, append-nil, nil_from_length, take_at, drop_at, drop-drop}
 use Rattle.std.proofs.lemmas.Nat.{div-mul-add, div-add-mod', mod_below}
 use Rattle.std.proofs.lemmas.Bool.{cases_lt}
 use Rattle.std.proofs.lemmas.Bool.Decides.{nat_tests}
@@ -1128,29 +1128,6 @@ reported_last s s' room m pending t short free fresh bits found stood =
             → length (drop (m.found.place + 32 + s.rules.block_bits) bits) ≡ 0
         go size (inl none_left) = none_left
         go size (inr (count, size', match, held)) = absurd (omega arith)
-
--- where further markers verified the place that is reported, the room holds what was given from its first bit on
-pub reported-recent : (s : Searching) (room : List ℕ) (count : ℕ) (bits : List Bool) (found rest : List Found)
-    (f : Found) → inside_of s ≡ Some count → s.rules.block_bits < count
-    → SearchStandsFor s room bits found → places s.rules bits ≡ found ++ f ∷ rest → IsRecent room bits f.place
-reported-recent s room count bits found rest f is more stood states = go s.awaited refl
-  where
-    go : (o : Option Awaited) → s.awaited ≡ o → IsRecent room bits f.place
-    go None e = let no : None ≡ Some count = ap (option_map (λ _. s.after)) (sym e) ∙ is in absurd (cc)
-    go (Some m) e =
-        let same : Some s.after ≡ Some count = ap (option_map (λ _. s.after)) (sym e) ∙ is in
-        let after : s.after ≡ count = cc in
-        let over : nat_le s.after s.rules.block_bits ≡ false = grind (arith, nat_tests) in
-        let full : nat_le s.rules.block_bits s.after ≡ true = grind (arith, nat_tests) in
-        let pending : is_pending s ≡ true = ap (λ (o : Option Awaited). option_map_or
-        (λ count. nat_le s.rules.block_bits count) (option_map (λ _. s.after) o) false) e ∙ full in
-        let reported = reported-of s room bits found (parts_of s room bits found stood) m e pending in
-        let lists : f ∷ rest ≡ m.found ∷ reported.rest = append_cancel_left found (f ∷ rest) (m.found ∷ reported.rest)
-        (sym states ∙ reported.states) in
-        let this : f ≡ m.found = cc in
-        let from : from_of s s.awaited ≡ f.place =
-        ap (from_of s) e ∙ ap (λ c. cond c s.pushed m.found.place) over ∙ ap (λ (g : Found). g.place) (sym this) in
-        subst (IsRecent room bits) from stood.recent
 
 -- the search goes on from a state with the same bits
 pub recalls-same : (s now : Searching) (room : List ℕ) (bits : List Bool) (from : ℕ) → now.pushed ≡ s.pushed

@@ -163,9 +163,6 @@ pub places-room : (rules : Rules) (bits : List Bool) → length (places rules bi
     ≤ length bits
 places-room rules bits = omega (arith, places_from-room rules 0 0 None bits)
 
-pub places-count : (rules : Rules) (bits : List Bool) → length (places rules bits) ≤ length bits
-places-count rules bits = omega (arith, places-room rules bits)
-
 -- ---- a longer list
 
 -- Its places are first those of the shorter one. The others are not settled there, and `more` bits

@@ -21,13 +21,6 @@ place_of starts t octets = record { starts = starts; t = t; octets = octets }
 
 -- ---- one window more
 
-pub followed-push : (w : Windows) (from to : Spot) (blocks : List WindowBlock) (b : Beginning) (x : WindowBlock)
-    → Followed w from blocks to
-    → Begins w to b → ClosesAt w.settings b x → Followed w from (blocks ++ x ∷ []) (spot_after w.settings b x)
-followed-push w from to [] b x h begins closes = (b, subst (λ (v : Spot). Begins w v b) (sym h) begins, closes, refl)
-followed-push w from to (y ∷ ys) b x h begins closes =
-    (h.0, h.1, h.2, followed-push w (spot_after w.settings h.0 y) to ys b x h.3 begins closes)
-
 pub followed-both : (w : Windows) (from middle to : Spot) (xs ys : List WindowBlock) → Followed w from xs middle
     → Followed w middle ys to
     → Followed w from (xs ++ ys) to

@@ -1,7 +1,7 @@
 use Rattle.std.proofs.Common.{rules, ◌≡◌, ◌≤◌, ◌<◌, ◌∙◌, ℕ, length, ◌+◌, ◌-◌, ◌*◌, ◌%◌, arith, get_or, take, drop, ap, sym, subst, length-drop}
 use Rattle.std.proofs.lemmas.List.{length-take-le}
 use Rattle.std.proofs.lemmas.List.Elements.{All-get_or}
-use Rattle.tm_conv.specs.Path.{path, period, step_size, step_symbols, steps_size}
+use Rattle.tm_conv.specs.Path.{path, period, step_symbols, steps_size}
 use Rattle.tm_conv.specs.Counts.{AreFew, added, counts_of, distances}
 use Rattle.tm_conv.specs.Encoding.{symbol_list}
 use Rattle.tm_conv.proofs.Counted.{bit-of, counted-step, kept-symbols, none-added, step-fits, step-place}

@@ -1,12 +1,9 @@
-use Rattle.std.proofs.Common.{◌≡◌, ◌≤◌, ◌∙◌, sym, ap, subst, arith, length, length-set, take, List, ℕ}
+use Rattle.std.proofs.Common.{◌≤◌, ◌∙◌, sym, ap, subst, arith, length, length-set, take, List, ℕ}
 use Rattle.std.proofs.lemmas.List.{length-take-le}
 use Rattle.tm_conv.specs.Path.{steps_size}
 use Rattle.tm_viterbi.specs.Carries.{Carries}
 use Rattle.tm_viterbi.proofs.Carrying.{one_step, single_set, Carries-one}
 use Rattle.tm_viterbi.proofs.forward_pass.wide_step.Goals as goal
-
-long : (n size : ℕ) (soft : List ℕ) → n ≡ size → size ≤ length soft → length (take n soft) ≡ n
-long n size soft e le = length-take-le n soft (omega arith)
 
 pub slice_bounds-step-end : goal.slice_bounds-step-end
 slice_bounds-step-end c =
