@@ -1,5 +1,6 @@
 -- Columns of least costs pass a check of the best path's metric, and are small.
 use Rattle.std.proofs.Common.{◌≡◌, ℕ, zero, suc, ◌+◌, ◌-◌, ◌^◌, ◌<◌, ◌≤◌, Bool, cond, IsTrue, Option, Some, None, List, [], ◌++◌, length, get_or, take, drop, refl, sym, ap, subst, ◌∙◌, arith, take_all, take-add, length-take, length-drop, All}
+use Rattle.std.proofs.Math.Path.{transport}
 use Rattle.std.proofs.lemmas.List.{length-take-le}
 use Rattle.std.proofs.lemmas.List.Elements.{All-take, All-from_get_or}
 use Rattle.tm_conv.specs.declared.rates.Rate.{Rate}
@@ -36,10 +37,8 @@ module _ (claim : Claim) (starts : Option ℕ) (steps : ℕ) (columns : List (Li
   first_holds : (register : ℕ) → register < 64 → IsTrue (is_start claim.starts register)
       → get_or (column_at columns 0) register 0 ≡ 0
   first_holds register small start =
-      let none : take (steps_size claim.rate claim.first 0) claim.soft ≡ [] =
-      ap (λ k. take k claim.soft) (steps_size-zero claim.rate claim.first) in
-      let column = subst (λ v. IsColumn (starts_from starts) claim.rate claim.invert claim.first v
-      (column_at columns 0)) none (are.each 0 (omega arith)) in
+      let column = transport (λ i. IsColumn (starts_from starts) claim.rate claim.invert claim.first
+      (take (steps_size-zero claim.rate claim.first i) claim.soft) (column_at columns 0)) (are.each 0 (omega arith)) in
       let begins : is_start claim.starts register ≡ starts_from starts register =
       ap (λ (v : Starts). is_start v register) same ∙ may_start starts register in
       IsColumn-first (starts_from starts) claim.rate claim.invert claim.first register
@@ -76,10 +75,8 @@ module _ (claim : Claim) (starts : Option ℕ) (steps : ℕ) (columns : List (Li
       (step_octets claim k) (column_at columns k) (column_at columns (suc k))
       before after (length-take-le n claim.soft (omega (arith, fits))) there small is_bit in
       let place : k ≡ suc k - 1 = omega arith in
-      subst (λ v. get_or (column_at columns (suc k)) v 0 ≤ get_or
-      (column_at columns (suc k - 1)) from 0 + edge_cost claim k from bit) to
-      (subst (λ v. get_or (column_at columns (suc k)) (next_register from bit) 0
-      ≤ get_or (column_at columns v) from 0 + edge_cost claim k from bit) place step)
+      transport (λ i. get_or (column_at columns (suc k)) (to i) 0
+      ≤ get_or (column_at columns (place i)) from 0 + edge_cost claim k from bit) step
 
   all_hold : (t register : ℕ) → t < length columns → register < 64 → Holds claim columns t register
   all_hold zero register lt small = first_holds register small
@@ -95,10 +92,8 @@ module _ (claim : Claim) (starts : Option ℕ) (steps : ℕ) (columns : List (Li
       take_all (steps_size claim.rate claim.first steps) claim.soft (omega (arith, long)) in
       let last : IsColumn (starts_from starts) claim.rate claim.invert claim.first claim.soft (last_of columns)
       =
-      subst (λ v. IsColumn (starts_from starts) claim.rate claim.invert claim.first claim.soft
-      (column_at columns v)) (sym end)
-      (subst (λ v. IsColumn (starts_from starts) claim.rate claim.invert claim.first v (column_at columns steps)) all
-      (are.each steps (omega arith))) in
+      transport (λ i. IsColumn (starts_from starts) claim.rate claim.invert claim.first (all i)
+      (column_at columns (sym end i))) (are.each steps (omega arith)) in
       record {
         columns_hold = all_hold;
         at_least = λ register small.

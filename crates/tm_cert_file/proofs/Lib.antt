@@ -1,11 +1,10 @@
 mod BigEndian
 mod Spans
-mod Prefixes
 pub mod Stages
+mod Prefixes
 pub mod Looking
 pub mod Passing
 mod Pushing
-mod ReasonPrefix
 mod SeenOnce
 mod ReadFile
 mod ShownWindows

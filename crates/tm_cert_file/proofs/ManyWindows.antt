@@ -1,19 +1,20 @@
 -- The windows of blocks, one after the other, and their certificate.
-use Rattle.std.proofs.Common.{◌≡◌, ℕ, ◌+◌, ◌-◌, ◌≤◌, ◌∙◌, refl, sym, ap, subst, arith, List, [], ◌∷◌, ◌++◌, Bool, Option, Some, take, drop, length, length-drop, append_assoc}
-use Rattle.std.proofs.lemmas.Bool.Decides.{nat_tests}
+use Rattle.std.proofs.Common.{◌≡◌, ℕ, ◌+◌, ◌-◌, ◌≤◌, ◌∙◌, refl, sym, ap, subst, arith, List, [], ◌∷◌, ◌++◌, Bool, Option, Some, take, drop, length, length-drop}
 use Rattle.std.proofs.lemmas.List.{ext_get_or, take-append-le, drop-append-le, length-take-le}
 use Rattle.tm_conv.specs.declared.rates.Rate.{Rate}
 use Rattle.tm_conv.specs.Path.{steps_size}
 use Rattle.tm_conv.specs.Columns.{IsColumn}
 use Rattle.tm_viterbi.specs.Settings.{Settings}
 use Rattle.tm_viterbi.specs.WindowBlock.{WindowBlock}
-use Rattle.tm_viterbi.specs.Blocks.{IsBlock, AreBlocks, AreBlocksOf, window_steps, kept_steps}
+use Rattle.tm_viterbi.specs.Blocks.{IsBlock, AreBlocks, AreBlocksOf}
 use Rattle.tm_viterbi.specs.Due.{Place, Closed, after_block, first_place}
 use Rattle.tm_cert_file.specs.Window.{window_octets}
-use Rattle.tm_cert_file.specs.Certificate.{AreColumns, IsCertified, AreCertified, IsCertificate}
+use Rattle.tm_cert_file.specs.Certificate.{window_for, IsCertified, AreCertified, IsCertificate}
 use Rattle.tm_cert_file.proofs.ColumnLists.{HasColumn}
 use Rattle.tm_cert_file.proofs.WindowTexts.{certified-some}
-use Rattle.tm_conv.proofs.Sizes.{steps_size-add, steps_size-le}
+use Rattle.tm_conv.proofs.Sizes.{steps_size-le}
+use Rattle.tm_cert_file.proofs.Spans.{steps_size-rest}
+use Rattle.tm_cert_file.proofs.WindowPasses.{are_few}
 
 -- octets have one column
 abbrev pub OneColumn : Type 0
@@ -31,37 +32,12 @@ abbrev pub AreThere : Rate → Place → List WindowBlock → Type 0
 AreThere rate at [] = Unit {0}
 AreThere rate at (block ∷ blocks) = IsThere rate at block × AreThere rate (after_block rate at block) blocks
 
-kept-few : (keep ahead n : ℕ) → kept_steps keep ahead n ≤ window_steps keep ahead n
-kept-few keep ahead n = grind (arith, nat_tests)
-
-pub there-block : (rate : Rate) (invert : Bool) (keep ahead n : ℕ) (at : Place) (block : WindowBlock)
+there-block : (rate : Rate) (invert : Bool) (keep ahead n : ℕ) (at : Place) (block : WindowBlock)
     → steps_size rate at.t n ≤ length at.octets
     → IsBlock rate invert keep ahead at.starts at.t n at.octets block → IsThere rate at block
-there-block rate invert keep ahead n at block whole is = record {
-  octets = omega (arith, whole, steps_size-le rate at.t block.steps n (omega (arith, is.steps)));
-  kept = omega (arith, is.steps, is.kept, kept-few keep ahead n);
-}
-
--- and those of the kept steps
-pub kept-inside : (rate : Rate) (at : Place) (block : WindowBlock) → IsThere rate at block
-    → steps_size rate at.t block.kept ≤ length at.octets
-kept-inside rate at block there = omega (arith, there.octets, steps_size-le rate at.t block.kept block.steps there.kept)
-
--- what is left of whole steps after the kept ones
-pub whole-after : (rate : Rate) (invert : Bool) (keep ahead n : ℕ) (at : Place) (block : WindowBlock)
-    → steps_size rate at.t n ≤ length at.octets
-    → IsBlock rate invert keep ahead at.starts at.t n at.octets block
-    → steps_size rate (at.t + block.kept) (n - block.kept) ≤ length (drop (steps_size rate at.t block.kept) at.octets)
-whole-after rate invert keep ahead n at block whole is =
-    let few : block.kept ≤ n = omega (arith, is.kept, kept-few keep ahead n) in
-    let sum : block.kept + (n - block.kept) ≡ n = omega arith in
-    omega (
-      arith,
-      whole,
-      steps_size-add rate at.t block.kept (n - block.kept),
-      ap (steps_size rate at.t) sum,
-      length-drop (steps_size rate at.t block.kept) at.octets,
-    )
+there-block rate invert keep ahead n at block whole is =
+    let few = are_few keep ahead n block.steps block.kept is.steps is.kept in
+    record { octets = omega (arith, whole, steps_size-le rate at.t block.steps n few.left); kept = few.within }
 
 pub there-closed : (rate : Rate) (invert : Bool) (keep ahead : ℕ) (from to : Place) (blocks : List WindowBlock)
     → Closed rate invert keep ahead from blocks to → AreThere rate from blocks
@@ -71,15 +47,21 @@ there-closed rate invert keep ahead from to (block ∷ blocks) closed = (
   there-closed rate invert keep ahead (after_block rate from block) to blocks closed.1,
 )
 
-pub there-all : (rate : Rate) (invert : Bool) (keep ahead n : ℕ) (at : Place) (blocks : List WindowBlock)
+there-all : (rate : Rate) (invert : Bool) (keep ahead n : ℕ) (at : Place) (blocks : List WindowBlock)
     → steps_size rate at.t n ≤ length at.octets
     → AreBlocks rate invert keep ahead at.starts at.t n at.octets blocks → AreThere rate at blocks
 there-all rate invert keep ahead n at [] whole are = tt
-there-all rate invert keep ahead n at (block ∷ blocks) whole are = (
-  there-block rate invert keep ahead n at block whole are.1,
-  there-all rate invert keep ahead (n - block.kept) (after_block rate at block) blocks
-      (whole-after rate invert keep ahead n at block whole are.1) are.2,
-)
+there-all rate invert keep ahead n at (block ∷ blocks) whole are =
+    let few = are_few keep ahead n block.steps block.kept are.1.steps are.1.kept in (
+      there-block rate invert keep ahead n at block whole are.1,
+      there-all rate invert keep ahead (n - block.kept) (after_block rate at block) blocks
+          (omega (
+            arith,
+            whole,
+            steps_size-rest rate at.t block.kept n (omega (arith, few.within, few.left)),
+            length-drop (steps_size rate at.t block.kept) at.octets,
+          )) are.2,
+    )
 
 -- ---- their certificate
 
@@ -101,33 +83,15 @@ certificate-exists exists s octets blocks left are =
     certified-exists exists s.rate s.invert (first_place s octets) blocks
     (there-all s.rate s.invert s.keep s.ahead are.count (first_place s octets) blocks are.steps.whole are.are)
 
-columns-one : OneColumn → (rate : Rate) (invert : Bool) (starts : Option ℕ) (t steps : ℕ) (octets : List ℕ)
-    (columns others : List (List ℕ))
-    → AreColumns rate invert starts t steps octets columns → AreColumns rate invert starts t steps octets others
-    → columns ≡ others
-columns-one one rate invert starts t steps octets columns others are be =
-    ext_get_or [] columns others (are.count ∙ sym be.count) (λ k lt.
-    let le : k ≤ steps = omega (arith, lt, are.count) in
-    one _ rate invert t _ _ _ (are.each k le) (be.each k le))
-
 window-one : OneColumn → (rate : Rate) (invert : Bool) (starts : Option ℕ) (t : ℕ) (octets : List ℕ)
     (block : WindowBlock) (text other : List ℕ)
     → IsCertified rate invert starts t octets block text → IsCertified rate invert starts t octets block other
     → text ≡ other
 window-one one rate invert starts t octets block text other is be =
-    let same = columns-one one rate invert starts t block.steps octets is.columns be.columns is.are_columns
-    be.are_columns in
-    is.is_text
-    ∙ ap (λ (columns : List (List ℕ)). window_octets (record {
-      steps = block.steps;
-      kept = block.kept;
-      start = block.start;
-      metric = block.metric;
-      bits = block.bits;
-      octets = octets;
-      columns = columns;
-    })) same
-    ∙ sym be.is_text
+    let same = ext_get_or [] is.columns be.columns (is.are_columns.count ∙ sym be.are_columns.count) (λ k lt.
+    let le : k ≤ block.steps = omega (arith, lt, is.are_columns.count) in
+    one _ rate invert t _ _ _ (is.are_columns.each k le) (be.are_columns.each k le)) in
+    is.is_text ∙ ap (λ columns. window_octets (window_for block octets columns)) same ∙ sym be.is_text
 
 pub certified-one : OneColumn → (rate : Rate) (invert : Bool) (starts : Option ℕ) (t : ℕ) (octets : List ℕ)
     (blocks : List WindowBlock) (text other : List ℕ)
@@ -142,50 +106,6 @@ certified-one one rate invert starts t octets (block ∷ blocks) text other are 
     (drop (steps_size rate t block.kept) octets) blocks are.1 be.1 are.3 be.3 in
     are.4 ∙ ap (λ (v : List ℕ). v ++ are.1) first ∙ ap (λ (v : List ℕ). be.0 ++ v) rest ∙ sym be.4
 
--- the certificate of windows after closed ones follows theirs
-abbrev pub Append : Type 0
-Append =
-    (rate : Rate) (invert : Bool) (keep ahead : ℕ) (from to : Place) (first rest : List WindowBlock)
-    (text more : List ℕ)
-    → Closed rate invert keep ahead from first to → AreCertified rate invert from.starts from.t from.octets first text
-    → AreCertified rate invert to.starts to.t to.octets rest more
-    → AreCertified rate invert from.starts from.t from.octets (first ++ rest) (text ++ more)
-
-pub certified-append : Append
-certified-append rate invert keep ahead from to [] rest text more closed are be =
-    let there = subst (λ (p : Place). AreCertified rate invert p.starts p.t p.octets rest more) (sym closed) be in
-    let none : more ≡ text ++ more = ap (λ (v : List ℕ). v ++ more) (sym are) in
-    subst (λ (v : List ℕ). AreCertified rate invert from.starts from.t from.octets rest v) none there
-certified-append rate invert keep ahead from to (block ∷ first) rest text more closed are be = (
-  are.0,
-  are.1 ++ more,
-  are.2,
-  certified-append rate invert keep ahead (after_block rate from block) to first rest are.1 more closed.1 are.3 be,
-  ap (λ (v : List ℕ). v ++ more) are.4 ∙ append_assoc are.0 are.1 more,
-)
-
--- and that of both is theirs and then that of those after them
-abbrev pub Split : Type 0
-Split =
-    (rate : Rate) (invert : Bool) (keep ahead : ℕ) (from to : Place) (first rest : List WindowBlock) (whole : List ℕ)
-    → Closed rate invert keep ahead from first to → AreCertified rate invert from.starts from.t from.octets
-    (first ++ rest) whole
-    → (text : List ℕ) × (more : List ℕ) × AreCertified rate invert from.starts from.t from.octets first text
-    × AreCertified rate invert to.starts to.t to.octets rest more × (whole ≡ text ++ more)
-
-pub certified-split : Split
-certified-split rate invert keep ahead from to [] rest whole closed are =
-    ([], whole, refl, subst (λ (p : Place). AreCertified rate invert p.starts p.t p.octets rest whole) closed are, refl)
-certified-split rate invert keep ahead from to (block ∷ first) rest whole closed are =
-    let h = certified-split rate invert keep ahead (after_block rate from block) to first rest are.1 closed.1 are.3 in (
-      are.0 ++ h.0,
-      h.1,
-      (are.0, h.0, are.2, h.2, refl),
-      h.3,
-      are.4 ∙ ap (λ (v : List ℕ). are.0 ++ v) h.4
-          ∙ sym (append_assoc are.0 h.0 h.1),
-    )
-
 -- whatever octets come
 pub certified-longer : (rate : Rate) (invert : Bool) (at : Place) (blocks : List WindowBlock) (more text : List ℕ)
     → AreThere rate at blocks
@@ -193,17 +113,16 @@ pub certified-longer : (rate : Rate) (invert : Bool) (at : Place) (blocks : List
     → AreCertified rate invert at.starts at.t (at.octets ++ more) blocks text
 certified-longer rate invert at [] more text there are = are
 certified-longer rate invert at (block ∷ blocks) more text there are =
-    let size : ℕ = steps_size rate at.t block.steps in
-    let cut : ℕ = steps_size rate at.t block.kept in
-    let prefix : take size at.octets ≡ take size (at.octets ++ more) =
-    sym (take-append-le size at.octets more there.0.octets) in
-    let back : drop cut at.octets ++ more ≡ drop cut (at.octets ++ more) =
-    sym (drop-append-le cut at.octets more (kept-inside rate at block there.0)) in
+    let size = steps_size rate at.t block.steps in
+    let cut = steps_size rate at.t block.kept in
+    let inside : cut ≤ length at.octets =
+    omega (arith, there.0.octets, steps_size-le rate at.t block.kept block.steps there.0.kept) in
     let rest = certified-longer rate invert (after_block rate at block) blocks more are.1 there.1 are.3 in (
       are.0,
       are.1,
-      subst (λ (v : List ℕ). IsCertified rate invert at.starts at.t v block are.0) prefix are.2,
-      subst (λ (v : List ℕ). AreCertified rate invert (Some block.end_state) (at.t + block.kept) v blocks are.1) back
-          rest,
+      subst (λ (v : List ℕ). IsCertified rate invert at.starts at.t v block are.0)
+          (sym (take-append-le size at.octets more there.0.octets)) are.2,
+      subst (λ (v : List ℕ). AreCertified rate invert (Some block.end_state) (at.t + block.kept) v blocks are.1)
+          (sym (drop-append-le cut at.octets more inside)) rest,
       are.4,
     )

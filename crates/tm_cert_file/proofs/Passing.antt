@@ -9,7 +9,7 @@ use Rattle.tm_cert_file.specs.Before.{Rules, Before, after_window}
 use Rattle.tm_cert_file.specs.Seen.{IsSeen, IsJudged, IsVerdictOn}
 use Rattle.tm_cert_file.specs.File.{ArePassed}
 use Rattle.tm_cert_file.proofs.Prefixes.{steps_in-prefix, window_in-prefix}
-use Rattle.tm_cert_file.proofs.Stages.{Holds-from_none, Holds-after, none-from_Holds}
+use Rattle.tm_cert_file.proofs.Stages.{no_reason-more}
 
 -- what is seen of a whole window is seen of it whatever octets come after it
 pub judged-more : (rules : Rules) (before : Before) (octets more : List ℕ) (verdict : Verdict)
@@ -18,8 +18,7 @@ judged-more rules before octets more verdict judged =
     let whole = judged.whole in
     let same = steps_in-prefix octets more (omega arith) in
     record {
-      right = none-from_Holds rules before (octets ++ more)
-          (Holds-after rules before octets more (Holds-from_none rules before octets judged.right) (omega arith));
+      right = no_reason-more rules before octets more judged.right (omega arith);
       whole = omega (arith, length-append octets more, same, ap (steps_size rules.rate before.t) same, whole);
       is_verdict =
           subst (λ (w : Window). IsVerdictOn rules before w verdict)

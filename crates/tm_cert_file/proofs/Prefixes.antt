@@ -1,34 +1,17 @@
 -- What octets hold of a window is what a prefix of them holds that is long enough.
 use Rattle.std.proofs.Common.{◌≡◌, ℕ, zero, suc, ◌+◌, ◌*◌, ◌≤◌, List, ◌∷◌, ◌++◌, length, take, drop, refl, ap, ◌∙◌, arith}
+use Rattle.std.proofs.Math.Nat.{mul-suc}
 use Rattle.std.proofs.lemmas.List.{get_or_append_left, drop-append-le, take-append-le, length-drop}
 use Rattle.std.specs.Int.{w32, w64, from_be_bytes}
 use Rattle.tm_conv.specs.declared.rates.Rate.{Rate}
 use Rattle.tm_conv.specs.Path.{steps_size}
-use Rattle.tm_cert_file.specs.Window.{steps_in, kept_in, start_in, metric_in, bits_in, soft_in, numbers_in, columns_in, window_in, bits_end, soft_end, window_size}
+use Rattle.tm_cert_file.specs.Window.{steps_in, kept_in, start_in, metric_in, bits_in, soft_in, parts_in, numbers_in, columns_in, window_in, bits_end, soft_end, window_size}
 
 pub from_be_bytes_4-prefix : (xs ys : List ℕ) → 4 ≤ length xs → from_be_bytes w32 (xs ++ ys) ≡ from_be_bytes w32 xs
-from_be_bytes_4-prefix xs ys long =
-    omega (
-      arith,
-      get_or_append_left xs ys 0 0 (omega arith),
-      get_or_append_left xs ys 0 1 (omega arith),
-      get_or_append_left xs ys 0 2 (omega arith),
-      get_or_append_left xs ys 0 3 (omega arith),
-    )
+from_be_bytes_4-prefix xs ys long = grind (arith, get_or_append_left)
 
-pub from_be_bytes_8-prefix : (xs ys : List ℕ) → 8 ≤ length xs → from_be_bytes w64 (xs ++ ys) ≡ from_be_bytes w64 xs
-from_be_bytes_8-prefix xs ys long =
-    omega (
-      arith,
-      get_or_append_left xs ys 0 0 (omega arith),
-      get_or_append_left xs ys 0 1 (omega arith),
-      get_or_append_left xs ys 0 2 (omega arith),
-      get_or_append_left xs ys 0 3 (omega arith),
-      get_or_append_left xs ys 0 4 (omega arith),
-      get_or_append_left xs ys 0 5 (omega arith),
-      get_or_append_left xs ys 0 6 (omega arith),
-      get_or_append_left xs ys 0 7 (omega arith),
-    )
+from_be_bytes_8-prefix : (xs ys : List ℕ) → 8 ≤ length xs → from_be_bytes w64 (xs ++ ys) ≡ from_be_bytes w64 xs
+from_be_bytes_8-prefix xs ys long = grind (arith, get_or_append_left)
 
 pub steps_in-prefix : (xs ys : List ℕ) → 17 ≤ length xs → steps_in (xs ++ ys) ≡ steps_in xs
 steps_in-prefix xs ys long = from_be_bytes_4-prefix xs ys (omega arith)
@@ -65,31 +48,25 @@ soft_in-prefix rate t xs ys long =
     ap (λ v. take (steps_size rate t v) (drop (bits_end v) (xs ++ ys))) (steps_in-prefix xs ys (omega arith))
     ∙ part-prefix (bits_end (steps_in xs)) (steps_size rate t (steps_in xs)) xs ys long
 
+pub parts_in-prefix : {A : Type 0} (read : List ℕ → A) (size count : ℕ) (xs ys : List ℕ)
+    → ((us vs : List ℕ) → size ≤ length us → read (us ++ vs) ≡ read us) → size * count ≤ length xs
+    → parts_in read size count (xs ++ ys) ≡ parts_in read size count xs
+unfolding parts_in
+parts_in-prefix read size zero xs ys same long = refl
+parts_in-prefix read size (suc count) xs ys same long =
+    let all : size + size * count ≤ length xs = omega (arith, mul-suc size count) in
+    let first = same xs ys (omega arith) in
+    let rest = ap (parts_in read size count) (drop-append-le size xs ys (omega arith))
+    ∙ parts_in-prefix read size count (drop size xs) ys same (omega (arith, length-drop size xs)) in
+    λ i. first i ∷ rest i
+
 pub numbers_in-prefix : (count : ℕ) (xs ys : List ℕ) → 4 * count ≤ length xs
     → numbers_in count (xs ++ ys) ≡ numbers_in count xs
-unfolding numbers_in
-numbers_in-prefix zero xs ys long = refl
-numbers_in-prefix (suc count) xs ys long =
-    let all : 4 * suc count ≤ length xs = long in
-    let first = from_be_bytes_4-prefix xs ys (omega arith) in
-    let rest : numbers_in count (drop 4 (xs ++ ys)) ≡ numbers_in count (drop 4 xs)
-    =
-    ap (numbers_in count) (drop-append-le 4 xs ys (omega arith))
-    ∙ numbers_in-prefix count (drop 4 xs) ys (omega (arith, length-drop 4 xs)) in
-    λ i. first i ∷ rest i
+numbers_in-prefix count xs ys = parts_in-prefix (from_be_bytes w32) 4 count xs ys from_be_bytes_4-prefix
 
 pub columns_in-prefix : (count : ℕ) (xs ys : List ℕ) → 256 * count ≤ length xs
     → columns_in count (xs ++ ys) ≡ columns_in count xs
-unfolding columns_in
-columns_in-prefix zero xs ys long = refl
-columns_in-prefix (suc count) xs ys long =
-    let all : 256 * suc count ≤ length xs = long in
-    let first = numbers_in-prefix 64 xs ys (omega arith) in
-    let rest : columns_in count (drop 256 (xs ++ ys)) ≡ columns_in count (drop 256 xs)
-    =
-    ap (columns_in count) (drop-append-le 256 xs ys (omega arith))
-    ∙ columns_in-prefix count (drop 256 xs) ys (omega (arith, length-drop 256 xs)) in
-    λ i. first i ∷ rest i
+columns_in-prefix count xs ys = parts_in-prefix (numbers_in 64) 256 count xs ys (numbers_in-prefix 64)
 
 -- a whole window is the same whatever comes after it
 pub window_in-prefix : (rate : Rate) (t : ℕ) (xs ys : List ℕ) → window_size rate t (steps_in xs) ≤ length xs

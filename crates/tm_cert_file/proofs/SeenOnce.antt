@@ -1,5 +1,5 @@
 -- What is seen of a window: it is there, it is one, and once it fails octets after change nothing.
-use Rattle.std.proofs.Common.{◌≡◌, inl, inr, ℕ, List, ◌++◌, length, Some, None, refl, sym, ap, ◌∙◌, arith}
+use Rattle.std.proofs.Common.{◌≡◌, ◌⊎◌, inl, inr, ℕ, List, ◌++◌, length, Some, refl, sym, ap, ◌∙◌, arith}
 use Rattle.std.proofs.lemmas.Bool.{cases_lt}
 use Rattle.tm_path_cert.specs.declared.verdicts.Verdict.{Verdict}
 use Rattle.tm_path_cert.specs.declared.verdicts.Verdict.TheVariants.{Yes, No, Sum as SumOf}
@@ -12,7 +12,7 @@ use Rattle.tm_cert_file.specs.declared.seen.Seen.TheVariants.{More, Passed, Fail
 use Rattle.tm_cert_file.specs.Window.{window_in, window_size, steps_in}
 use Rattle.tm_cert_file.specs.Before.{Rules, Before}
 use Rattle.tm_cert_file.specs.Seen.{reason_in, IsJudged, IsSeen, seen_by}
-use Rattle.tm_cert_file.proofs.ReasonPrefix.{reason_in-cases, reason_in-stays}
+use Rattle.tm_cert_file.proofs.Stages.{reason_in-cases, reason_in-stays}
 use Rattle.tm_cert_file.proofs.Passing.{judged-more}
 
 -- there is one answer on columns
@@ -28,11 +28,18 @@ OneVerdict =
 
 -- ---- there is something
 
-judged-seen : (rules : Rules) (before : Before) (octets : List ℕ) (verdict : Verdict)
+pub seen-by_verdict : (rules : Rules) (before : Before) (octets : List ℕ) (verdict : Verdict)
     → IsJudged rules before octets verdict → IsSeen rules before octets (seen_by verdict)
-judged-seen rules before octets Yes judged = judged
-judged-seen rules before octets (No column register) judged = judged
-judged-seen rules before octets (SumOf sum) judged = judged
+seen-by_verdict rules before octets Yes judged = judged
+seen-by_verdict rules before octets (No column register) judged = judged
+seen-by_verdict rules before octets (SumOf sum) judged = judged
+
+pub seen-by_reason : (rules : Rules) (before : Before) (octets : List ℕ) (reason : Reason)
+    → reason_in rules before octets ≡ Some reason → IsSeen rules before octets (Failed reason)
+seen-by_reason rules before octets Shape e = e
+seen-by_reason rules before octets Joint e = e
+seen-by_reason rules before octets (Edge column register) e = absurd (grind (arith, reason_in-cases rules before octets))
+seen-by_reason rules before octets (Sum sum) e = absurd (grind (arith, reason_in-cases rules before octets))
 
 pub has-seen : HasVerdict → (rules : Rules) (before : Before) (octets : List ℕ) → (seen : Seen)
     × IsSeen rules before octets seen
@@ -50,7 +57,7 @@ has-seen has rules before octets =
               soft = w.octets;
             }) w.columns w.start w.bits w.metric in (
               seen_by found.0,
-              judged-seen rules before octets found.0
+              seen-by_verdict rules before octets found.0
                   (record { right = none; whole = whole; is_verdict = found.1 }),
             )
       ]
@@ -60,59 +67,37 @@ has-seen has rules before octets =
 
 -- ---- and no more than one
 
-only-reason : (rules : Rules) (before : Before) (octets : List ℕ) (reason : Reason) (seen : Seen)
-    → reason_in rules before octets ≡ Some reason
-    → IsSeen rules before octets seen → Failed reason ≡ seen
-only-reason rules before octets reason More shows is = absurd (let h : None ≡ Some reason = sym is.0 ∙ shows in cc)
-only-reason rules before octets reason Passed shows is =
-    absurd (let h : None ≡ Some reason = sym is.right ∙ shows in cc)
-only-reason rules before octets reason (Failed Shape) shows is = let h : Some reason ≡ Some Shape = sym shows ∙ is in cc
-only-reason rules before octets reason (Failed Joint) shows is = let h : Some reason ≡ Some Joint = sym shows ∙ is in cc
-only-reason rules before octets reason (Failed (Edge column register)) shows is =
-    absurd (let h : None ≡ Some reason = sym is.right ∙ shows in cc)
-only-reason rules before octets reason (Failed (Sum sum)) shows is =
-    absurd (let h : None ≡ Some reason = sym is.right ∙ shows in cc)
+-- what is seen, by what is known of the octets
+abbrev Found : Rules → Before → List ℕ → Seen → Type 0
+Found rules before octets seen = ((seen ≡ More) × IsSeen rules before octets More)
+    ⊎ (((verdict : Verdict) × (seen ≡ seen_by verdict) × IsJudged rules before octets verdict)
+    ⊎ ((reason : Reason) × (seen ≡ Failed reason) × (reason_in rules before octets ≡ Some reason)))
 
-only-more : (rules : Rules) (before : Before) (octets : List ℕ) (seen : Seen) → IsSeen rules before octets More
-    → IsSeen rules before octets seen → More ≡ seen
-only-more rules before octets More more is = refl
-only-more rules before octets Passed more is = absurd (let part = more.1 in let whole = is.whole in omega arith)
-only-more rules before octets (Failed Shape) more is = absurd (let h : None ≡ Some Shape = sym more.0 ∙ is in cc)
-only-more rules before octets (Failed Joint) more is = absurd (let h : None ≡ Some Joint = sym more.0 ∙ is in cc)
-only-more rules before octets (Failed (Edge column register)) more is =
-    absurd (let part = more.1 in let whole = is.whole in omega arith)
-only-more rules before octets (Failed (Sum sum)) more is =
-    absurd (let part = more.1 in let whole = is.whole in omega arith)
-
-one-judged : OneVerdict → (rules : Rules) (before : Before) (octets : List ℕ) (verdict other : Verdict)
-    → IsJudged rules before octets verdict → IsJudged rules before octets other → seen_by verdict ≡ seen_by other
-one-judged one rules before octets verdict other judged again =
-    ap seen_by (one _ _ _ _ _ verdict other judged.is_verdict again.is_verdict)
-
-only-judged : OneVerdict → (rules : Rules) (before : Before) (octets : List ℕ) (verdict : Verdict) (seen : Seen)
-    → IsJudged rules before octets verdict → IsSeen rules before octets seen → seen_by verdict ≡ seen
-only-judged one rules before octets verdict More judged is =
-    absurd (let part = is.1 in let whole = judged.whole in omega arith)
-only-judged one rules before octets verdict Passed judged is = one-judged one rules before octets verdict Yes judged is
-only-judged one rules before octets verdict (Failed Shape) judged is =
-    absurd (let h : None ≡ Some Shape = sym judged.right ∙ is in cc)
-only-judged one rules before octets verdict (Failed Joint) judged is =
-    absurd (let h : None ≡ Some Joint = sym judged.right ∙ is in cc)
-only-judged one rules before octets verdict (Failed (Edge column register)) judged is =
-    one-judged one rules before octets verdict (No column register) judged is
-only-judged one rules before octets verdict (Failed (Sum sum)) judged is =
-    one-judged one rules before octets verdict (SumOf sum) judged is
+found : (rules : Rules) (before : Before) (octets : List ℕ) (seen : Seen) → IsSeen rules before octets seen
+    → Found rules before octets seen
+found rules before octets More is = inl (refl, is)
+found rules before octets Passed is = inr (inl (Yes, refl, is))
+found rules before octets (Failed Shape) is = inr (inr (Shape, refl, is))
+found rules before octets (Failed Joint) is = inr (inr (Joint, refl, is))
+found rules before octets (Failed (Edge column register)) is = inr (inl (No column register, refl, is))
+found rules before octets (Failed (Sum sum)) is = inr (inl (SumOf sum, refl, is))
 
 pub one-seen : OneVerdict → (rules : Rules) (before : Before) (octets : List ℕ) (seen other : Seen)
     → IsSeen rules before octets seen → IsSeen rules before octets other → seen ≡ other
-one-seen one rules before octets More other is again = only-more rules before octets other is again
-one-seen one rules before octets Passed other is again = only-judged one rules before octets Yes other is again
-one-seen one rules before octets (Failed Shape) other is again = only-reason rules before octets Shape other is again
-one-seen one rules before octets (Failed Joint) other is again = only-reason rules before octets Joint other is again
-one-seen one rules before octets (Failed (Edge column register)) other is again =
-    only-judged one rules before octets (No column register) other is again
-one-seen one rules before octets (Failed (Sum sum)) other is again =
-    only-judged one rules before octets (SumOf sum) other is again
+one-seen one rules before octets seen other is again =
+    by (found rules before octets seen is) (found rules before octets other again)
+  where
+    by : Found rules before octets seen → Found rules before octets other → seen ≡ other
+    by (inl part) (inl more) = cc
+    by (inl part) (inr (inl judged)) = absurd (omega (arith, part.1.1, judged.2.whole))
+    by (inl part) (inr (inr reason)) = absurd (let none = part.1.0 in cc)
+    by (inr (inl judged)) (inl part) = absurd (omega (arith, part.1.1, judged.2.whole))
+    by (inr (inl judged)) (inr (inl more)) =
+        judged.1 ∙ ap seen_by (one _ _ _ _ _ judged.0 more.0 judged.2.is_verdict more.2.is_verdict) ∙ sym more.1
+    by (inr (inl judged)) (inr (inr reason)) = absurd (let none = judged.2.right in cc)
+    by (inr (inr reason)) (inl part) = absurd (let none = part.1.0 in cc)
+    by (inr (inr reason)) (inr (inl judged)) = absurd (let none = judged.2.right in cc)
+    by (inr (inr reason)) (inr (inr more)) = cc
 
 -- ---- with octets after
 

@@ -1,9 +1,9 @@
 -- How many symbols steps send.
-use Rattle.std.proofs.Common.{◌≡◌, ℕ, suc, ◌+◌, ◌-◌, ◌<◌, ◌≤◌, ap, ◌∙◌, arith, inl, inr}
-use Rattle.std.proofs.lemmas.Bool.{cases_lt}
+use Rattle.std.proofs.Common.{◌≡◌, ℕ, ◌+◌, ◌-◌, ◌<◌, ◌≤◌, ap, ◌∙◌, arith}
 use Rattle.tm_conv.specs.declared.rates.Rate.{Rate}
 use Rattle.tm_conv.specs.Path.{step_size, steps_size}
-use Rattle.tm_conv.proofs.Sizes.{steps_size-suc, steps_size-add, steps_size-le}
+use Rattle.tm_conv.proofs.Sizes.{steps_size-add, steps_size-le}
+use Rattle.tm_conv.proofs.Paths.{steps_size-more}
 
 pub steps_size-rest : (rate : Rate) (t a n : ℕ) → a ≤ n → steps_size rate t n
     ≡ steps_size rate t a + steps_size rate (t + a) (n - a)
@@ -11,18 +11,20 @@ steps_size-rest rate t a n le =
     let e : n ≡ a + (n - a) = omega arith in
     ap (steps_size rate t) e ∙ steps_size-add rate t a (n - a)
 
--- fewer symbols are those of fewer steps
-pub steps_below : (rate : Rate) (t i n : ℕ) → steps_size rate t i < steps_size rate t n → i < n
-steps_below rate t i n less = elim (cases_lt i n) as (λ _. i < n) [
-  | inl lt ↦ lt
-  | inr le ↦ absurd (omega (arith, less, steps_size-le rate t n i le))
-]
+-- the next of the steps whose octets are read so far
+pub record IsStep (rate : Rate) (first at k steps all size : ℕ) : Type 0 where
+  pub few : k < steps
+  pub end : at + size ≡ steps_size rate first (k + 1)
+  pub fits : at + size ≤ all
 
--- the octets of the next step are there
-pub step_fits : (rate : Rate) (t i n : ℕ) → i < n → steps_size rate t i + step_size rate (t + i) ≤ steps_size rate t n
-step_fits rate t i n lt = omega (arith, steps_size-suc rate t i, steps_size-le rate t (suc i) n (omega arith))
-
--- the same of what is equal
-pub same_size : {size t t' n n' : ℕ} {rate rate' : Rate} → size ≡ steps_size rate t n → rate ≡ rate' → t ≡ t' → n ≡ n'
-    → size ≡ steps_size rate' t' n'
-same_size is a b c = is ∙ (λ i. steps_size (a i) (b i) (c i))
+pub next_step : (rate : Rate) (first at k steps all size : ℕ) {t : ℕ} → at ≡ steps_size rate first k → t ≡ first + k
+    → all ≡ steps_size rate first steps → size ≡ step_size rate t → at < all
+    → IsStep rate first at k steps all size
+next_step rate first at k steps all size {t} is place whole one more =
+    let next : size ≡ step_size rate (first + k) = one ∙ ap (step_size rate) place in
+    grind (
+      arith,
+      steps_size-more rate first k,
+      steps_size-le rate first steps k,
+      steps_size-le rate first (k + 1) steps,
+    )

@@ -72,16 +72,18 @@ abbrev pub soft_in : Rate → ℕ → List ℕ → List ℕ
 soft_in rate t octets = take (steps_size rate t (steps_in octets))
     (drop (bits_end (steps_in octets)) octets)
 
--- the first numbers of octets, four octets each
-unfoldable pub numbers_in : ℕ → List ℕ → List ℕ
-numbers_in zero octets = []
-numbers_in (suc count) octets = from_be_bytes w32 octets ∷ numbers_in count (drop 4 octets)
+-- the first values of octets, one after the other: each takes `size` octets, and is read from those
+-- that begin with it
+unfoldable pub parts_in : {A : Type 0} → (List ℕ → A) → (size count : ℕ) → List ℕ → List A
+parts_in read size zero octets = []
+parts_in read size (suc count) octets = read octets ∷ parts_in read size count (drop size octets)
 
--- the first columns of octets
-unfoldable pub columns_in : ℕ → List ℕ → List (List ℕ)
-columns_in zero octets = []
-columns_in (suc count) octets =
-    numbers_in registers octets ∷ columns_in count (drop column_size octets)
+-- the first numbers of octets, four octets each, and the first columns
+abbrev pub numbers_in : ℕ → List ℕ → List ℕ
+numbers_in = parts_in (from_be_bytes w32) 4
+
+abbrev pub columns_in : ℕ → List ℕ → List (List ℕ)
+columns_in = parts_in (numbers_in registers) column_size
 
 abbrev pub window_in : Rate → ℕ → List ℕ → Window
 window_in rate t octets = record {

@@ -1,18 +1,12 @@
 // The tests of a window's octets.
-ghost use Rattle.std.specs.Prelude.{◌≡◌, ◌+◌, ◌*◌, ◌<◌, ◌≤◌, IsTrue, length};
-ghost use Rattle.tm_conv.specs.Path.{AreBits, steps_size, register_after, registers};
-ghost use Rattle.tm_conv.specs.Columns.{last_certified};
-ghost use Rattle.tm_viterbi.specs.WindowSizes.{most_keep, most_ahead, most_window};
-ghost use Rattle.tm_path_cert.specs.Checking.{IsVerdict};
-ghost use Rattle.tm_path_cert.specs.Claim.{AreRegisters, is_start};
+ghost use Rattle.std.specs.Prelude.{◌≡◌, ◌<◌, ◌≤◌};
+ghost use Rattle.tm_conv.specs.Path.{AreBits, register_after, registers};
+ghost use Rattle.tm_viterbi.specs.WindowSizes.{most_keep, most_ahead};
 ghost use Rattle.tm_cert_file.specs.Before as before;
 ghost use Rattle.tm_cert_file.specs.Seen as seen;
-ghost use Rattle.tm_cert_file.specs.Window.{columns_in, column_size};
 
-use crate::numbers::{COLUMN, read_column};
 use crate::seen::{Next, Reason, Seen};
-use tm_conv::Rate;
-use tm_path_cert::{Check, Starts, Verdict, is_start};
+use tm_path_cert::{Starts, Verdict, is_start};
 
 /// Whether the numbers before a window's bits are those of a window.
 pub(crate) fn has_shape(keep: u32, ahead: u32, next: Next, steps: u32, kept: u32, start: u8) -> bool
@@ -21,15 +15,18 @@ pub(crate) fn has_shape(keep: u32, ahead: u32, next: Next, steps: u32, kept: u32
         → result ≡ seen.has_shape rules next steps kept start }
 {
     let most = keep + ahead;
-    let is_after = match next {
-        Next::Must => true,
-        Next::May | Next::Never => false,
-    };
     0 < steps
         && steps <= most
         && (kept == steps || kept == keep && steps == most)
         && start < 64
-        && (!is_after || ahead < steps)
+        && (next != Next::Must || ahead < steps)
+}
+
+/// Whether no window comes.
+pub(crate) fn is_over(next: Next) -> bool
+    ensures { result ≡ seen.is_over next }
+{
+    next == Next::Never
 }
 
 /// Whether each octet is a bit.
@@ -79,38 +76,6 @@ pub(crate) fn register_after(start: u8, bits: &[u8]) -> u8
         register = register / 2 + 32 * *bit;
     }
     register
-}
-
-/// What is to be answered of a path and its metric by the columns of a window, whose octets are given.
-pub(crate) fn verdict_on(
-    rate: Rate,
-    invert: bool,
-    first: u64,
-    starts: Starts,
-    soft: &[u8],
-    columns: &[u8],
-    bits: &[u8],
-    start: u8,
-    metric: u64,
-) -> Verdict
-    requires few { length bits.now ≤ most_window }
-    requires bits { AreBits bits.now }
-    requires first { first ≤ last_certified }
-    requires starts { AreRegisters starts }
-    requires soft { length soft.now ≡ steps_size rate first (length bits.now) }
-    requires columns { length columns.now ≡ column_size * (length bits.now + 1) }
-    requires register { start < registers }
-    requires start { IsTrue (is_start starts start) }
-    ensures { IsVerdict (record { rate = rate; invert = invert; first = first; starts = starts; soft = soft.now })
-        (columns_in (length bits.now + 1) columns.now) start bits.now metric result }
-{
-    let mut check = Check::new(rate, invert, first, starts, soft);
-    let mut at = 0;
-    while at < columns.len() {
-        check.column(&read_column(&columns[at..at + COLUMN]));
-        at += COLUMN;
-    }
-    check.finish(bits, start, metric)
 }
 
 /// What is seen of a window by what is answered of its path.

@@ -1,25 +1,37 @@
 // A certificate that is being read, window by window.
-ghost use Rattle.std.specs.Prelude.{◌≡◌, ◌++◌, ◌∷◌, ◌+◌, ◌-◌, ◌*◌, ◌<◌, ◌≤◌, ℕ, List, [], IfOk, length, take};
+ghost use Rattle.std.specs.Prelude.{◌≡◌, ◌++◌, ◌∷◌, ◌+◌, ◌<◌, ◌≤◌, ℕ, List, [], None, IfOk, length, take};
 ghost use Rattle.tm_conv.specs.Path.{register_after};
 ghost use Rattle.tm_viterbi.specs.WindowSizes.{most_keep, most_ahead};
 ghost use Rattle.tm_path_cert.specs.Claim.{AreRegisters};
-ghost use Rattle.tm_cert_file.specs.Window.{Window, steps_in, kept_in, metric_in, window_in, window_room};
+ghost use Rattle.tm_cert_file.specs.Window.{
+  Window,
+  header_size,
+  steps_in,
+  kept_in,
+  start_in,
+  metric_in,
+  bits_end,
+  soft_end,
+  window_size,
+  window_in,
+  window_room,
+};
 ghost use Rattle.tm_cert_file.specs.Before.{at_first, after_window, most_kept};
-ghost use Rattle.tm_cert_file.specs.Seen.{IsSeen};
+ghost use Rattle.tm_cert_file.specs.Seen.{reason_in, IsSeen, IsVerdictOn};
 ghost use Rattle.tm_cert_file.specs.File.{is_cut, kept_octets};
 ghost use Rattle.tm_cert_file.specs.Reading.{IsOpen, HasPassed, ReaderStandsFor};
 
 use crate::judging::{
-    are_bits, has_shape, is_joined, next_after, register_after, seen_by, verdict_on,
+    are_bits, has_shape, is_joined, is_over, next_after, register_after, seen_by,
 };
-use crate::numbers::{COLUMN, HEADER, read_u32, read_u64};
+use crate::numbers::{COLUMN, HEADER, read_column, read_u32, read_u64};
 use crate::seen::{Next, Reason, Seen};
 use crate::writing::span;
 use std::alloc::Global;
 use std::marker::Model;
 use tm_base::{Held, NoMemory};
 use tm_conv::Rate;
-use tm_path_cert::Starts;
+use tm_path_cert::{Check, Starts, Verdict};
 
 // The most steps that the windows before one keep together.
 const MOST_KEPT: u64 = 1 << 43;
@@ -131,12 +143,27 @@ impl Reader {
             taken += self
                 .octets
                 .fill(&piece[taken..], goal - self.octets.as_slice().len());
-            match self.look() {
+            match self.look(goal) {
                 Seen::More => {}
                 seen => return (taken, seen),
             }
         }
         (taken, Seen::More)
+    }
+
+    // Where the bits, the soft octets and the columns of the window end, once its header is there.
+    fn ends(&self) -> (usize, usize, usize)
+        requires long { header_size ≤ length self.now.octets }
+        requires few { steps_in self.now.octets ≤ self.now.rules.keep + self.now.rules.ahead }
+        ensures bits { result.0 ≡ bits_end (steps_in self.now.octets) }
+        ensures soft { result.1 ≡ soft_end self.now.rules.rate self.now.before.t (steps_in self.now.octets) }
+        ensures columns { result.2 ≡ window_size self.now.rules.rate self.now.before.t (steps_in self.now.octets) }
+        ensures room { result.2 ≤ window_room (self.now.rules.keep + self.now.rules.ahead) }
+    {
+        let steps = read_u32(self.octets.as_slice());
+        let bits_end = HEADER + steps as usize;
+        let soft_end = bits_end + span(self.rate, self.t, u64::from(steps));
+        (bits_end, soft_end, soft_end + COLUMN * (steps as usize + 1))
     }
 
     // How many octets the window has once more of it can be seen.
@@ -147,92 +174,105 @@ impl Reader {
         ensures open { (more : List ℕ) → length self.now.octets + length more < result
             → IsSeen self.now.rules self.now.before (self.now.octets ++ more) Seen.More }
     {
-        let held = self.octets.as_slice();
-        match self.next {
-            Next::Never => return 1,
-            Next::May | Next::Must => {}
+        let held = self.octets.as_slice().len();
+        if is_over(self.next) {
+            return 1;
         }
-        if held.len() < HEADER {
+        if held < HEADER {
             return HEADER;
         }
-        let steps = read_u32(held);
-        let bits_end = HEADER + steps as usize;
-        if held.len() < bits_end {
+        let (bits_end, soft_end, end) = self.ends();
+        if held < bits_end {
             return bits_end;
         }
-        let soft_end = bits_end + span(self.rate, self.t, u64::from(steps));
-        if held.len() < soft_end {
+        if held < soft_end {
             return soft_end;
         }
-        soft_end + COLUMN * (steps as usize + 1)
+        end
     }
 
-    // What is seen of the window by its octets, at least one, where nothing was seen before the last of them.
-    fn look(&self) -> Seen
-        requires some { 0 < length self.now.octets }
-        requires open { IsSeen self.now.rules self.now.before
-            (take (length self.now.octets - 1) self.now.octets) Seen.More }
-        ensures seen { IsSeen self.now.rules self.now.before self.now.octets result }
-        ensures just { result ≡ Seen.Passed → HasPassed self.now }
+    // The first reason against the window but for its columns, as far as it shows in its octets.
+    fn reason(&self) -> Option<Reason>
+        ensures { result ≡ reason_in self.now.rules self.now.before self.now.octets }
     {
         let held = self.octets.as_slice();
-        match self.next {
-            Next::Never => return Seen::Failed(Reason::Shape),
-            Next::May | Next::Must => {}
+        if held.is_empty() {
+            return None;
+        }
+        if is_over(self.next) {
+            return Some(Reason::Shape);
+        }
+        if held.len() < HEADER {
+            return None;
+        }
+        let steps = read_u32(held);
+        if !has_shape(
+            self.keep,
+            self.ahead,
+            self.next,
+            steps,
+            read_u32(&held[4..]),
+            held[8],
+        ) {
+            return Some(Reason::Shape);
+        }
+        let (bits_end, soft_end, _) = self.ends();
+        if held.len() < bits_end {
+            return None;
+        }
+        if !are_bits(&held[HEADER..bits_end]) {
+            return Some(Reason::Shape);
+        }
+        if held.len() < soft_end {
+            return None;
+        }
+        let tail = self.tail.as_slice();
+        if !is_joined(self.starts, held[8], &held[bits_end..soft_end], tail) {
+            return Some(Reason::Joint);
+        }
+        None
+    }
+
+    // What is answered of the path by the columns of a window that is whole and has no reason against it.
+    fn verdict(&self) -> Verdict
+        requires right { reason_in self.now.rules self.now.before self.now.octets ≡ None }
+        requires whole { window_size self.now.rules.rate self.now.before.t (steps_in self.now.octets)
+            ≤ length self.now.octets }
+        ensures { IsVerdictOn self.now.rules self.now.before
+            (window_in self.now.rules.rate self.now.before.t self.now.octets) result }
+    {
+        let (bits_end, soft_end, end) = self.ends();
+        let held = self.octets.as_slice();
+        let soft = &held[bits_end..soft_end];
+        let mut check = Check::new(self.rate, self.invert, self.t, self.starts, soft);
+        let mut at = soft_end;
+        while at < end {
+            check.column(&read_column(&held[at..at + COLUMN]));
+            at += COLUMN;
+        }
+        check.finish(&held[HEADER..bits_end], held[8], read_u64(&held[9..]))
+    }
+
+    // What is seen of the window by its octets. Fewer than `goal` show nothing.
+    fn look(&self, goal: usize) -> Seen
+        requires { length self.now.octets < goal → IsOpen self.now }
+        ensures { IsSeen self.now.rules self.now.before self.now.octets result }
+    {
+        let held = self.octets.as_slice();
+        if held.len() < goal {
+            return Seen::More;
+        }
+        if let Some(reason) = self.reason() {
+            return Seen::Failed(reason);
         }
         if held.len() < HEADER {
             return Seen::More;
         }
-        let steps = read_u32(held);
-        if held.len() == HEADER {
-            let is_right = has_shape(
-                self.keep,
-                self.ahead,
-                self.next,
-                steps,
-                read_u32(&held[4..]),
-                held[8],
-            );
-            return if is_right {
-                Seen::More
-            } else {
-                Seen::Failed(Reason::Shape)
-            };
-        }
-        let bits_end = HEADER + steps as usize;
-        if held.len() == bits_end {
-            let is_right = are_bits(&held[HEADER..]);
-            return if is_right {
-                Seen::More
-            } else {
-                Seen::Failed(Reason::Shape)
-            };
-        }
-        let soft_end = bits_end + span(self.rate, self.t, u64::from(steps));
-        if held.len() == soft_end {
-            let tail = self.tail.as_slice();
-            let is_right = is_joined(self.starts, held[8], &held[bits_end..], tail);
-            return if is_right {
-                Seen::More
-            } else {
-                Seen::Failed(Reason::Joint)
-            };
-        }
-        if held.len() < soft_end + COLUMN * (steps as usize + 1) {
+        let (_, _, end) = self.ends();
+        if held.len() < end {
             return Seen::More;
         }
-        let verdict = verdict_on(
-            self.rate,
-            self.invert,
-            self.t,
-            self.starts,
-            &held[bits_end..soft_end],
-            &held[soft_end..],
-            &held[HEADER..bits_end],
-            held[8],
-            read_u64(&held[9..]),
-        );
-        seen_by(verdict)
+        seen_by(self.verdict())
     }
 
     /// How many steps the window has that passed.
@@ -265,7 +305,7 @@ impl Reader {
         ensures { result.now ≡ kept_octets self.now.rules.rate self.now.before.t
             (window_in self.now.rules.rate self.now.before.t self.now.octets) }
     {
-        let first = HEADER + self.steps() as usize;
+        let (first, _, _) = self.ends();
         let size = span(self.rate, self.t, u64::from(self.kept()));
         &self.octets.as_slice()[first..first + size]
     }
@@ -287,12 +327,11 @@ impl Reader {
     {
         let steps = self.steps();
         let kept = self.kept();
-        let held = self.octets.as_slice();
-        let bits_end = HEADER + steps as usize;
+        let (bits_end, soft_end, _) = self.ends();
         let first = bits_end + span(self.rate, self.t, u64::from(kept));
-        let end = bits_end + span(self.rate, self.t, u64::from(steps));
+        let held = self.octets.as_slice();
         self.tail.clear();
-        let _ = self.tail.fill(&held[first..end], end - first);
+        let _ = self.tail.fill(&held[first..soft_end], soft_end - first);
         let register = register_after(held[8], &held[HEADER..HEADER + kept as usize]);
         self.starts = Starts::One(register);
         self.next = next_after(self.keep, self.ahead, steps, kept);

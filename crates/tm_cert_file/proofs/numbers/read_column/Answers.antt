@@ -1,10 +1,10 @@
 use Rattle.std.proofs.Common.{◌+◌, ◌*◌, ◌-◌, ◌∙◌, refl, arith, length-set}
-use Rattle.tm_cert_file.specs.Window.{numbers_in}
+use Rattle.tm_cert_file.specs.Window.{parts_in}
 use Rattle.tm_cert_file.proofs.BigEndian.{column_more}
 use Rattle.tm_cert_file.proofs.numbers.read_column.Goals as goal
 
 pub loop-s-init : goal.loop-s-init
-unfolding numbers_in
+unfolding parts_in
 loop-s-init c = record { long = refl; prefix = refl }
 
 pub loop-s-preserved : goal.loop-s-preserved
