@@ -1,8 +1,7 @@
 -- An encoder that is fed one piece.
-use Rattle.std.proofs.Common.{◌≡◌, ℕ, Bool, List, ◌++◌, Option, sym, ◌∙◌, ap, subst}
+use Rattle.std.proofs.Common.{◌≡◌, ℕ, Bool, List, ◌++◌, ◌∙◌, ap}
 use Rattle.tm_base.specs.Bits.{bits_of}
-use Rattle.tm_base.specs.Written.{Wrote, WrotePrefix}
-use Rattle.tm_base.specs.Pieces.{Fed, FedPrefix, further}
+use Rattle.tm_base.specs.Pieces.{further}
 use Rattle.tm_base.proofs.Packing.{bits_of-append}
 use Rattle.tm_conv.specs.Encoding.{Encoding, EncoderStandsFor, levels, sent_for}
 use Rattle.tm_inner.specs.Sending.{EncodesFor, encoded}
@@ -15,31 +14,10 @@ pub record GoesOnBy (before now : Encoding) (low : ℕ) (piece symbols : List �
       → levels low (sent_for before.rate before.invert (given ++ bits_of piece))
       ≡ levels low (sent_for before.rate before.invert given) ++ symbols
 
-symbols-due : (before now : Encoding) (low : ℕ) (piece symbols given : List ℕ) → GoesOnBy before now low piece symbols
+pub symbols-due : (before now : Encoding) (low : ℕ) (piece symbols given : List ℕ) → GoesOnBy before now low piece symbols
     → EncodesFor before given
     → further (encoded before.rate before.invert low) given piece ≡ symbols
 symbols-due before now low piece symbols given on stood =
     further-is (encoded before.rate before.invert low) given piece symbols
     (ap (λ l. levels low (sent_for before.rate before.invert l)) (bits_of-append given piece)
     ∙ on.sent (bits_of given) stood)
-
-pub fed-piece : (before now : Encoding) (low : ℕ) (piece symbols : List ℕ) (taken taken_now : Option (List ℕ))
-    → GoesOnBy before now low piece symbols → Wrote taken taken_now symbols
-    → Fed EncodesFor (encoded before.rate before.invert low) before now taken taken_now piece
-fed-piece before now low piece symbols taken taken_now on wrote = record {
-  stands =
-      λ given stood. subst (EncoderStandsFor now) (sym (bits_of-append given piece))
-      (on.stands (bits_of given) stood);
-  written =
-      λ given stood. subst (Wrote taken taken_now)
-      (sym (symbols-due before now low piece symbols given on stood)) wrote;
-}
-
-pub fed-piece_prefix : (before now : Encoding) (low : ℕ) (piece symbols : List ℕ) (taken taken_now : Option (List ℕ))
-    → GoesOnBy before now low piece symbols → WrotePrefix taken taken_now symbols
-    → FedPrefix EncodesFor (encoded before.rate before.invert low) before taken taken_now piece
-fed-piece_prefix before now low piece symbols taken taken_now on wrote = record {
-  prefix =
-      λ given stood. subst (WrotePrefix taken taken_now)
-      (sym (symbols-due before now low piece symbols given on stood)) wrote;
-}

@@ -1,16 +1,16 @@
 -- What is given one piece after another.
-use Rattle.std.proofs.Common.{◌≡◌, ℕ, ◌+◌, ◌-◌, ◌<◌, ◌≤◌, min, inl, inr, length-drop, false, List, [], ◌∷◌, ◌++◌, length, drop, take, map, refl, sym, ap, ◌∙◌, subst, arith, append_assoc, length-append, length-take, Err, IsErrOf}
+use Rattle.std.proofs.Common.{◌≡◌, ℕ, ◌+◌, ◌-◌, ◌<◌, ◌≤◌, min, inl, inr, length-drop, List, [], ◌++◌, length, drop, take, map, refl, sym, ap, ◌∙◌, subst, arith, append_assoc, length-append, length-take, Err, IsErrOf}
 use Rattle.std.proofs.lemmas.Bool.{cases_lt}
 use Rattle.std.proofs.lemmas.List.{append-nil, drop_all, drop-map, length-map, map-append, take_all}
 use Rattle.tm_base.specs.SoftForm.{from_form}
-use Rattle.tm_base.proofs.Handing.{HandedOver-append, HandedPart-after}
+use Rattle.tm_base.proofs.Handing.{HandedOver-append}
 use Rattle.tm_config.specs.Configuration.{Configuration, is_signed}
 use Rattle.tm_viterbi.specs.WindowSizes.{stream_bound}
 use Rattle.tm_windows.specs.declared.decoder.FeedError.{FeedError}
 use Rattle.tm_windows.specs.declared.decoder.FeedError.TheVariants.{Taker, Stopped}
 use Rattle.tm_inner.specs.Inner.{soft_value, soft_octets}
 use Rattle.tm_inner.specs.Phase.{skipped_at, phase_octets}
-use Rattle.tm_inner.specs.Receiving.{Hands, HandsPrefix}
+use Rattle.tm_inner.specs.Receiving.{Hands}
 use Rattle.tm_inner.proofs.DueBits.{drop-split}
 
 -- ---- pieces, one after another
@@ -50,40 +50,6 @@ hands-then took Stands a b c taker middle now octets p q =
     subst (Hands took Stands a c taker now) (append-nil octets)
     (hands-more took Stands a b c taker middle now octets [] p q)
 
-pub hands-prefix : {T I S : Type 0} (took broke : T → I → T → Type 0) (Stands : S → List ℕ → List I → Type 0)
-    (First : List ℕ → List I → Type 0)
-    (a b : S) (taker middle now : T) (first second : List ℕ)
-    → Hands took Stands a b taker middle first → HandsPrefix took broke Stands First b middle now second
-    → HandsPrefix took broke Stands First a taker now (first ++ second)
-hands-prefix took broke Stands First a b taker middle now first second p q = record {
-  tried = p.more ++ q.tried;
-  handed = HandedPart-after took broke taker middle now p.more q.tried p.handed q.handed;
-  first = λ given done few stood.
-      let there = p.stands given done (omega (arith, few, length-append first second)) stood in
-      let last = q.first (given ++ first) (done ++ p.more) (omega
-      (arith, few, length-append first second, length-append given first)) there in
-      subst (λ (l : List ℕ). First l (done ++ (p.more ++ q.tried))) (append_assoc given first second)
-      (subst (First ((given ++ first) ++ second)) (append_assoc done p.more q.tried) last);
-}
-
--- what is first of a prefix is first
-abbrev pub Stay : {I : Type 0} → (List ℕ → List I → Type 0) → Type 0
-Stay {I} First = (octets more : List ℕ) (items : List I) → First octets items → First (octets ++ more) items
-
-pub hands-longer : {T I S : Type 0} (took broke : T → I → T → Type 0) (Stands : S → List ℕ → List I → Type 0)
-    (First : List ℕ → List I → Type 0)
-    (a : S) (taker now : T) (first second : List ℕ) → Stay First
-    → HandsPrefix took broke Stands First a taker now first
-    → HandsPrefix took broke Stands First a taker now (first ++ second)
-hands-longer took broke Stands First a taker now first second stay p = record {
-  tried = p.tried;
-  handed = p.handed;
-  first = λ given done few stood.
-      let there = p.first given done (omega (arith, few, length-append first second)) stood in
-      subst (λ (l : List ℕ). First l (done ++ p.tried)) (append_assoc given first second)
-      (stay (given ++ first) second (done ++ p.tried) there);
-}
-
 -- octets that are all below the bound are all taken
 pub hands-whole : {T I S : Type 0} (took : T → I → T → Type 0) (Stands : S → List ℕ → List I → Type 0) (before now : S)
     (taker taker_now : T) (octets : List ℕ) (n : ℕ)
@@ -98,20 +64,6 @@ hands-whole took Stands before now taker taker_now octets n whole h = record {
       subst (λ (l : List ℕ). Stands now (given ++ l) (done ++ h.more))
       (take_all n octets (whole given done few stood))
       (h.stands given done (omega (arith, few, length-take n octets)) stood);
-}
-
-pub prefix-whole : {T I S : Type 0} (took broke : T → I → T → Type 0) (Stands : S → List ℕ → List I → Type 0)
-    (First : List ℕ → List I → Type 0) (before : S) (taker taker_now : T) (octets : List ℕ) (n : ℕ)
-    → ((given : List ℕ) (done : List I) → length given + length octets < stream_bound → Stands before given done
-    → length octets ≤ n)
-    → HandsPrefix took broke Stands First before taker taker_now (take n octets)
-    → HandsPrefix took broke Stands First before taker taker_now octets
-prefix-whole took broke Stands First before taker taker_now octets n whole h = record {
-  tried = h.tried;
-  handed = h.handed;
-  first = λ given done few stood.
-      subst (λ (l : List ℕ). First (given ++ l) (done ++ h.tried)) (take_all n octets (whole given done few stood))
-      (h.first given done (omega (arith, few, length-take n octets)) stood);
 }
 
 -- of two causes the other
@@ -138,21 +90,6 @@ phase_octets-more c given octets skipped is =
     (drop (n - length given) octets)
     ∙ ap (λ l. phase_octets c given ++ map (soft_value c) l)
     (sym (drop-least (n - length given) octets) ∙ ap (λ k. drop k octets) (sym is))
-
-pub plain-form : (octets : List ℕ) → from_form false octets ≡ octets
-plain-form [] = refl
-plain-form (octet ∷ octets) = ap (λ l. octet ∷ l) (plain-form octets)
-
--- the next octets, converted
-pub soft-converted : (c : Configuration) (count skipped : ℕ) (given octets now : List ℕ) → length given ≡ count
-    → skipped ≡ min (skipped_at c.inner c - count) (length now) → now ≡ from_form (is_signed c.soft) octets
-    → phase_octets c (given ++ octets) ≡ phase_octets c given ++ drop skipped now
-soft-converted c count skipped given octets now long skip is =
-    let size : length now ≡ length octets = ap length is ∙ length-map octets (soft_value c) in
-    let skips : skipped ≡ min (skipped_at c.inner c - length given) (length octets) =
-    omega (arith, skip, size, long) in
-    phase_octets-more c given octets skipped skips
-    ∙ ap (λ l. phase_octets c given ++ l) (sym (drop-map (soft_value c) skipped octets) ∙ ap (drop skipped) (sym is))
 
 pub few-soft : (c : Configuration) (given : List ℕ) → length (phase_octets c given) ≤ length given
 few-soft c given =

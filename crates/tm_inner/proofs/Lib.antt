@@ -20,7 +20,7 @@ pub mod DecoderCalls
 pub mod DecoderReads
 pub mod DecoderPieces
 pub mod ReadOctets
-mod Receivers
+pub mod Until
 pub mod HandedBits
 pub mod WorkedBits
 pub mod WatchedWindows

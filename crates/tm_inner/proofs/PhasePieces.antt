@@ -6,10 +6,8 @@ use Rattle.tm_base.proofs.HandedItems.{items_of-items}
 use Rattle.tm_config.specs.Configuration.{Configuration}
 use Rattle.tm_config.proofs.Choices.{never_both}
 use Rattle.tm_conv.specs.declared.rates.Rate.{Rate}
-use Rattle.tm_viterbi.specs.WindowBlock.{WindowBlock}
 use Rattle.tm_windows.specs.declared.choosing.Chosen.{Chosen}
 use Rattle.tm_windows.specs.Phase.{IsPhase, octets_needed}
-use Rattle.tm_windows.specs.Windows.{Windows, AreFirstIn}
 use Rattle.tm_inner.specs.Symbols.{is_inverted}
 use Rattle.tm_inner.specs.Phase.{PhaseAt, IsChosenBy, IsSettledBy, IsSoFarBy, needed_at, with_phase}
 
@@ -60,11 +58,3 @@ items_of-with_phase (Some chosen) items = items_of-items items
 pub further : {I : Type 0} (chosen : Option Chosen) (done : List (Handed I)) (items more : List I)
     → done ≡ with_phase chosen items → done ++ map Item more ≡ with_phase chosen (items ++ more)
 further chosen done items more are = ap (λ l. l ++ map Item more) are ∙ sym (with_phase-more chosen items more)
-
--- ---- first blocks
-
--- windows that are closed stay so
-abbrev pub StayClosed : Type 0
-StayClosed =
-    (w : Windows) (octets more : List ℕ) (first : List WindowBlock) → AreFirstIn w octets first
-    → AreFirstIn w (octets ++ more) first

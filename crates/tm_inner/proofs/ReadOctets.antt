@@ -1,29 +1,26 @@
 -- A decoder that octets are put in, and that is read run after run: what the loop keeps that does so.
-use Rattle.std.proofs.Common.{◌≡◌, inl, inr, ℕ, ◌+◌, ◌-◌, ◌<◌, ◌≤◌, ◌^◌, true, false, List, [], ◌++◌, length, take, drop, refl, sym, ◌∙◌, subst, arith, append_assoc, length-append, length-take, take-add, take-append-drop, None}
+use Rattle.std.proofs.Common.{◌≡◌, inl, inr, ℕ, ◌+◌, ◌-◌, ◌<◌, ◌≤◌, ◌^◌, false, List, [], ◌++◌, length, take, drop, refl, sym, ap, ◌∙◌, subst, arith, append_assoc, length-take, take-add, take-append-drop, Option, None}
 use Rattle.std.proofs.lemmas.Bool.{cases_lt}
 use Rattle.std.proofs.lemmas.List.{append-nil, take_all, take_rest}
 use Rattle.tm_base.specs.Handed.{Handed}
 use Rattle.tm_config.specs.Configuration.{Configuration}
 use Rattle.tm_viterbi.specs.WindowBlock.{WindowBlock}
+use Rattle.tm_windows.specs.declared.choosing.Chosen.{Chosen}
 use Rattle.tm_windows.proofs.Phases.{IsPhase-prefix}
-use Rattle.tm_inner.specs.Handing.{AreHandedFirst, IsKept, IsReadPart, ReadsDue}
+use Rattle.tm_inner.specs.Handing.{AreHandedFirst, IsKept, Keeps, ReadsDue}
 use Rattle.tm_inner.specs.InnerDecoding.{InnerDecoderStandsFor, InnerDecoding, IsDrained, IsSameDecoder, IsSettledQueue, unread}
-use Rattle.tm_inner.specs.Phase.{IsSettled, WithPhase}
-use Rattle.tm_inner.specs.Receiving.{AreInnerFirst, HasHanded, HasRead, Hands, HandsPrefix}
+use Rattle.tm_inner.specs.Phase.{IsChosenSoFar, IsSettled, phase_octets}
+use Rattle.tm_inner.specs.Receiving.{HasHanded, HasRead, Hands}
 use Rattle.tm_inner.proofs.DecoderCalls.{Runs}
-use Rattle.tm_inner.proofs.DecoderPieces.{Fills, IsLater, first-stays}
-use Rattle.tm_inner.proofs.DecoderReads.{is-kept, read-on}
-use Rattle.tm_inner.proofs.GivenPieces.{Stay, hands-longer, hands-more, hands-none, hands-prefix, hands-then}
+use Rattle.tm_inner.proofs.DecoderPieces.{Fills, IsLater}
+use Rattle.tm_inner.proofs.DecoderReads.{is-kept, read-first, read-on, some-chosen}
+use Rattle.tm_inner.proofs.Decoders.{settled-chosen}
+use Rattle.tm_inner.proofs.GivenPieces.{hands-more, hands-none, hands-then}
 use Rattle.tm_inner.proofs.WithPhase.{so_far-stays}
 
 -- the phase that is kept is that of the octets read before
 abbrev pub KeepsNow : InnerDecoding → InnerDecoding → Type 0
 KeepsNow d now = (given : List ℕ) (done : List (Handed WindowBlock)) → HasRead d given done → IsKept now given
-
--- and of these, which were put in since
-abbrev pub Keeps : InnerDecoding → InnerDecoding → List ℕ → Type 0
-Keeps d now octets = (given : List ℕ) (done : List (Handed WindowBlock)) → length given + length octets < 2 ^ 60
-    → HasRead d given done → IsKept now (given ++ octets)
 
 -- by a run
 pub run-keeps : (d now : InnerDecoding) (ready : List WindowBlock) → now.has_ended ≡ d.has_ended → Runs d now ready
@@ -80,18 +77,6 @@ reads-none took d start octets = record {
   read = hands-none took HasRead d start;
 }
 
-part-same : (d now : InnerDecoding) (given : List ℕ) (handed : List (Handed WindowBlock)) → now.config ≡ d.config
-    → now.has_ended ≡ d.has_ended → IsReadPart now given handed → IsReadPart d given handed
-part-same d now given handed config ended h = record {
-  first = subst (λ (c : Configuration). WithPhase (λ phase. AreInnerFirst c phase given) c given handed) config h.first;
-  settled = λ going. subst (λ (c : Configuration). IsSettled c given) config (h.settled (ended ∙ going));
-}
-
-part-stays : (d : InnerDecoding) → d.has_ended ≡ false → Stay (IsReadPart d)
-part-stays d going octets more handed h =
-    let stays = first-stays d.config octets more handed (h.settled going, h.first) in
-    record { first = stays.1; settled = λ _. stays.0 }
-
 module _ {T : Type 0} (took : T → Handed WindowBlock → T → Type 0) (d b : InnerDecoding) (start middle : T)
     (octets : List ℕ) (done : ℕ) (r : ReadsUp took d b start middle octets done) where
   -- a run is decoded and read
@@ -121,13 +106,12 @@ module _ {T : Type 0} (took : T → Handed WindowBlock → T → Type 0) (d b : 
             (fills-piece b filled octets done count (r.ended ∙ going (omega (arith, some))) slice)));
       }
 
-  -- once all were put in
-  pub reads-keep : (now : InnerDecoding) → length octets ≤ done → KeepsNow b now → Keeps d now octets
-  reads-keep now all kept given before few s =
-      let h = subst (Hands took HasRead d b start middle) (take_all done octets all) r.read in
-      kept (given ++ octets) (before ++ h.more) (h.stands given before few s)
+  -- the phase that is kept is theirs
+  reads-keep : (now : InnerDecoding) → KeepsNow b now → Keeps d now (take done octets)
+  reads-keep now kept given before few s =
+      kept (given ++ take done octets) (before ++ r.read.more) (r.read.stands given before few s)
 
-  -- and the last run
+  -- the last run, once all were put in
   pub reads-due : (now : InnerDecoding) (last : T) → length octets ≤ done → IsSameDecoder b now
       → Hands took HasRead b now middle last [] → IsDrained now.queue → unread now ≡ None → KeepsNow b now
       → ReadsDue took d now start last octets
@@ -139,53 +123,8 @@ module _ {T : Type 0} (took : T → Handed WindowBlock → T → Type 0) (d b : 
         drained = drained;
         all = read;
         read = subst (Hands took HasRead d now start last) (take_all done octets all) n.read;
-        kept = reads-keep now all kept;
+        kept = subst (Keeps d now) (take_all done octets all) (reads-keep now kept);
       }
-
-  -- where the taker fails at what is read, before that or then
-  module _ (broke : T → Handed WindowBlock → T → Type 0) (last : T) (going : 0 < length octets → d.has_ended ≡ false)
-      (q : HandsPrefix took broke HasRead (IsReadPart b) b middle last []) where
-    pub reads-prefix : HandsPrefix took broke HasRead (IsReadPart d) d start last octets
-    reads-prefix =
-        let first = take done octets in
-        let Part : List ℕ → Type 0 = HandsPrefix took broke HasRead (IsReadPart d) d start last in
-        let part = subst Part (append-nil first)
-        (hands-prefix took broke HasRead (IsReadPart d) d b start middle last first [] r.read (record {
-          tried = q.tried;
-          handed = q.handed;
-          first = λ given before few s.
-              part-same d b (given ++ []) (before ++ q.tried) r.config r.ended (q.first given before few s);
-        })) in
-        elim (cases_lt 0 (length octets)) as (λ _. Part octets) [
-          | inl some ↦ subst Part (take-append-drop done octets)
-              (hands-longer took broke HasRead (IsReadPart d) d start last first (drop done octets)
-              (part-stays d (going some)) part)
-          | inr none ↦ subst Part (take_all done octets (omega (arith, none))) part
-        ]
-
-    pub reads-keep_part : (now : InnerDecoding) → IsSameDecoder b now → KeepsNow b now → Keeps d now octets
-    reads-keep_part now same kept given before few s =
-        let first = take done octets in
-        let there = r.read.stands given before (omega (arith, few, length-take done octets)) s in
-        let k = kept (given ++ first) (before ++ r.read.more) there in
-        let Kept : List ℕ → Type 0 = λ l. IsKept now (given ++ l) in
-        elim (cases_lt 0 (length octets)) as (λ _. Kept octets) [
-          | inl some ↦ (
-              let settled = subst (λ (c : Configuration). IsSettled c (given ++ first)) (sym same.config)
-              (subst (IsSettled b.config) (append-nil (given ++ first))
-              ((q.first (given ++ first) (before ++ r.read.more)
-              (omega (arith, few, length-take done octets, length-append given first)) there).settled
-              (r.ended ∙ going some))) in
-              subst Kept (take-append-drop done octets)
-              (subst (IsKept now) (append_assoc given first (drop done octets)) (record {
-                so_far = λ still. so_far-stays IsPhase-prefix now.config (given ++ first) (drop done octets) now.chosen
-                    settled (k.so_far still);
-                at_end = λ ended.
-                    absurd (let both : true ≡ false = sym ended ∙ same.ended ∙ r.ended ∙ going some in cc);
-              }))
-              )
-          | inr none ↦ subst Kept (take_all done octets (omega (arith, none))) k
-        ]
 
 -- of a decoder of which all was read that is due
 pub hands-all : {T : Type 0} (took : T → Handed WindowBlock → T → Type 0) (d now : InnerDecoding) (taker last : T)
@@ -202,12 +141,24 @@ hands-all took d now taker last octets going r = record {
   };
 }
 
--- before the end the phase is settled where the taker fails
-pub prefix-handed : {T : Type 0} (took broke : T → Handed WindowBlock → T → Type 0) (d : InnerDecoding) (taker last : T)
-    (octets : List ℕ) → d.has_ended ≡ false → HandsPrefix took broke HasRead (IsReadPart d) d taker last octets
-    → HandsPrefix took broke HasHanded (AreHandedFirst d.config) d taker last octets
-prefix-handed took broke d taker last octets going h = record {
-  tried = h.tried;
-  handed = h.handed;
-  first = λ given done few stood. let part = h.first given done few stood.read in (part.settled going, part.first);
-}
+-- the phase so far of octets of which the first were put in is theirs where it was settled, or all were
+pub so_far-whole : (c : Configuration) (given octets : List ℕ) (n : ℕ) (chosen : Option Chosen)
+    → (n < length octets → IsSettled c (given ++ take n octets)) → IsChosenSoFar c (given ++ take n octets) chosen
+    → IsChosenSoFar c (given ++ octets) chosen
+so_far-whole c given octets n chosen settled so_far =
+    elim (cases_lt n (length octets)) as (λ _. IsChosenSoFar c (given ++ octets) chosen) [
+      | inl cut ↦ subst (λ (l : List ℕ). IsChosenSoFar c l chosen)
+          (append_assoc given (take n octets) (drop n octets)
+          ∙ ap (λ (l : List ℕ). given ++ l) (take-append-drop n octets))
+          (so_far-stays IsPhase-prefix c (given ++ take n octets) (drop n octets) chosen (settled cut) so_far)
+      | inr all ↦ subst (λ (l : List ℕ). IsChosenSoFar c (given ++ l) chosen) (take_all n octets all) so_far
+    ]
+
+-- what was handed over is the first of what is due, where something was
+pub handed-first : (d : InnerDecoding) (given : List ℕ) (done : List (Handed WindowBlock)) → HasHanded d given done
+    → (done ≡ [] → ⊥) → AreHandedFirst d.config given done
+handed-first d given done h some =
+    let choice = some-chosen d given done h.read h.all some in (
+      settled-chosen d.config (phase_octets d.config given) d.chosen h.so_far choice,
+      read-first d given done h.read h.all choice,
+    )

@@ -1,5 +1,5 @@
 -- How many bits octets come to.
-use Rattle.std.proofs.Common.{◌≡◌, ℕ, ◌+◌, ◌-◌, ◌≤◌, Bool, List, [], ◌∷◌, ◌++◌, length, take, drop, sym, ap, ◌∙◌, subst, arith, Option, Some, None, length-append, length-drop, length-take}
+use Rattle.std.proofs.Common.{◌≡◌, ℕ, ◌+◌, ◌-◌, ◌≤◌, Bool, List, [], ◌∷◌, length, take, drop, sym, ap, ◌∙◌, subst, arith, Option, Some, None, length-append, length-drop, length-take}
 use Rattle.std.proofs.lemmas.List.{length-map}
 use Rattle.std.proofs.lemmas.Bool.Decides.{nat_tests}
 use Rattle.tm_config.specs.Configuration.{Configuration}
@@ -11,8 +11,7 @@ use Rattle.tm_viterbi.specs.WindowBlock.{WindowBlock}
 use Rattle.tm_viterbi.specs.Blocks.{IsBlock, AreBlocks, kept_steps, window_steps}
 use Rattle.tm_viterbi.specs.Clean.{kept_bits}
 use Rattle.tm_viterbi.proofs.CleanBlocks.{steps-mono}
-use Rattle.tm_inner.proofs.DueBits.{drop-split}
-use Rattle.tm_inner.proofs.PlainBits.{plain-append, length-plain}
+use Rattle.tm_inner.proofs.PlainBits.{length-plain}
 use Rattle.tm_inner.specs.Inner.{soft_value, soft_octets, plain_bits, plain_count, bits_at, inner_bits}
 
 -- ---- blocks keep a bit for each step
@@ -69,16 +68,3 @@ pub bits-plain : (c : Configuration) (n m : ℕ) (given : List ℕ) (blocks : Li
 bits-plain c n m given blocks none long is =
     subst (λ (r : Option Rate). m ≡ length (bits_at r c given blocks)) (sym none)
     (omega (arith, is, ap (plain_count c) long, length-drop c.skip (plain_bits c given), length-plain c given))
-
--- the bits of a longer list, with no inner code
-pub bits-further : (c : Configuration) (given octets : List ℕ) (n : ℕ) → c.inner ≡ None
-    → n ≡ c.skip - plain_count c (length given)
-    → inner_bits c (given ++ octets) [] ≡ inner_bits c given [] ++ drop n (plain_bits c octets)
-bits-further c given octets n none is =
-    let before = plain_bits c given in
-    let more = plain_bits c octets in
-    let same : c.skip - length before ≡ n = omega (arith, is, length-plain c given) in
-    let plain : drop c.skip (plain_bits c (given ++ octets)) ≡ drop c.skip before ++ drop n more =
-    ap (drop c.skip) (plain-append c given octets) ∙ drop-split c.skip before more
-    ∙ ap (λ k. drop c.skip before ++ drop k more) same in
-    subst (λ (r : Option Rate). bits_at r c (given ++ octets) [] ≡ bits_at r c given [] ++ drop n more) (sym none) plain

@@ -4,11 +4,10 @@ use Rattle.tm_config.specs.Configuration.{Configuration}
 use Rattle.tm_conv.specs.declared.rates.Rate.{Rate}
 use Rattle.tm_viterbi.specs.WindowBlock.{WindowBlock}
 use Rattle.tm_viterbi.specs.Blocks.{AreBlocksOf}
-use Rattle.tm_viterbi.specs.Due.{AreDue, AreFirst}
+use Rattle.tm_viterbi.specs.Due.{AreFirst}
 use Rattle.tm_windows.specs.Slip.{steps_seen}
-use Rattle.tm_windows.specs.Windows.{AreBlocksIn, AreDueIn, AreFirstIn}
-use Rattle.tm_windows.proofs.Undisturbed.{unseen-blocks, unseen-due, unseen-first}
-use Rattle.tm_windows.proofs.PlainWindows.{plain-first}
+use Rattle.tm_windows.specs.Windows.{AreBlocksIn, AreFirstIn}
+use Rattle.tm_windows.proofs.Undisturbed.{unseen-blocks, unseen-first}
 use Rattle.tm_inner.specs.Inner.{settings_of, windows_of}
 
 -- no slip is looked for
@@ -20,14 +19,6 @@ pub blocks-unfollowed : (c : Configuration) (rate : Rate) (soft : List ℕ) (blo
     → AreBlocksIn (windows_of c rate) soft blocks left → AreBlocksOf (settings_of c rate) soft blocks left
 blocks-unfollowed c rate soft blocks left is = unseen-blocks (windows_of c rate) (unseen c rate is) soft blocks left
 
-pub due-unfollowed : (c : Configuration) (rate : Rate) (soft : List ℕ) (blocks : List WindowBlock) → c.follow ≡ false
-    → AreDueIn (windows_of c rate) soft blocks → AreDue (settings_of c rate) soft blocks
-due-unfollowed c rate soft blocks is = unseen-due (windows_of c rate) (unseen c rate is) soft blocks
-
 pub first-unfollowed : (c : Configuration) (rate : Rate) (soft : List ℕ) (blocks : List WindowBlock) → c.follow ≡ false
     → AreFirstIn (windows_of c rate) soft blocks → AreFirst (settings_of c rate) soft blocks
 first-unfollowed c rate soft blocks is = unseen-first (windows_of c rate) (unseen c rate is) soft blocks
-
-pub first-windows : (c : Configuration) (rate : Rate) (soft : List ℕ) (blocks : List WindowBlock) → c.follow ≡ false
-    → AreFirst (settings_of c rate) soft blocks → AreFirstIn (windows_of c rate) soft blocks
-first-windows c rate soft blocks is = (plain-first (windows_of c rate) soft blocks (unseen c rate is)).1

@@ -9,7 +9,7 @@ use Rattle.tm_windows.specs.declared.decoder.FeedError.TheVariants.{Stopped, Tak
 use Rattle.tm_inner.specs.declared.decoder.InnerEnd.{InnerEnd}
 use Rattle.tm_inner.specs.Inner.{inner_bits, reported_slips}
 use Rattle.tm_inner.specs.Phase.{IsChosen, IsChosenSoFar}
-use Rattle.tm_inner.specs.Receiving.{InnerReceiving, InnerReceiverStandsFor}
+use Rattle.tm_inner.specs.Receiving.{HasHanded, InnerReceiving}
 use Rattle.tm_inner.specs.Handing.{AreHanded, AreHandedDue, AreHandedFirst, AreHandedPrefix}
 
 -- it is refused once the receiver has stopped, and fails only where the taker does
@@ -24,22 +24,22 @@ pub record Feeds {R : Type 0} (before now : InnerReceiving) (octets : List ℕ)
     (taker : TakerCall (Handed WindowBlock)) (result : Result R FeedError) : Type 0 where
   pub call : Calls before now taker result
   pub stops : IsTrue now.has_stopped ↔ OnOk result ⊥
-  pub config : now.config ≡ before.config
+  pub config : now.decoder.config ≡ before.decoder.config
   pub chosen : (given : List ℕ) (done : List (Handed WindowBlock))
-      → InnerReceiverStandsFor before given done
+      → HasHanded before.decoder given done
       → before.has_stopped ≡ false
-      → IsChosenSoFar before.config (given ++ octets) now.chosen
+      → IsChosenSoFar before.decoder.config (given ++ octets) now.decoder.chosen
   pub handed : OnOk result ((more : List (Handed WindowBlock)) × taker.took more
       × ((given : List ℕ) (done : List (Handed WindowBlock))
       → length given + length octets < stream_bound
-      → InnerReceiverStandsFor before given done
-      → InnerReceiverStandsFor now (given ++ octets) (done ++ more)
-      × AreHandedDue before.config (given ++ octets) (done ++ more)))
+      → HasHanded before.decoder given done
+      → HasHanded now.decoder (given ++ octets) (done ++ more)
+      × AreHandedDue before.decoder.config (given ++ octets) (done ++ more)))
   pub prefix : IsErrOf result Taker → (tried : List (Handed WindowBlock)) × taker.broke tried
       × ((given : List ℕ) (done : List (Handed WindowBlock))
       → length given + length octets < stream_bound
-      → InnerReceiverStandsFor before given done
-      → AreHandedFirst before.config (given ++ octets) (done ++ tried))
+      → HasHanded before.decoder given done
+      → AreHandedFirst before.decoder.config (given ++ octets) (done ++ tried))
 
 -- at the end what is left was handed over, or the first of it until the taker failed; the result
 -- has how many bits were received, how often octets were dropped, and how many are left over
@@ -47,18 +47,18 @@ pub record Finishes (before now : InnerReceiving) (taker : TakerCall (Handed Win
     (result : Result InnerEnd FeedError) : Type 0 where
   pub call : Calls before now taker result
   pub stops : now.has_stopped ≡ true
-  pub config : now.config ≡ before.config
+  pub config : now.decoder.config ≡ before.decoder.config
   pub chosen : (given : List ℕ) (done : List (Handed WindowBlock))
-      → InnerReceiverStandsFor before given done
-      → before.has_stopped ≡ false → IsChosen before.config given now.chosen
+      → HasHanded before.decoder given done
+      → before.has_stopped ≡ false → IsChosen before.decoder.config given now.decoder.chosen
   pub handed : IfOk result (λ end. (last : List (Handed WindowBlock)) × taker.took last
       × ((given : List ℕ) (done : List (Handed WindowBlock))
-      → InnerReceiverStandsFor before given done
-      → AreHanded before.config given (done ++ last) end.leftover
-      × (end.bits ≡ length (inner_bits before.config given (items_of (done ++ last))))
-      × (end.slips ≡ reported_slips before.config (items_of (done ++ last)))))
+      → HasHanded before.decoder given done
+      → AreHanded before.decoder.config given (done ++ last) end.leftover
+      × (end.bits ≡ length (inner_bits before.decoder.config given (items_of (done ++ last))))
+      × (end.slips ≡ reported_slips before.decoder.config (items_of (done ++ last)))))
   pub prefix : IsErrOf result Taker → (tried : List (Handed WindowBlock)) × taker.broke tried
       × ((given : List ℕ) (done : List (Handed WindowBlock))
-      → InnerReceiverStandsFor before given done
-      → AreHandedPrefix before.config given (done ++ tried))
+      → HasHanded before.decoder given done
+      → AreHandedPrefix before.decoder.config given (done ++ tried))
   pub left : IfOk result (λ end. end.leftover ≤ 1)

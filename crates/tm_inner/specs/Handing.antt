@@ -1,14 +1,16 @@
 -- What is handed over for received octets: the symbol phase, where it is to be found, and then
 -- blocks.
-use Rattle.std.specs.Prelude.{◌≡◌, ◌⊎◌, ℕ, ◌+◌, ◌<◌, List, ◌++◌, length, None, true, false}
-use Rattle.tm_base.specs.Handed.{Handed}
+use Rattle.std.specs.Prelude.{◌≡◌, ◌⊎◌, ℕ, ◌+◌, ◌<◌, ◌≤◌, List, ◌++◌, length, None, true, false}
+use Rattle.tm_base.specs.Handed.{Handed, Phase, items_of}
+use Rattle.tm_base.specs.Takers.{HandedOver}
 use Rattle.tm_config.specs.Configuration.{Configuration}
 use Rattle.tm_viterbi.specs.WindowBlock.{WindowBlock}
 use Rattle.tm_viterbi.specs.WindowSizes.{stream_bound}
-use Rattle.tm_inner.specs.Inner.{AreInnerBlocks, AreInnerDue}
+use Rattle.tm_inner.specs.declared.decoder.InnerEnd.{InnerEnd}
+use Rattle.tm_inner.specs.Inner.{AreInnerBlocks, AreInnerDue, inner_bits, reported_slips}
 use Rattle.tm_inner.specs.InnerDecoding.{InnerDecoding, IsDrained, IsSettledQueue, unread}
-use Rattle.tm_inner.specs.Phase.{IsChosen, IsChosenSoFar, IsSettled, WithPhase, WithPhaseSettled, WithPhaseSoFar}
-use Rattle.tm_inner.specs.Receiving.{AreInnerFirst, HasRead, Hands}
+use Rattle.tm_inner.specs.Phase.{IsChosen, IsChosenSoFar, WithPhase, WithPhaseSettled, WithPhaseSoFar}
+use Rattle.tm_inner.specs.Receiving.{AreInnerFirst, HasHanded, HasRead, Hands}
 
 -- all that is handed over, and how many octets are left over
 abbrev pub AreHanded : Configuration → List ℕ → List (Handed WindowBlock) → ℕ → Type 0
@@ -33,11 +35,11 @@ pub record IsKept (d : InnerDecoding) (octets : List ℕ) : Type 0 where
   pub so_far : d.has_ended ≡ false → IsChosenSoFar d.config octets d.chosen
   pub at_end : d.has_ended ≡ true → IsChosen d.config octets d.chosen
 
--- the first of what is read of a decoder for these octets: before the end the phase is settled
-pub record IsReadPart (d : InnerDecoding) (octets : List ℕ)
-    (handed : List (Handed WindowBlock)) : Type 0 where
-  pub first : WithPhase (λ phase. AreInnerFirst d.config phase octets) d.config octets handed
-  pub settled : d.has_ended ≡ false → IsSettled d.config octets
+-- the phase that is kept now is that of the octets before and of these, which were put in since
+abbrev pub Keeps : InnerDecoding → InnerDecoding → List ℕ → Type 0
+Keeps before now octets = (given : List ℕ) (done : List (Handed WindowBlock))
+    → length given + length octets < stream_bound → HasRead before given done
+    → IsKept now (given ++ octets)
 
 -- octets were put in, and all that is due of them, fewer than 2^60 with those before, was decoded
 -- and read; the phase that is kept is theirs
@@ -49,6 +51,23 @@ pub record ReadsDue {T : Type 0} (took : T → Handed WindowBlock → T → Type
   pub drained : IsDrained now.queue
   pub all : unread now ≡ None
   pub read : Hands took HasRead before now taker taker_now octets
-  pub kept : (given : List ℕ) (done : List (Handed WindowBlock))
-      → length given + length octets < stream_bound → HasRead before given done
-      → IsKept now (given ++ octets)
+  pub kept : Keeps before now octets
+
+-- the symbol phase does nothing to a taker
+abbrev pub LeavesPhase : {T : Type 0} → (T → Handed WindowBlock → T → Type 0) → Type 0
+LeavesPhase {T} took = (before now : T) (skip cost : ℕ) → took before (Phase skip cost) now → now ≡ before
+
+-- no octets come any more, and all that is left was decoded and read, with this end
+pub record ReadsLast {T : Type 0} (took : T → Handed WindowBlock → T → Type 0)
+    (before now : InnerDecoding) (taker taker_now : T) (end : InnerEnd) : Type 0 where
+  pub config : now.config ≡ before.config
+  pub ended : now.has_ended ≡ true
+  pub last : List (Handed WindowBlock)
+  pub handed : HandedOver took taker last taker_now
+  pub all : (given : List ℕ) (done : List (Handed WindowBlock)) → HasHanded before given done
+      → AreHanded before.config given (done ++ last) end.leftover
+      × (end.bits ≡ length (inner_bits before.config given (items_of (done ++ last))))
+      × (end.slips ≡ reported_slips before.config (items_of (done ++ last)))
+  pub chosen : (given : List ℕ) (done : List (Handed WindowBlock)) → HasHanded before given done
+      → IsChosen before.config given now.chosen
+  pub left : end.leftover ≤ 1

@@ -8,7 +8,7 @@ use Rattle.tm_config.specs.declared.values.Sought.TheVariants.{Given, Find}
 use Rattle.tm_conv.specs.declared.rates.Rate.{Rate}
 use Rattle.tm_viterbi.specs.WindowBlock.{WindowBlock}
 use Rattle.tm_viterbi.specs.WindowSizes.{stream_bound}
-use Rattle.tm_windows.specs.Queue.{Queueing, AwaitsPhase, QueueStandsFor, QueueEndsFor, HoldsRun, IsOpen, SharesAmong, fill_room, reached}
+use Rattle.tm_windows.specs.Queue.{Queueing, AwaitsPhase, QueueStandsFor, HoldsRun, IsOpen, SharesAmong, fill_room, reached}
 use Rattle.tm_windows.specs.Windows.{dropped_of}
 use Rattle.tm_windows.specs.declared.choosing.Chosen.{Chosen}
 use Rattle.tm_inner.specs.Inner.{windows_of}
@@ -84,11 +84,6 @@ pub record InnerDecoderStandsFor (d : InnerDecoding) (given : List ℕ)
   pub lost : lost_in d.queue ≡ dropped_of blocks
   pub choice : ((d.chosen ≡ None) × (blocks ≡ []) × (d.has_ended ≡ false)) ⊎
       IsChosenBy d.config (phase_octets d.config given) d.chosen
-
--- all octets were given and decoded, and `left` octets are left over
-abbrev pub EndsFor : Option Queueing → List ℕ → List WindowBlock → ℕ → Type 0
-EndsFor None soft blocks left = (blocks ≡ []) × (left ≡ 0)
-EndsFor (Some queue) soft blocks left = QueueEndsFor queue soft blocks left
 
 -- the blocks that are ready
 abbrev pub ready_in : Option Queueing → List WindowBlock

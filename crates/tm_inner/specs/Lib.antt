@@ -8,3 +8,4 @@ pub mod InnerWindows
 pub mod Receiving
 pub mod Handing
 pub mod Calls
+pub mod UntilFault

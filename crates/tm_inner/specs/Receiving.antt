@@ -2,26 +2,20 @@
 -- so far, it stands.
 use Rattle.std.specs.Prelude.{◌≡◌, ◌⊎◌, ℕ, ◌+◌, ◌<◌, Bool, true, false, List, [], ◌++◌, length, Option, Some, None, if◌then◌else◌}
 use Rattle.tm_base.specs.Handed.{Handed}
-use Rattle.tm_base.specs.Takers.{HandedOver, HandedPart}
+use Rattle.tm_base.specs.Takers.{HandedOver}
 use Rattle.tm_config.specs.Configuration.{Configuration}
 use Rattle.tm_config.specs.declared.values.Sought.TheVariants.{Given}
 use Rattle.tm_conv.specs.declared.rates.Rate.{Rate}
 use Rattle.tm_viterbi.specs.WindowBlock.{WindowBlock}
 use Rattle.tm_viterbi.specs.WindowSizes.{stream_bound}
 use Rattle.tm_windows.specs.Windows.{AreFirstIn}
-use Rattle.tm_windows.specs.declared.choosing.Chosen.{Chosen}
 use Rattle.tm_inner.specs.Inner.{windows_of, soft_octets}
 use Rattle.tm_inner.specs.InnerDecoding.{InnerDecoding, InnerDecoderStandsFor, IsDrained, unread}
 use Rattle.tm_inner.specs.Phase.{IsSoFarBy, phase_octets, with_phase}
 
 -- what contracts see of an inner receiver
 pub record InnerReceiving : Type 0 where
-  pub config : Configuration
   pub decoder : InnerDecoding
-  -- how many octets were given, up to the greatest value that is counted
-  pub count : ℕ
-  -- None before the choice of the phase, and where it is given
-  pub chosen : Option Chosen
   -- an earlier call answered Taker, or `finish` was called
   pub has_stopped : Bool
 
@@ -42,16 +36,6 @@ pub record HasHanded (d : InnerDecoding) (given : List ℕ)
   pub drained : IsDrained d.queue
   pub so_far : IsSoFarBy d.config (phase_octets d.config given) d.chosen
 
--- an inner receiver that was given these octets and no others, fewer than 2^60, and has handed over
--- this
-pub record InnerReceiverStandsFor (r : InnerReceiving) (given : List ℕ)
-    (done : List (Handed WindowBlock)) : Type 0 where
-  pub same : r.decoder.config ≡ r.config
-  pub chosen : r.decoder.chosen ≡ r.chosen
-  pub count : length given ≡ r.count
-  pub few : length given < stream_bound
-  pub handed : HasHanded r.decoder given done
-
 -- the blocks of the first windows of received octets; none where there is no inner code
 abbrev pub FirstAt : Option Rate → Configuration → ℕ → List ℕ → List WindowBlock → Type 0
 FirstAt None c phase octets blocks = blocks ≡ []
@@ -70,14 +54,3 @@ pub record Hands {T I S : Type 0} (took : T → I → T → Type 0)
   pub stands : (given : List ℕ) (done : List I) → length given + length octets < stream_bound
       → Stands before given done
       → Stands now (given ++ octets) (done ++ more)
-
--- given the octets, a value hands over a part of the first of it, at which the taker fails
-pub record HandsPrefix {T I S : Type 0} (took broke : T → I → T → Type 0)
-    (Stands : S → List ℕ → List I → Type 0)
-    (First : List ℕ → List I → Type 0) (before : S) (taker taker_now : T)
-    (octets : List ℕ) : Type 0 where
-  pub tried : List I
-  pub handed : HandedPart took broke taker tried taker_now
-  pub first : (given : List ℕ) (done : List I) → length given + length octets < stream_bound
-      → Stands before given done
-      → First (given ++ octets) (done ++ tried)

@@ -1,9 +1,11 @@
 -- What an inner sender keeps, and for which octets, given so far, it stands.
-use Rattle.std.specs.Prelude.{◌≡◌, ℕ, Bool, List, Option, Some, None}
+use Rattle.std.specs.Prelude.{◌≡◌, ℕ, if◌then◌else◌, Bool, List, ◌++◌, Option, Some, None}
+use Rattle.std.specs.Option.{is_some}
 use Rattle.tm_base.specs.Bits.{bits_of}
-use Rattle.tm_base.specs.Pieces.{Fed, FedPrefix}
+use Rattle.tm_base.specs.Pieces.{Fed, FedPrefix, further}
 use Rattle.tm_config.specs.Configuration.{Configuration}
 use Rattle.tm_conv.specs.declared.rates.Rate.{Rate}
+use Rattle.tm_conv.specs.Octets.{most_octet_symbols}
 use Rattle.tm_conv.specs.Encoding.{Encoding, EncoderStandsFor, bit_numbers, levels, sent_for}
 use Rattle.tm_inner.specs.Symbols.{is_inverted, symbols_of_octets}
 
@@ -41,6 +43,19 @@ KeepsFor (Some encoder) octets = EncodesFor encoder octets
 -- an inner sender that was given these octets, and no others
 abbrev pub InnerSenderStandsFor : InnerSending → List ℕ → Type 0
 InnerSenderStandsFor sender octets = KeepsFor sender.encoder octets
+
+-- how many symbols an octet comes to at most: two for each of its bits, or with no inner code
+-- itself, or one for each bit where these are not packed
+abbrev pub most_symbols : Configuration → ℕ
+most_symbols c = if is_some c.inner then most_octet_symbols else if c.pack then 1 else 8
+
+-- given these octets, a sender went on, and these symbols are due for them
+pub record InnerMakes (before now : InnerSending) (octets symbols : List ℕ) : Type 0 where
+  pub config : now.config ≡ before.config
+  pub stands : (given : List ℕ) → InnerSenderStandsFor before given
+      → InnerSenderStandsFor now (given ++ octets)
+  pub due : (given : List ℕ) → InnerSenderStandsFor before given
+      → further (symbols_of_octets before.config) given octets ≡ symbols
 
 -- given these octets, a sender went on and wrote what is due for them
 pub record InnerSends (before now : InnerSending) (taken taken_now : Option (List ℕ))

@@ -1,9 +1,7 @@
 // The inner code of a configuration over a queue of windows.
-ghost use Rattle.std.specs.Prelude.{◌≡◌, ◌++◌, ◌==◌, ℕ, ◌-◌, ◌+◌, ◌^◌, ◌<◌, ◌≤◌, List, [], true, false, IfOk, OnErr, OnOk, IsTrue, Some, drop, length, map, min, slice_index_or, take};
+ghost use Rattle.std.specs.Prelude.{◌≡◌, ◌++◌, ◌==◌, ℕ, ◌-◌, ◌+◌, ◌^◌, ◌<◌, ◌≤◌, List, [], true, false, IfOk, IsTrue, Some, drop, length, map, min, slice_index_or, take};
 ghost use Rattle.std.specs.Option.{is_some};
 ghost use Rattle.tm_base.specs.Limits.{most_workers};
-ghost use Rattle.tm_base.specs.Outside.{HasCause};
-ghost use Rattle.tm_base.specs.Takers.{HandedOver, HandedPart};
 ghost use Rattle.tm_conv.specs.Path.{AreBits};
 ghost use Rattle.tm_viterbi.specs.Clean.{kept_bits};
 ghost use Rattle.tm_viterbi.specs.WindowBlock.{WindowBlock};
@@ -23,10 +21,10 @@ use crate::nearest::nearest_bits;
 use crate::window::{NO_WINDOW, Window};
 use std::alloc::Global;
 use std::marker::Model;
-use tm_base::{Failed, NoMemory, to_unsigned};
+use tm_base::NoMemory;
 use tm_config::{Config, Sought};
 use tm_conv::symbols_of;
-use tm_viterbi::{Block, BlockTaker, WindowShape};
+use tm_viterbi::{Block, WindowShape};
 use tm_windows::{Chosen, Crew, QueueSettings, STREAM_BOUND, WindowQueue};
 
 /// What came of all octets.
@@ -342,18 +340,6 @@ impl InnerDecoder {
         }
     }
 
-    /// Hands over the blocks that are ready.
-    pub fn hand<B: BlockTaker>(&self, blocks: &mut B) -> Result<(), Failed>
-        ensures ok { OnOk result (HandedOver B.took blocks.old (ready_in self.now.queue) blocks.new) }
-        ensures err { OnErr result (HandedPart B.took B.broke blocks.old (ready_in self.now.queue) blocks.new) }
-        ensures cause { HasCause (B.faults blocks.old) (B.faults blocks.new) (B.is_last blocks.new) result }
-    {
-        match &self.queue {
-            Some(queue) => queue.hand(blocks),
-            None => Ok(()),
-        }
-    }
-
     /// Whether no symbol phase is still to be chosen, and the octets held, with none of them dropped, close windows
     /// that keep at most `bits` bits. With no inner code false.
     pub fn may_wait(&self, bits: u64) -> bool
@@ -480,22 +466,6 @@ impl InnerDecoder {
         ensures bits { map (λ bit. bit == 1) bits.new ≡ map (nearest_bit self.now.config) octets.now }
     {
         nearest_bits(&self.config, octets, bits);
-    }
-
-    /// Converts the next octets, before they are put in, to soft octets of which 0 is the surest 0 and 255 the surest
-    /// 1. Returns how many of the first are still to be skipped. The symbol phase, where it is to be found, is found in
-    /// those after them.
-    pub fn to_soft(&self, octets: &mut [u8]) -> usize
-        ensures size { length octets.new ≡ length octets.old }
-        ensures skipped { result ≤ length octets.old }
-        ensures soft { (given : List ℕ) (blocks : List WindowBlock) → InnerDecoderStandsFor self.now given blocks
-            → phase_octets self.now.config (given ++ octets.old)
-            ≡ phase_octets self.now.config given ++ drop result octets.new }
-    {
-        if is_signed(&self.config) {
-            to_unsigned(octets);
-        }
-        self.octets_to_skip(octets.len())
     }
 
     /// How many of the next `count` octets may be given: in all they are below 2^60. Once no more may be given, the

@@ -1,11 +1,11 @@
 // The sender's last stage.
-ghost use Rattle.std.specs.Prelude.{◌≡◌, ◌≢◌, ◌↔◌, ◌≤◌, [], IsTrue, OnOk, OnErr, IsErrOf, false};
-ghost use Rattle.tm_base.specs.Outside.{HasCause, Rose};
-ghost use Rattle.tm_base.specs.Pieces.{Fed, FedPrefix};
-ghost use Rattle.tm_base.specs.Written.{Wrote, WrotePrefix};
+ghost use Rattle.std.specs.Prelude.{◌≡◌, ◌≢◌, ◌↔◌, ◌*◌, ◌≤◌, ℕ, List, ◌++◌, [], length, take, false, true, IsTrue, OnOk, IsErrOf};
+ghost use Rattle.tm_base.specs.Outside.{Rose};
+ghost use Rattle.tm_base.specs.Pieces.{further};
+ghost use Rattle.tm_conv.specs.Octets.{most_octet_symbols};
 ghost use Rattle.tm_config.specs.Configuration.{Configuration};
 ghost use Rattle.tm_inner.specs.Symbols.{low_level, symbols_of_octets};
-ghost use Rattle.tm_inner.specs.Sending.{EncodesFor, IsEncoderOf, KeepsFor, InnerSenderStandsFor, InnerSends, InnerSendsPrefix, encoded, spread};
+ghost use Rattle.tm_inner.specs.Sending.{IsEncoderOf, KeepsFor, InnerSenderStandsFor, InnerSends, InnerSendsPrefix, InnerMakes, most_symbols};
 
 use crate::code::{encoder_of, is_packed, low_level};
 use crate::spreading::spread;
@@ -15,7 +15,7 @@ use tm_base::{Failed, Sink, put_all};
 use tm_config::Config;
 use tm_conv::Encoder;
 
-// The octets that are encoded at a time, and the most that their symbols fill. Their bits fill half of it.
+// The octets whose symbols are written at a time, and the most that these fill.
 const PIECE: usize = 256;
 
 const ROOM: usize = 16 * PIECE;
@@ -71,10 +71,34 @@ impl InnerSender {
         self.has_failed
     }
 
-    /// Writes what is due for the next octets, most significant bit first: with an inner code an octet for each symbol,
-    /// 00 and FF, or 80 and 7F (hex) in the signed form (CCSDS 131.0-B, Convolutional Coding); with none the octets, or
-    /// where bits are not to be packed such an octet for each bit. The code's register and puncture pattern run on from
-    /// push to push.
+    /// Has each further push return `Stopped`, as after a fault of a sink.
+    pub fn stop(&mut self)
+        ensures { self.new ≡ record self.old { has_failed = true } }
+    {
+        self.has_failed = true;
+    }
+
+    /// Puts the symbols of the next octets at the start of `room`, most significant bit first: with an inner code an
+    /// octet for each symbol, 00 and FF, or 80 and 7F (hex) in the signed form (CCSDS 131.0-B, Convolutional Coding);
+    /// with none the octets, or where bits are not to be packed such an octet for each bit. Returns how many octets
+    /// were put there. The code's register and puncture pattern run on from call to call.
+    pub fn symbols(&mut self, octets: &[u8], room: &mut [u8]) -> usize
+        requires { most_octet_symbols * length octets.now ≤ length room.old }
+        ensures fits { result ≤ length room.old }
+        ensures most { result ≤ most_symbols self.old.config * length octets.now }
+        ensures failed { self.new.has_failed ≡ self.old.has_failed }
+        ensures made { InnerMakes self.old self.new octets.now (take result room.new) }
+    {
+        symbols_of(
+            &mut self.encoder,
+            is_packed(&self.config),
+            low_level(&self.config),
+            octets,
+            room,
+        )
+    }
+
+    /// Writes the symbols of the next octets.
     ///
     /// `Sink` comes where `out` fails, or takes nothing of what is left; a prefix of what is due was then written.
     /// `Stopped` comes where an earlier push returned `Sink`; nothing is written then.
@@ -93,92 +117,53 @@ impl InnerSender {
         if self.has_failed {
             return Err(SendError::Stopped);
         }
-        match send(
-            &mut self.encoder,
-            is_packed(&self.config),
-            low_level(&self.config),
-            octets,
-            out,
-        ) {
-            Ok(()) => Ok(()),
-            Err(Failed) => {
-                self.has_failed = true;
-                Err(SendError::Sink)
+        let mut room = [0; ROOM];
+        let mut done = 0;
+        while done < octets.len() {
+            let end = done + PIECE.min(octets.len() - done);
+            let count = self.symbols(&octets[done..end], &mut room);
+            match put_all(out, &room[..count]) {
+                Ok(()) => {}
+                Err(Failed) => {
+                    self.stop();
+                    return Err(SendError::Sink);
+                }
             }
+            done = end;
         }
+        Ok(())
     }
 }
 
-// Writes the symbols of the octets where there is an encoder, and else the octets, or where they are not to be packed
-// an octet for each of their bits. A 0 is the octet `low`.
-fn send<O: Sink>(
+// Puts the symbols of the octets at the start of the room where there is an encoder, and else the octets, or where they
+// are not to be packed an octet for each of their bits. A 0 is the octet `low`, and a 1 its complement.
+fn symbols_of(
     encoder: &mut Option<Encoder>,
     is_packed: bool,
     low: u8,
     octets: &[u8],
-    out: &mut O,
-) -> Result<(), Failed>
+    room: &mut [u8],
+) -> usize
+    requires { most_octet_symbols * length octets.now ≤ length room.old }
+    ensures fits { result ≤ length room.old }
+    ensures most { (c : Configuration) → IsEncoderOf c encoder.old → is_packed ≡ c.pack
+        → result ≤ most_symbols c * length octets.now }
     ensures of { (c : Configuration) → IsEncoderOf c encoder.old → IsEncoderOf c encoder.new }
-    ensures sent { OnOk result ((c : Configuration) → IsEncoderOf c encoder.old → is_packed ≡ c.pack
-        → low ≡ low_level c.soft
-        → Fed KeepsFor (symbols_of_octets c) encoder.old encoder.new (O.taken out.old) (O.taken out.new) octets.now) }
-    ensures prefix { OnErr result ((c : Configuration) → IsEncoderOf c encoder.old → is_packed ≡ c.pack
-        → low ≡ low_level c.soft
-        → FedPrefix KeepsFor (symbols_of_octets c) encoder.old (O.taken out.old) (O.taken out.new) octets.now) }
-    ensures cause { HasCause (O.faults out.old) (O.faults out.new) (O.is_last out.new) result }
+    ensures stands { (given : List ℕ) → KeepsFor encoder.old given → KeepsFor encoder.new (given ++ octets.now) }
+    ensures due { (c : Configuration) (given : List ℕ) → IsEncoderOf c encoder.old → is_packed ≡ c.pack
+        → low ≡ low_level c.soft → KeepsFor encoder.old given
+        → further (symbols_of_octets c) given octets.now ≡ take result room.new }
 {
     match encoder {
-        Some(encoder) => send_symbols(encoder, low, octets, out),
+        Some(encoder) => encoder.encode(octets, low, room),
         None => {
             if is_packed {
-                put_all(out, octets)
+                room[..octets.len()].copy_from_slice(octets);
+                octets.len()
             } else {
-                send_bits(low, octets, out)
+                spread(low, octets, room);
+                8 * octets.len()
             }
         }
     }
-}
-
-// Writes an octet for each bit of the octets, a 0 as the octet `low` and a 1 as its complement.
-fn send_bits<O: Sink>(low: u8, octets: &[u8], out: &mut O) -> Result<(), Failed>
-    ensures sent { OnOk result (Wrote (O.taken out.old) (O.taken out.new) (spread low octets.now)) }
-    ensures prefix { OnErr result (WrotePrefix (O.taken out.old) (O.taken out.new) (spread low octets.now)) }
-    ensures cause { HasCause (O.faults out.old) (O.faults out.new) (O.is_last out.new) result }
-{
-    let mut room = [0; ROOM];
-    let mut done = 0;
-    while done < octets.len() {
-        let end = done + PIECE.min(octets.len() - done);
-        let piece = &octets[done..end];
-        spread(low, piece, &mut room);
-        put_all(out, &room[..8 * piece.len()])?;
-        done = end;
-    }
-    Ok(())
-}
-
-// Writes the symbols of the octets, a 0 as the octet `low` and a 1 as its complement.
-fn send_symbols<O: Sink>(
-    encoder: &mut Encoder,
-    low: u8,
-    octets: &[u8],
-    out: &mut O,
-) -> Result<(), Failed>
-    ensures rate { encoder.new.rate ≡ encoder.old.rate }
-    ensures invert { encoder.new.invert ≡ encoder.old.invert }
-    ensures sent { OnOk result (Fed EncodesFor (encoded encoder.old.rate encoder.old.invert low)
-        encoder.old encoder.new (O.taken out.old) (O.taken out.new) octets.now) }
-    ensures prefix { OnErr result (FedPrefix EncodesFor (encoded encoder.old.rate encoder.old.invert low)
-        encoder.old (O.taken out.old) (O.taken out.new) octets.now) }
-    ensures cause { HasCause (O.faults out.old) (O.faults out.new) (O.is_last out.new) result }
-{
-    let mut room = [0; ROOM];
-    let mut done = 0;
-    while done < octets.len() {
-        let end = done + PIECE.min(octets.len() - done);
-        let count = encoder.encode(&octets[done..end], low, &mut room);
-        put_all(out, &room[..count])?;
-        done = end;
-    }
-    Ok(())
 }

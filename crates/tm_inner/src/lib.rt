@@ -11,6 +11,7 @@ mod inner_sender;
 mod laws;
 mod nearest;
 mod spreading;
+mod until_fault;
 mod watch;
 mod window;
 
@@ -21,5 +22,5 @@ pub use inner_sender::{InnerSender, SendError};
 pub use laws::{
     clean_inner_law, due_bits_law, handed_law, inner_law, metric_law, symbols_law, windows_law,
 };
-pub use watch::{NoWatch, WindowWatch, watch_ready};
+pub use watch::{NoWatch, WindowWatch, watch_due, watch_last, watch_ready};
 pub use window::Window;

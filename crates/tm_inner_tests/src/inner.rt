@@ -271,6 +271,14 @@ fn hand_phase<B: BlockTaker>(decoder: &mut InnerDecoder, blocks: &mut B) -> Resu
     }
 }
 
+// Hands over the blocks that are ready.
+fn hand<B: BlockTaker>(decoder: &InnerDecoder, blocks: &mut B) -> Result<(), Failed> {
+    for index in 0..decoder.ready() {
+        blocks.block(&decoder.block(index))?;
+    }
+    Ok(())
+}
+
 // Hands over what is due of a decoder: the phase, once, and blocks.
 fn hand_due<C: Crew>(
     crew: &C,
@@ -284,7 +292,7 @@ fn hand_due<C: Crew>(
     while decoder.decode(crew) > 0 {
         watch_ready(decoder, taker);
         hand_phase(decoder, taker)?;
-        decoder.hand(taker)?;
+        hand(decoder, taker)?;
     }
     hand_phase(decoder, taker)
 }
@@ -317,7 +325,7 @@ fn put_last<C: Crew>(
     hand_due(crew, decoder, taker)?;
     let end = decoder.last();
     watch_ready(decoder, taker);
-    decoder.hand(taker)?;
+    hand(decoder, taker)?;
     Ok(end)
 }
 
@@ -521,18 +529,17 @@ fn bits_without_an_inner_code(rt: HostRuntime) -> Result<(), Fail> {
 // The bits to skip, fewer with each octet.
 fn check_skipping(rt: &impl Abort, alloc: Global) -> Result<(), Fail> {
     let config = config_of(&BITS[2])?;
-    let mut taker = Collector::new(alloc, 0);
-    let mut receiver = opened(alloc, &config)?;
-    assert!(rt; !receiver.has_inner_code());
+    let mut decoder = opened_for(rt, alloc, &config, 1)?;
+    assert!(rt; !decoder.has_inner_code());
     for left in [15, 7, 0, 0] {
-        check_to_skip(rt, &receiver, left);
-        feed(&mut receiver, &[0xFF], &mut taker)?;
+        check_to_skip(rt, &decoder, left);
+        assert!(rt; decoder.fill(&[0xFF]) == 1);
     }
     Ok(())
 }
 
-fn check_to_skip(rt: &impl Abort, receiver: &InnerReceiver, left: u64) {
-    assert!(rt; receiver.bits_to_skip() == left);
+fn check_to_skip(rt: &impl Abort, decoder: &InnerDecoder, left: u64) {
+    assert!(rt; decoder.bits_to_skip() == left);
 }
 
 #[test]
@@ -547,7 +554,7 @@ fn a_taker_that_fails(rt: HostRuntime) -> Result<(), Fail> {
     let config = config_of(&NOTHING)?;
     let mut taker = Collector::new(rt.alloc(), 0);
     let mut receiver = opened(rt.alloc(), &config)?;
-    assert!(rt; receiver.has_inner_code());
+    assert!(rt; opened_for(&rt, rt.alloc(), &config, 1)?.has_inner_code());
     check_fails(&rt, &mut receiver, &octets, &mut taker);
     check_stopped(&rt, &mut receiver, &[], &mut taker);
     Ok(())

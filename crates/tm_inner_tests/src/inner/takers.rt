@@ -96,6 +96,10 @@ impl BlockTaker for Collector {
 impl WindowWatch for Collector {
     ghost took = { λ before window now. Unit {0} };
 
+    ghost told = { λ before item now. Unit {0} };
+
+    fn phase(&mut self, _skip: u8, _cost: u64) {}
+
     fn window(&mut self, inner: &InnerDecoder, index: usize) {
         let _ = self.windows.push(inner.window(index));
     }

@@ -1,60 +1,40 @@
-use Rattle.std.proofs.Common.{rules, ◌≡◌, ◌++◌, ℕ, List, length}
-use Rattle.tm_base.specs.Handed.{Handed, items_of}
-use Rattle.tm_config.specs.Configuration.{Configuration}
-use Rattle.tm_viterbi.specs.WindowBlock.{WindowBlock}
-use Rattle.tm_inner.specs.Inner.{inner_bits, reported_slips}
-use Rattle.tm_inner.specs.Handing.{AreHanded, AreHandedPrefix}
-use Rattle.tm_inner.specs.Phase.{IsChosen}
-use Rattle.tm_inner.proofs.Receivers.{of-receiver}
+use Rattle.std.proofs.Common.{rules, ◌≡◌, true, refl, subst, Ok, Err}
+use Rattle.tm_base.specs.Calls.{taker_call}
+use Rattle.tm_base.specs.Handed.{on_handed}
+use Rattle.tm_windows.specs.declared.decoder.FeedError.TheVariants.{Taker}
+use Rattle.tm_inner.specs.Calls.{Finishes}
+use Rattle.tm_inner.specs.Receiving.{InnerReceiving}
+use Rattle.tm_inner.proofs.Until.{finishes-failed, finishes-ok, same-loan}
 use Rattle.tm_inner.proofs.inner_receiver.InnerReceiver.finish.Goals as goal
+
+pub returns-then-has_failed : goal.returns-then-has_failed
+returns-then-has_failed g c =
+    let t = g.B.BlockTaker in
+    let took = on_handed t.took_phase t.took in
+    let broke = on_handed t.broke_phase t.broke in
+    let w = c.watch_last-end in
+    let r = w.ensures.read in
+    let watch = w.new.watch in
+    let loan : watch.taker.ghost_name ≡ _ = same-loan took broke t.faults t.is_last _ watch r.last r.handed in
+    let finished = subst (λ (r : InnerReceiving). Finishes r (record { decoder = w.new.inner; has_stopped = true })
+    (taker_call took broke t.faults t.is_last c.args.blocks.now watch.taker.now) (Err Taker)) c.self.view_is
+    (finishes-failed took broke t.faults t.is_last
+    (record { decoder = c.self.inside.decoder; has_stopped = c.self.inside.has_stopped }) w.new.inner _ watch
+    c.if-self.false refl w.result c.if-has_failed.true r) in
+    search rules
 
 pub returns : goal.returns
 returns g c =
-    let s = c.self.inside in
-    let before = c.args.self.now in
-    let now = c.end.new.decoder in
-    let h = c.in-Ok.ensures.handed in
-    let end = c.in-Ok.end in
-    record {
-      call = search rules;
-      stops = search rules;
-      config = search rules;
-      chosen = λ given done stood _.
-          of-receiver (λ (k : Configuration) (all : List ℕ) (_ : List (Handed WindowBlock)). IsChosen k all now.chosen)
-          s.decoder s.has_stopped before c.self.view_is c.end.ensures.chosen given done stood;
-      handed = (
-        h.0,
-        h.1,
-        of-receiver (λ (k : Configuration) (all : List ℕ) (first : List (Handed WindowBlock)).
-            AreHanded k all (first ++ h.0) end.leftover
-            × (end.bits ≡ length (inner_bits k all (items_of (first ++ h.0))))
-            × (end.slips ≡ reported_slips k (items_of (first ++ h.0))))
-            s.decoder s.has_stopped before c.self.view_is h.2,
-      );
-      prefix = search rules;
-      left = search rules;
-    }
-
-pub returns-in_default : goal.returns-in_default
-returns-in_default g c =
-    let s = c.self.inside in
-    let before = c.args.self.now in
-    let now = c.end.new.decoder in
-    let p = c.in_default.ensures.prefix in
-    record {
-      call = search rules;
-      stops = search rules;
-      config = search rules;
-      chosen = λ given done stood _.
-          of-receiver (λ (k : Configuration) (all : List ℕ) (_ : List (Handed WindowBlock)). IsChosen k all now.chosen)
-          s.decoder s.has_stopped before c.self.view_is c.end.ensures.chosen given done stood;
-      handed = search rules;
-      prefix = λ _. (
-        p.0,
-        p.1,
-        of-receiver (λ (k : Configuration) (all : List ℕ) (first : List (Handed WindowBlock)).
-            AreHandedPrefix k all (first ++ p.0))
-            s.decoder s.has_stopped before c.self.view_is p.2,
-      );
-      left = search rules;
-    }
+    let t = g.B.BlockTaker in
+    let took = on_handed t.took_phase t.took in
+    let broke = on_handed t.broke_phase t.broke in
+    let w = c.watch_last-end in
+    let r = w.ensures.read in
+    let watch = w.new.watch in
+    let loan : watch.taker.ghost_name ≡ _ = same-loan took broke t.faults t.is_last _ watch r.last r.handed in
+    let finished = subst (λ (r : InnerReceiving). Finishes r (record { decoder = w.new.inner; has_stopped = true })
+    (taker_call took broke t.faults t.is_last c.args.blocks.now watch.taker.now) (Ok w.result)) c.self.view_is
+    (finishes-ok took broke t.faults t.is_last
+    (record { decoder = c.self.inside.decoder; has_stopped = c.self.inside.has_stopped }) w.new.inner _ watch
+    c.if-self.false refl w.result c.if-has_failed.false r) in
+    search rules
