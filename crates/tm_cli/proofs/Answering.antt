@@ -13,7 +13,7 @@ use Rattle.tm_config.specs.declared.values.OuterCode.{OuterCode}
 use Rattle.tm_config.specs.declared.values.OuterCode.TheVariants.{Rs16, Rs8, Uncoded}
 use Rattle.tm_conv.specs.declared.rates.Rate.{Rate}
 use Rattle.tm_driver.specs.Answered.{Answered, AnsweredAlone}
-use Rattle.tm_driver.specs.Courses.{SinkCall, SinkState, SinkCourse, SinkWent, SinksCourse, SourceCall, SourceState}
+use Rattle.tm_driver.specs.Courses.{SinkCall, SinkState, SinkCourse, SinksCourse, SourceCall, SourceState}
 use Rattle.tm_driver.specs.Meaning.{Meaning, Ends, Output, Taken, taken_by}
 use Rattle.tm_driver.specs.Statuses.{is_sink_fault, status_of}
 use Rattle.tm_driver.specs.declared.ending.Ending.{Ending}
@@ -61,45 +61,34 @@ encode-kind kind.Bits job is = cc is
 pub of-encode : (job : Job) → command_of job ≡ Encode → job.kind ≡ kind.Encode
 of-encode job is = encode-kind job.kind job is
 
--- a command that reads nothing leaves nothing over
-partial-reads : (command : Command) (c : Configuration) (octets : List ℕ) → (meaning_of command c).is_partial octets
-    → reads command ≡ true
-partial-reads Encode c octets partial = refl
-partial-reads Decode c octets partial = refl
-partial-reads Report c octets partial = refl
-partial-reads Trace c octets partial = refl
-partial-reads (Word text) c octets partial = absurd partial
-partial-reads (Soak seed frames hits) c octets partial = absurd partial
-partial-reads Erased c octets partial = refl
-partial-reads Certify c octets partial = refl
-partial-reads Check c octets partial = refl
-partial-reads Bits c octets partial = refl
+-- a command that reads nothing leaves nothing over, and nothing is due for what it did not read
+reads-or : (command : Command) (c : Configuration) → (reads command ≡ true)
+    ⊎ (((octets : List ℕ) → (meaning_of command c).is_partial octets → ⊥)
+    × ((octets : List ℕ) (output : Output) → (meaning_of command c).is_due octets output → ⊥))
+reads-or Encode c = inl refl
+reads-or Decode c = inl refl
+reads-or Report c = inl refl
+reads-or Trace c = inl refl
+reads-or (Word text) c = inr (λ octets partial. partial, λ octets output due. due)
+reads-or (Soak seed frames hits) c = inr (λ octets partial. partial, λ octets output due. due)
+reads-or Erased c = inl refl
+reads-or Certify c = inl refl
+reads-or Check c = inl refl
+reads-or Bits c = inl refl
 
 pub left-reads : (e : Ending) (command : Command) (c : Configuration) (octets : List ℕ) (taken : Taken)
     → Ends e (meaning_of command c) c.limit octets taken → e ≡ LeftOver → reads command ≡ true
 left-reads e command c octets taken ends is =
-    partial-reads command c octets (subst (λ (x : Ending). Ends x (meaning_of command c) c.limit octets taken) is
-    ends).2
-
--- nor is anything due for what it did not read
-due-reads : (command : Command) (c : Configuration) (octets : List ℕ) (output : Output)
-    → (meaning_of command c).is_due octets output → reads command ≡ true
-due-reads Encode c octets output due = refl
-due-reads Decode c octets output due = refl
-due-reads Report c octets output due = refl
-due-reads Trace c octets output due = refl
-due-reads (Word text) c octets output due = absurd due
-due-reads (Soak seed frames hits) c octets output due = absurd due
-due-reads Erased c octets output due = refl
-due-reads Certify c octets output due = refl
-due-reads Check c octets output due = refl
-due-reads Bits c octets output due = refl
+    let partial = (subst (λ (x : Ending). Ends x (meaning_of command c) c.limit octets taken) is ends).2 in
+    elim (reads-or command c) as (λ _. reads command ≡ true)
+    [ inl reading ↦ reading | inr none ↦ absurd (none.0 octets partial) ]
 
 pub source-reads : (e : Ending) (command : Command) (c : Configuration) (octets : List ℕ) (taken : Taken)
     → Ends e (meaning_of command c) c.limit octets taken → e ≡ SourceFault → reads command ≡ true
 source-reads e command c octets taken ends is =
     let early = (subst (λ (x : Ending). Ends x (meaning_of command c) c.limit octets taken) is ends).0.0 in
-    due-reads command c octets early.0 early.1
+    elim (reads-or command c) as (λ _. reads command ≡ true)
+    [ inl reading ↦ reading | inr none ↦ absurd (none.1 octets early.0 early.1) ]
 
 -- ---- what a status is
 
@@ -134,15 +123,11 @@ without-fault SourceFault source sink = absurd (source refl)
 without-fault SinkFault source sink = absurd (sink refl)
 
 -- a fault of a sink is one of two, of which one rose
-pub sink-rose : (e : Ending) (out out_now : SinkState) (out_last : Type 0) (notes notes_now : SinkState)
-    (notes_last : Type 0)
-    → SinksCourse (is_sink_fault e) out out_now out_last notes notes_now notes_last → e ≡ SinkFault
-    → SinkCourse true out out_now out_last ⊎ SinkCourse true notes notes_now notes_last
-sink-rose e out out_now out_last notes notes_now notes_last course is =
-    elim (subst (λ (x : Ending). SinksCourse (is_sink_fault x) out out_now out_last notes notes_now notes_last) is
-    course)
-    as (λ _. SinkCourse true out out_now out_last ⊎ SinkCourse true notes notes_now notes_last)
-    [ inl p ↦ inl p.0 | inr p ↦ inr p.0 ]
+pub sink-rose : (e : Ending) (out notes : SinkCall) → SinksCourse (is_sink_fault e) out notes → e ≡ SinkFault
+    → SinkCourse true out ⊎ SinkCourse true notes
+sink-rose e out notes course is =
+    elim (subst (λ (x : Ending). SinksCourse (is_sink_fault x) out notes) is course)
+    as (λ _. SinkCourse true out ⊎ SinkCourse true notes) [ inl p ↦ inl p.0 | inr p ↦ inr p.0 ]
 
 -- where no fault rose, an input of whole frames within the limit gives status 0 or 1
 whole-input : (e : Ending) (meaning : Meaning) (limit : ℕ) (octets input rest : List ℕ) (taken : Taken)
@@ -207,7 +192,7 @@ pub without-input : {E : Type 0} (result : Result Ending E) (asked command : Com
     → asked ≡ command → reads command ≡ false
     → IfOk result (λ ending. (noted : Option (List ℕ)) → Ends ending (meaning_of command c) c.limit []
     (taken_by out.before.taken out.now.taken noted noted))
-    → IfOk result (λ ending. SinkWent (is_sink_fault ending) out)
+    → IfOk result (λ ending. SinkCourse (is_sink_fault ending) out)
     → AnsweredTo result asked c (record { before = source; now = source; is_last = source_last }) out
     (record { before = notes; now = notes; is_last = notes_last })
 without-input (Ok ending) asked command c source source_last out notes notes_last is unread h went =

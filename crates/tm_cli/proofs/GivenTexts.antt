@@ -1,20 +1,21 @@
 -- What is given and counted of the phase and of items that were handed over one after another.
-use Rattle.std.proofs.Common.{◌≡◌, ◌⊎◌, inl, inr, ℕ, ◌+◌, ◌<◌, ◌^◌, Bool, true, false, cond, List, [], ◌∷◌, ◌++◌, length, refl, sym, ◌∙◌, ap, subst, arith, append_assoc, length-append}
+use Rattle.std.proofs.Common.{◌≡◌, inl, inr, ℕ, ◌+◌, ◌*◌, ◌<◌, ◌≤◌, ◌^◌, Bool, true, false, cond, List, [], ◌∷◌, ◌++◌, length, refl, sym, ◌∙◌, ap, subst, arith, append_assoc, length-append}
 use Rattle.std.proofs.lemmas.List.{append-nil}
 use Rattle.tm_base.specs.Count.{raised_by}
+use Rattle.tm_base.specs.Limits.{most_limit}
 use Rattle.tm_base.specs.Takers.{HandedOver}
 use Rattle.tm_base.specs.Handed.{Handed, Phase, Item, on_handed, items_of}
+use Rattle.tm_base.proofs.HandedItems.{items_of-append}
 use Rattle.tm_channel.specs.declared.totals.Totals.{Totals}
 use Rattle.tm_channel.specs.Items.{ItemValue, are_fixed}
 use Rattle.tm_driver.specs.Lines.{phase_text}
 use Rattle.tm_driver.specs.Meaning.{Taken}
 use Rattle.tm_driver.specs.Writing.{Text, Out, Note, StopsIn, TookPart, notes_of, out_of}
-use Rattle.tm_driver.proofs.HandedAlong.{handed-along, handed-keeps}
 use Rattle.tm_driver.proofs.Writing.{notes_of-append, out_of-append}
 use Rattle.tm_cli.specs.Decode.{AreInOrder, next_frame, next_line}
 use Rattle.tm_cli.specs.Lines.{item_text}
-use Rattle.tm_cli.specs.Report.{fixed_of, good, bad, fixed, handed_item_text, items_text, items_end_text, report_text}
-use Rattle.tm_cli.specs.Taken.{AreCounted, Counted, CountedHanded, Reported, all_texts, handed_frames, number_of, reported_phase, texts_from}
+use Rattle.tm_cli.specs.Report.{fixed_of, good, bad, fixed, items_text, items_end_text, report_text}
+use Rattle.tm_cli.specs.Taken.{AreCounted, Counted, CountedHanded, Reported, all_texts, counts_after, handed_frames, no_counts, number_of, reported_phase, texts_by, texts_from}
 use Rattle.tm_cli.specs.declared.counts.Counts.{Counts}
 
 -- ---- texts
@@ -116,72 +117,54 @@ counted-push items item was counts small are one =
       few = omega (arith, fixed_now, fixed_few, few, length-append items (item ∷ []));
     }
 
--- items that are counted after others
-abbrev pub Counting : (was counts : Counts) → List ItemValue → Type 0
-Counting was counts items = (done : List ItemValue) → length done + length items < 2 ^ 53 → AreCounted done was
-    → AreCounted (done ++ items) counts
+-- texts by counts are those by numbers, where the items are few, and so are the counts of these
+counted-texts : (handed : List (Handed ItemValue)) (was counts : Counts) (done : List ItemValue)
+    → length done + length (items_of handed) < 2 ^ 53 → AreCounted done was → HandedOver CountedHanded was handed counts
+    → (texts_by was handed ≡ texts_from (length done) handed) × AreCounted (done ++ items_of handed) counts
+counted-texts [] was counts done small are over =
+    (refl, subst (λ (l : List ItemValue). AreCounted l counts) (sym (append-nil done)) (subst (AreCounted done) over are))
+counted-texts (Phase skip cost ∷ handed) was counts done small are over =
+    let more = counted-texts handed was counts done small are
+    (subst (λ (k : Counts). HandedOver CountedHanded k handed counts) over.1 over.2) in
+    (ap (λ l. Note (phase_text skip cost) ∷ l) more.0, more.1)
+counted-texts (Item item ∷ handed) was counts done small are over =
+    let size : length (done ++ item ∷ []) ≡ length done + 1 = length-append done (item ∷ []) in
+    let more = counted-texts handed over.0 counts (done ++ item ∷ []) (omega (arith, size, small))
+    (counted-push done item was over.0 (omega (arith, small)) are over.1) over.2 in
+    let later : texts_by (counts_after was item.answers) handed ≡ texts_from (length done + 1) handed =
+    ap (λ (k : Counts). texts_by k handed) (sym over.1.counted) ∙ more.0 ∙ ap (λ n. texts_from n handed) size in (
+      (λ i. Out item.frame ∷ Note (item_text (numbered done was (omega (arith, small)) are i) item) ∷ later i),
+      subst (λ (l : List ItemValue). AreCounted l counts) (append_assoc done (item ∷ []) (items_of handed)) more.1,
+    )
+
+-- of all items
+pub counted-all : (handed : List (Handed ItemValue)) (counts : Counts) (octets : List ℕ)
+    → length (items_of handed) ≤ 8 * length octets → length octets ≤ most_limit
+    → HandedOver CountedHanded no_counts handed counts
+    → (texts_by no_counts handed ≡ texts_from 0 handed) × AreCounted (items_of handed) counts
+counted-all handed counts octets few within over =
+    counted-texts handed no_counts counts [] (omega (arith, few, within))
+    (record { good = refl; bad = refl; fixed = refl; few = omega arith }) over
+
+-- texts of what was handed over, and of more
+pub texts_by-append : (xs ys : List (Handed ItemValue)) (was counts : Counts) → HandedOver CountedHanded was xs counts
+    → texts_by was (xs ++ ys) ≡ texts_by was xs ++ texts_by counts ys
+texts_by-append [] ys was counts over = ap (λ (k : Counts). texts_by k ys) over
+texts_by-append (Phase skip cost ∷ xs) ys was counts over =
+    ap (λ l. Note (phase_text skip cost) ∷ l) (texts_by-append xs ys was counts
+    (subst (λ (k : Counts). HandedOver CountedHanded k xs counts) over.1 over.2))
+texts_by-append (Item item ∷ xs) ys was counts over =
+    ap (λ l. Out item.frame ∷ Note (item_text (number_of was) item) ∷ l)
+    (texts_by-append xs ys (counts_after was item.answers) counts
+    (subst (λ (k : Counts). HandedOver CountedHanded k xs counts) over.1.counted over.2))
 
 -- ---- what was given of what was handed over
 
--- texts were given, which are those of what was handed over after few items, and the items were counted
+-- its texts were given, and its items counted
 pub record Given {T : Type 0} (took : T → Text → T → Type 0) (was counts : Counts) (before now : T)
     (handed : List (Handed ItemValue)) : Type 0 where
-  pub texts : List Text
-  pub over : HandedOver took before texts now
-  pub are : (done : List ItemValue) → length done + length (items_of handed) < 2 ^ 53 → AreCounted done was
-      → (texts ≡ texts_from (length done) handed) × AreCounted (done ++ items_of handed) counts
-
-abbrev Reports : {T : Type 0} → (T → Text → T → Type 0) → (was counts : Counts) → (before now : T) → Handed ItemValue
-    → Type 0
-Reports took was counts before now (Phase skip cost) = reported_phase took was counts before now skip cost
-Reports took was counts before now (Item item) = Reported took was counts before now item
-
-given-over : {S T : Type 0} (took : T → Text → T → Type 0) (counts : S → Counts) (taker : S → T)
-    (handed : List (Handed ItemValue)) (a b : S)
-    → HandedOver (λ x h y. Reports took (counts x) (counts y) (taker x) (taker y) h) a handed b
-    → Given took (counts a) (counts b) (taker a) (taker b) handed
-given-over took counts taker [] a b over = record {
-  texts = [];
-  over = ap taker over;
-  are = λ done small counted. (
-    refl,
-    subst (λ (l : List ItemValue). AreCounted l (counts b)) (sym (append-nil done))
-        (subst (AreCounted done) (ap counts over) counted),
-  );
-}
-given-over took counts taker (Phase skip cost ∷ handed) a b over =
-    let more = given-over took counts taker handed over.0 b over.2 in
-    record {
-      texts = Note (phase_text skip cost) ∷ more.texts;
-      over = (taker over.0, over.1.0, more.over);
-      are = λ done small counted.
-          let are = more.are done small (subst (AreCounted done) (sym over.1.1) counted) in
-          (ap (λ l. Note (phase_text skip cost) ∷ l) are.0, are.1);
-    }
-given-over took counts taker (Item item ∷ handed) a b over =
-    let more = given-over took counts taker handed over.0 b over.2 in
-    let one = over.1.given in
-    record {
-      texts = Out item.frame ∷ Note (item_text (number_of (counts a)) item) ∷ more.texts;
-      over = (
-        one.0,
-        one.1,
-        (
-          taker over.0,
-          subst (took one.0 (Note (item_text (number_of (counts a)) item))) one.2.2 one.2.1,
-          more.over,
-        ),
-      );
-      are = λ done small counted.
-          let size : length (done ++ item ∷ []) ≡ length done + 1 = length-append done (item ∷ []) in
-          let are = more.are (done ++ item ∷ []) (omega (arith, size, small))
-          (counted-push done item (counts a) (counts over.0) (omega (arith, small)) counted over.1.counted) in (
-            (λ i. Out item.frame ∷ Note (item_text (numbered done (counts a) (omega (arith, small)) counted i) item)
-                ∷ (are.0 ∙ ap (λ n. texts_from n handed) size) i),
-            subst (λ (l : List ItemValue). AreCounted l (counts b)) (append_assoc done (item ∷ []) (items_of handed))
-                are.1,
-          );
-    }
+  pub over : HandedOver took before (texts_by was handed) now
+  pub counted : HandedOver CountedHanded was handed counts
 
 -- by what gives texts, and keeps its loan
 abbrev pub Reporting : {S T K : Type 0} → (S → K) → (S → Counts) → (S → T) → (T → Text → T → Type 0) → S
@@ -190,174 +173,126 @@ Reporting name counts taker took = on_handed
     (λ x skip cost y. (name y ≡ name x) × reported_phase took (counts x) (counts y) (taker x) (taker y) skip cost)
     (λ x item y. (name y ≡ name x) × Reported took (counts x) (counts y) (taker x) (taker y) item)
 
-reports : {S T K : Type 0} (name : S → K) (counts : S → Counts) (taker : S → T) (took : T → Text → T → Type 0) (x : S)
-    (h : Handed ItemValue) (y : S) → Reporting name counts taker took x h y
-    → (name y ≡ name x) × Reports took (counts x) (counts y) (taker x) (taker y) h
-reports name counts taker took x (Phase skip cost) y p = p
-reports name counts taker took x (Item item) y p = p
-
 pub reported : {S T K : Type 0} (name : S → K) (counts : S → Counts) (taker : S → T) (took : T → Text → T → Type 0)
     (handed : List (Handed ItemValue)) (a b : S) → HandedOver (Reporting name counts taker took) a handed b
     → (name b ≡ name a) × Given took (counts a) (counts b) (taker a) (taker b) handed
-reported name counts taker took handed a b over =
-    let P = Reporting name counts taker took in
-    let step = reports name counts taker took in (
-      handed-keeps P name (λ x h y p. (step x h y p).0) handed a b over,
-      given-over took counts taker handed a b
-          (handed-along P (λ x h y. Reports took (counts x) (counts y) (taker x) (taker y) h)
-          (λ x h y p. (step x h y p).1) handed a b over),
+reported name counts taker took [] a b over =
+    (ap name (sym over), record { over = ap taker over; counted = ap counts over })
+reported name counts taker took (Phase skip cost ∷ handed) a b over =
+    let more = reported name counts taker took handed over.0 b over.2 in (
+      more.0 ∙ over.1.0,
+      record {
+        over = (
+          taker over.0,
+          over.1.1.0,
+          subst (λ (k : Counts). HandedOver took (taker over.0) (texts_by k handed) (taker b)) over.1.1.1 more.1.over,
+        );
+        counted = (counts over.0, over.1.1.1, more.1.counted);
+      },
     )
-
--- counted alone
-counts-only : (a : Counts) (h : Handed ItemValue) (b : Counts) → CountedHanded a h b
-    → Reports (λ (x : Unit {0}) text (y : Unit {0}). Unit {0}) a b tt tt h
-counts-only a (Phase skip cost) b same = (tt, same)
-counts-only a (Item item) b one = record { given = (tt, tt, (tt, tt, refl)); counted = one }
-
-pub counted-over : (handed : List (Handed ItemValue)) (a b : Counts) → HandedOver CountedHanded a handed b
-    → Counting a b (items_of handed)
-counted-over handed a b over done small counted =
-    let took : Unit {0} → Text → Unit {0} → Type 0 = λ x text y. Unit {0} in
-    ((given-over took (λ (k : Counts). k) (λ _. tt) handed a b
-    (handed-along CountedHanded (λ x h y. Reports took x y tt tt h) counts-only handed a b over)).are done small
-    counted).1
+reported name counts taker took (Item item ∷ handed) a b over =
+    let more = reported name counts taker took handed over.0 b over.2 in
+    let one = over.1.1.given in (
+      more.0 ∙ over.1.0,
+      record {
+        over = (
+          one.0,
+          one.1,
+          (
+            taker over.0,
+            subst (took one.0 (Note (item_text (number_of (counts a)) item))) one.2.2 one.2.1,
+            subst (λ (k : Counts). HandedOver took (taker over.0) (texts_by k handed) (taker b)) over.1.1.counted.counted
+                more.1.over,
+          ),
+        );
+        counted = (counts over.0, over.1.1.counted, more.1.counted);
+      },
+    )
 
 -- ---- where a sink fails in the texts of what was handed over and of the end
 
--- the line of what is handed over next, or after the last the end
-abbrev line_at : ℕ → List ℕ → List (Handed ItemValue) → List ℕ
-line_at index end [] = end
-line_at index end (next ∷ rest) = handed_item_text index next
+module _ (all : List (Handed ItemValue)) (totals : Totals) (taken : Taken) where
+  abbrev Fails : List Text → Text → Type 0
+  Fails first next = TookPart first next taken
 
--- the texts before the one in which it fails are those of the first, and the frame of the next
-record FailsAt (number : ℕ) (handed : List (Handed ItemValue)) (end : List ℕ) (first : List Text) (next : Text)
-    : Type 0 where
-  prefix : List (Handed ItemValue)
-  rest : List (Handed ItemValue)
-  split : handed ≡ prefix ++ rest
-  notes : notes_of first ≡ items_text number prefix
-  index : ℕ
-  is_index : index ≡ number + length (items_of prefix)
-  place : (out_of first ≡ handed_frames prefix) × (next ≡ Out (next_frame rest))
-      ⊎ (out_of first ≡ handed_frames prefix ++ next_frame rest) × (next ≡ Note (line_at index end rest))
+  -- it fails in the next frame
+  fails-frame : (prefix rest : List (Handed ItemValue)) (first : List Text) (next : Text) → all ≡ prefix ++ rest
+      → out_of first ≡ handed_frames prefix → notes_of first ≡ items_text 0 prefix → next ≡ Out (next_frame rest)
+      → Fails first next → AreInOrder all totals taken
+  fails-frame prefix rest first next split outs lines is part =
+      let p = subst (Fails first) is part in
+      record { prefix = prefix; rest = rest; split = split; stops = inl ((p.0.0, cc), cc) }
 
--- octets before those that are known
-after : (first out a b : List ℕ) → out ≡ a ++ b → first ++ out ≡ (first ++ a) ++ b
-after first out a b is = ap (λ l. first ++ l) is ∙ sym (append_assoc first a b)
+  -- or, once the output has taken that, in its line
+  fails-line : (prefix rest : List (Handed ItemValue)) (first : List Text) (next : Text) → all ≡ prefix ++ rest
+      → out_of first ≡ handed_frames prefix ++ next_frame rest → notes_of first ≡ items_text 0 prefix
+      → next ≡ Note (next_line prefix rest totals) → Fails first next → AreInOrder all totals taken
+  fails-line prefix rest first next split outs lines is part =
+      let p = subst (Fails first) is part in
+      record { prefix = prefix; rest = rest; split = split; stops = inr (cc, (p.1.0, cc)) }
 
-module _ (number : ℕ) (handed : List (Handed ItemValue)) (end : List ℕ) (first : List Text) (next : Text) where
-  -- the phase stands before them
-  fails-phase : (skip cost : ℕ) (x : Text) → x ≡ Note (phase_text skip cost) → FailsAt number handed end first next
-      → FailsAt number (Phase skip cost ∷ handed) end (x ∷ first) next
-  fails-phase skip cost x is f =
-      let outs : out_of (x ∷ first) ≡ out_of first = ap (λ (text : Text). out_of (text ∷ first)) is in
-      record {
-        prefix = Phase skip cost ∷ f.prefix;
-        rest = f.rest;
-        split = ap (λ (l : List (Handed ItemValue)). Phase skip cost ∷ l) f.split;
-        notes = ap (λ (text : Text). notes_of (text ∷ first)) is ∙ ap (λ l. phase_text skip cost ++ l) f.notes;
-        index = f.index;
-        is_index = f.is_index;
-        place = elim f.place [ inl p ↦ inl (outs ∙ p.0, p.1) | inr p ↦ inr (outs ∙ p.0, p.1) ];
-      }
+  -- the first of the texts are one more that was written
+  one-more : (done : List (Handed ItemValue)) (h : Handed ItemValue) (texts first : List Text) (next : Text)
+      → texts ≡ texts_from (length (items_of done)) (h ∷ []) → Fails (texts_from 0 done ++ (texts ++ first)) next
+      → Fails (texts_from 0 (done ++ h ∷ []) ++ first) next
+  one-more done h texts first next is part =
+      subst (λ (l : List Text). Fails l next) (ap (λ l. texts_from 0 done ++ (l ++ first)) is
+      ∙ sym (append_assoc (texts_from 0 done) (texts_from (length (items_of done)) (h ∷ [])) first)
+      ∙ ap (λ l. l ++ first) (sym (texts-append done (h ∷ [])))) part
 
-  -- an item stands before them
-  fails-item : (item : ItemValue) (x y : Text) → x ≡ Out item.frame → y ≡ Note (item_text number item)
-      → FailsAt (number + 1) handed end first next → FailsAt number (Item item ∷ handed) end (x ∷ y ∷ first) next
-  fails-item item x y is_frame is_line f =
-      let outs : out_of (x ∷ y ∷ first) ≡ item.frame ++ out_of first = (λ i. out_of (is_frame i ∷ is_line i ∷ first)) in
-      record {
-        prefix = Item item ∷ f.prefix;
-        rest = f.rest;
-        split = ap (λ (l : List (Handed ItemValue)). Item item ∷ l) f.split;
-        notes = (λ i. notes_of (is_frame i ∷ is_line i ∷ first)) ∙ ap (λ l. item_text number item ++ l) f.notes;
-        index = f.index;
-        is_index = omega (arith, f.is_index);
-        place =
-            elim f.place [
-              | inl p ↦ inl (outs ∙ ap (λ l. item.frame ++ l) p.0, p.1)
-              | inr p ↦ inr (
-                outs ∙ after item.frame (out_of first) (handed_frames f.prefix) (next_frame f.rest) p.0,
-                p.1,
-              )
-            ];
-      }
-
-fails-at : (number : ℕ) (handed : List (Handed ItemValue)) (end : List ℕ) (first rest : List Text) (next : Text)
-    → texts_from number handed ++ Note end ∷ [] ≡ first ++ next ∷ rest → FailsAt number handed end first next
-fails-at number [] end [] rest next same = record {
-  prefix = [];
-  rest = [];
-  split = refl;
-  notes = refl;
-  index = number;
-  is_index = omega arith;
-  place = inr (refl, cc);
-}
-fails-at number [] end (x ∷ []) rest next same = absurd cc
-fails-at number [] end (x ∷ y ∷ first) rest next same = absurd cc
-fails-at number (Phase skip cost ∷ handed) end [] rest next same = record {
-  prefix = [];
-  rest = Phase skip cost ∷ handed;
-  split = refl;
-  notes = refl;
-  index = number;
-  is_index = omega arith;
-  place = inr (refl, cc);
-}
-fails-at number (Phase skip cost ∷ handed) end (x ∷ first) rest next same =
-    fails-phase number handed end first next skip cost x (cc) (fails-at number handed end first rest next (cc))
-fails-at number (Item item ∷ handed) end [] rest next same =
-    let is : next ≡ Out item.frame = cc in
-    record {
-      prefix = [];
-      rest = Item item ∷ handed;
-      split = refl;
-      notes = refl;
-      index = number;
-      is_index = omega arith;
-      place = inl (refl, is ∙ ap Out (sym (append-nil item.frame)));
-    }
-fails-at number (Item item ∷ handed) end (x ∷ []) rest next same =
-    let is : x ≡ Out item.frame = cc in
-    record {
-      prefix = [];
-      rest = Item item ∷ handed;
-      split = refl;
-      notes = ap (λ (text : Text). notes_of (text ∷ [])) is;
-      index = number;
-      is_index = omega arith;
-      place = inr (ap (λ (text : Text). out_of (text ∷ [])) is, cc);
-    }
-fails-at number (Item item ∷ handed) end (x ∷ y ∷ first) rest next same =
-    fails-item number handed end first next item x y (cc) (cc)
-    (fails-at (number + 1) handed end first rest next (cc))
-
-line-is : (prefix rest handed : List (Handed ItemValue)) (totals : Totals) → handed ≡ prefix ++ rest
-    → line_at (length (items_of prefix)) (items_end_text (items_of handed) totals) rest ≡ next_line prefix rest totals
-line-is prefix [] handed totals split =
-    ap (λ l. items_end_text (items_of l) totals) (split ∙ append-nil prefix)
-line-is prefix (next ∷ rest) handed totals split = refl
+  -- after those that were written
+  in-order-after : (done handed : List (Handed ItemValue)) (first rest : List Text) (next : Text)
+      → all ≡ done ++ handed → texts_from (length (items_of done)) handed
+      ++ Note (items_end_text (items_of all) totals) ∷ [] ≡ first ++ next ∷ rest
+      → Fails (texts_from 0 done ++ first) next → AreInOrder all totals taken
+  in-order-after done [] [] rest next split same part =
+      let of = texts-are 0 done in
+      let is : next ≡ Note (items_end_text (items_of all) totals) = cc in
+      fails-line done [] (texts_from 0 done) next split (of.0 ∙ sym (append-nil (handed_frames done))) of.1
+      (is ∙ ap (λ l. Note (items_end_text (items_of l) totals)) (split ∙ append-nil done))
+      (subst (λ (l : List Text). Fails l next) (append-nil (texts_from 0 done)) part)
+  in-order-after done [] (x ∷ []) rest next split same part = absurd cc
+  in-order-after done [] (x ∷ y ∷ first) rest next split same part = absurd cc
+  in-order-after done (Phase skip cost ∷ handed) [] rest next split same part =
+      let of = texts-are 0 done in
+      fails-line done (Phase skip cost ∷ handed) (texts_from 0 done) next split
+      (of.0 ∙ sym (append-nil (handed_frames done))) of.1 (cc)
+      (subst (λ (l : List Text). Fails l next) (append-nil (texts_from 0 done)) part)
+  in-order-after done (Phase skip cost ∷ handed) (x ∷ first) rest next split same part =
+      let h : Handed ItemValue = Phase skip cost in
+      let is : x ∷ [] ≡ texts_from (length (items_of done)) (h ∷ []) = cc in
+      let end = Note (items_end_text (items_of all) totals) ∷ [] in
+      let more : texts_from (length (items_of done)) handed ++ end ≡ first ++ next ∷ rest = cc in
+      in-order-after (done ++ h ∷ []) handed first rest next (split ∙ sym (append_assoc done (h ∷ []) handed))
+      (ap (λ l. texts_from (length l) handed ++ end) (items_of-append done (h ∷ []) ∙ append-nil (items_of done))
+      ∙ more)
+      (one-more done h (x ∷ []) first next is part)
+  in-order-after done (Item item ∷ handed) [] rest next split same part =
+      let of = texts-are 0 done in
+      let is : next ≡ Out item.frame = cc in
+      fails-frame done (Item item ∷ handed) (texts_from 0 done) next split of.0 of.1
+      (is ∙ ap Out (sym (append-nil item.frame)))
+      (subst (λ (l : List Text). Fails l next) (append-nil (texts_from 0 done)) part)
+  in-order-after done (Item item ∷ handed) (x ∷ []) rest next split same part =
+      let of = texts-are 0 done in
+      let is : x ≡ Out item.frame = cc in
+      fails-line done (Item item ∷ handed) (texts_from 0 done ++ x ∷ []) next split
+      (out_of-append (texts_from 0 done) (x ∷ []) ∙ (λ i. of.0 i ++ out_of (is i ∷ [])))
+      (notes_of-append (texts_from 0 done) (x ∷ []) ∙ (λ i. of.1 i ++ notes_of (is i ∷ []))
+      ∙ append-nil (items_text 0 done)) (cc) part
+  in-order-after done (Item item ∷ handed) (x ∷ y ∷ first) rest next split same part =
+      let h : Handed ItemValue = Item item in
+      let is : x ∷ y ∷ [] ≡ texts_from (length (items_of done)) (h ∷ []) = cc in
+      let end = Note (items_end_text (items_of all) totals) ∷ [] in
+      let more : texts_from (length (items_of done) + 1) handed ++ end ≡ first ++ next ∷ rest = cc in
+      let count : length (items_of (done ++ h ∷ [])) ≡ length (items_of done) + 1 =
+      ap length (items_of-append done (h ∷ [])) ∙ length-append (items_of done) (item ∷ []) in
+      in-order-after (done ++ h ∷ []) handed first rest next (split ∙ sym (append_assoc done (h ∷ []) handed))
+      (ap (λ n. texts_from n handed ++ end) count ∙ more) (one-more done h (x ∷ y ∷ []) first next is part)
 
 -- a sink fails in order
 pub in-order : (handed : List (Handed ItemValue)) (totals : Totals) (texts : List Text) (taken : Taken)
     → texts ≡ all_texts handed totals → StopsIn texts taken → AreInOrder handed totals taken
 in-order handed totals texts taken are stops =
-    let end = items_end_text (items_of handed) totals in
-    let f = fails-at 0 handed end stops.first stops.rest stops.next (sym are ∙ stops.split) in
-    let line : line_at f.index end f.rest ≡ next_line f.prefix f.rest totals =
-    ap (λ n. line_at n end f.rest) (omega (arith, f.is_index)) ∙ line-is f.prefix f.rest handed totals f.split in
-    record {
-      prefix = f.prefix;
-      rest = f.rest;
-      split = f.split;
-      stops =
-          elim f.place [
-            | inl p ↦
-                let part = subst (λ (text : Text). TookPart stops.first text taken) p.1 stops.part in
-                inl ((part.0.0, cc), cc)
-            | inr p ↦
-                let part = subst (λ (text : Text). TookPart stops.first text taken) (p.1 ∙ ap Note line) stops.part in
-                inr (cc, (part.1.0, cc))
-          ];
-    }
+    in-order-after handed totals taken [] handed stops.first stops.rest stops.next refl (sym are ∙ stops.split)
+    stops.part

@@ -3,7 +3,6 @@ pub mod Received
 pub mod GivenTexts
 pub mod Reports
 pub mod Generating
-pub mod FewSymbols
 pub mod SoakLine
 pub mod Soaking
 pub mod Words

@@ -37,7 +37,7 @@ use Rattle.tm_channel.proofs.SoundItems.{FoundItems}
 use Rattle.tm_channel.proofs.Symbols.{have-said, items-said, said}
 use Rattle.tm_driver.specs.Lines.{phase_text, slips_text}
 use Rattle.tm_cli.specs.Lines.{item_text, report_end_text}
-use Rattle.tm_driver.specs.Meaning.{Ends, WroteOutput, taken_by}
+use Rattle.tm_driver.specs.Meaning.{Ends, Taken, WroteOutput}
 use Rattle.tm_driver.specs.Statuses.{status_of}
 use Rattle.tm_driver.specs.declared.ending.Ending.{Ending}
 use Rattle.tm_driver.specs.declared.ending.Ending.TheVariants.{Done, Bad, BadWindow, LeftOver, SourceFault, SinkFault, PastLimit}
@@ -171,6 +171,48 @@ bad-complemented : (items : List ItemValue) → bad (map complemented_item items
 bad-complemented [] = refl
 bad-complemented (item ∷ items) = ap (λ n. (if are_fixed item.answers then 0 else 1) + n) (bad-complemented items)
 
+-- ---- no line shows a symbol, and no frame does
+
+frames-said : (at : ℕ → ℕ) (items : List ItemValue) → frames_of (map (said at) items) ≡ frames_of items
+frames-said at [] = refl
+frames-said at (item ∷ items) = ap (λ l. item.frame ++ l) (frames-said at items)
+
+-- the lines and the counts are those of the items without their symbols
+lines-said : (at : ℕ → ℕ) (number : ℕ) (items : List ItemValue)
+    → (items_text number (map Item (map complemented_item (map (said at) items)))
+    ≡ items_text number (map Item (map complemented_item items)))
+    × (good (map complemented_item (map (said at) items)) ≡ good (map complemented_item items))
+    × (bad (map complemented_item (map (said at) items)) ≡ bad (map complemented_item items))
+    × (fixed (map complemented_item (map (said at) items)) ≡ fixed (map complemented_item items))
+lines-said at number [] = (refl, refl, refl, refl)
+lines-said at number (item ∷ items) =
+    let more = lines-said at (number + 1) items in (
+      ap (λ l. item_text number (complemented_item item) ++ l) more.0,
+      ap (λ n. (if are_fixed item.answers then 1 else 0) + n) more.1,
+      ap (λ n. (if are_fixed item.answers then 0 else 1) + n) more.2,
+      ap (λ n. fixed_of item.answers + n) more.3,
+    )
+
+phased-said : (at : ℕ → ℕ) (chosen : Option Chosen) (items : List ItemValue)
+    → items_text 0 (with_phase chosen (map complemented_item (map (said at) items)))
+    ≡ items_text 0 (with_phase chosen (map complemented_item items))
+phased-said at None items = (lines-said at 0 items).0
+phased-said at (Some chosen) items = ap (λ l. phase_text chosen.skip chosen.cost ++ l) (lines-said at 0 items).0
+
+report-said : (at : ℕ → ℕ) (chosen : Option Chosen) (items : List ItemValue) (totals : Totals)
+    → report_text (with_phase chosen (map complemented_item (map (said at) items))) totals
+    ≡ report_text (with_phase chosen (map complemented_item items)) totals
+report-said at chosen items totals =
+    let xs = map complemented_item (map (said at) items) in
+    let ys = map complemented_item items in
+    let same = lines-said at 0 items in
+    ap (λ (l : List ItemValue). items_text 0 (with_phase chosen xs) ++ items_end_text l totals)
+    (items_of-with_phase chosen xs)
+    ∙ (λ i. phased-said at chosen items i ++ (slips_text totals.slips
+    ++ report_end_text (same.1 i) (same.2 i) (same.3 i) totals.bits))
+    ∙ sym (ap (λ (l : List ItemValue). items_text 0 (with_phase chosen ys) ++ items_end_text l totals)
+    (items_of-with_phase chosen ys))
+
 -- ---- octets of the same length
 
 -- with no inner code they come to the same
@@ -212,284 +254,190 @@ choice-plain c octets others (Some chosen) none is =
 -- received. Where none of these has a
 -- column uncorrectable, the status is 0.
 record Came (status : ℕ) (c : Configuration) (octets : List ℕ) (chosen : Option Chosen)
-    (taken taken_now noted noted_now : Option (List ℕ)) : Type 0 where
+    (taken : Taken) : Type 0 where
   bits : List Bool
   items : List ItemValue
   inner : Inner c (skip_of chosen) octets bits
   receive : Receive c (skip_of chosen) octets items
-  out : Wrote taken taken_now (frames_of items)
+  out : Wrote taken.out taken.out_now (frames_of items)
   handed : List (Handed ItemValue)
   totals : Totals
   received : AreReceived c octets handed totals
   counted : totals ≡ totals_of c bits inner.blocks
-  notes : Wrote noted noted_now (report_text (with_phase chosen items) totals)
+  notes : Wrote taken.notes taken.notes_now (report_text (with_phase chosen items) totals)
   good : bad items ≡ 0 → status ≡ 0
 
--- the status is 0 where nothing is uncorrectable
-good-status : (e : Ending) (status : ℕ) (c : Configuration) (octets : List ℕ)
-    (taken taken_now noted noted_now : Option (List ℕ))
-    → status ≡ status_of e → Ends e (decode_meaning c) c.limit octets (taken_by taken taken_now noted noted_now)
-    → (status ≡ 0) ⊎ (status ≡ 1) → (HasBad c octets → ⊥) → status ≡ 0
-good-status Done status c octets taken taken_now noted noted_now said ends read good = said
-good-status Bad status c octets taken taken_now noted noted_now said ends read good = absurd (good ends.2)
-good-status LeftOver status c octets taken taken_now noted noted_now said ends read good = absurd ends.2
-good-status BadWindow status c octets taken taken_now noted noted_now said ends read good = absurd ends.0
-good-status SourceFault status c octets taken taken_now noted noted_now said ends read good =
-    absurd (omega (arith, said, read))
-good-status SinkFault status c octets taken taken_now noted noted_now said ends read good =
-    absurd (omega (arith, said, read))
-good-status PastLimit status c octets taken taken_now noted noted_now said ends read good =
-    absurd (omega (arith, said, read))
-
--- and the whole output is written
-whole-output : (e : Ending) (status : ℕ) (c : Configuration) (octets : List ℕ)
-    (taken taken_now noted noted_now : Option (List ℕ))
-    → status ≡ status_of e → Ends e (decode_meaning c) c.limit octets (taken_by taken taken_now noted noted_now)
-    → (status ≡ 0) ⊎ (status ≡ 1) → WroteOutput (decode_meaning c) octets (taken_by taken taken_now noted noted_now)
-whole-output Done status c octets taken taken_now noted noted_now said ends read = ends.0
-whole-output Bad status c octets taken taken_now noted noted_now said ends read = ends.0
-whole-output LeftOver status c octets taken taken_now noted noted_now said ends read = ends.0
-whole-output BadWindow status c octets taken taken_now noted noted_now said ends read = absurd ends.0
-whole-output SourceFault status c octets taken taken_now noted noted_now said ends read =
-    absurd (omega (arith, said, read))
-whole-output SinkFault status c octets taken taken_now noted noted_now said ends read =
-    absurd (omega (arith, said, read))
-whole-output PastLimit status c octets taken taken_now noted noted_now said ends read =
-    absurd (omega (arith, said, read))
-
-came : OnePhase → OneHanded → (e : Ending) (status : ℕ) (c : Configuration) (octets : List ℕ) (chosen : Option Chosen)
-    (taken taken_now noted noted_now : Option (List ℕ))
-    → IsAccepted c → status ≡ status_of e → Ends e (decode_meaning c) c.limit octets
-    (taken_by taken taken_now noted noted_now) → (status ≡ 0) ⊎ (status ≡ 1) → IsChosen c octets chosen
-    → Came status c octets chosen taken taken_now noted noted_now
-came one_phase one e status c octets chosen taken taken_now noted noted_now ok said ends read choice =
-    let wrote = whole-output e status c octets taken taken_now noted noted_now said ends read in
-    let d = wrote.1 in
-    let r = d.are_received in
-    let all = r.are_items in
-    let same : r.chosen ≡ chosen = one-choice one_phase c octets r.chosen chosen r.choice choice in
-    let handed : d.handed ≡ with_phase chosen r.items = r.are ∙ ap (λ (o : Option Chosen). with_phase o r.items) same in
-    let items : items_of d.handed ≡ r.items = ap (items_of {I = ItemValue}) handed
-    ∙ items_of-with_phase chosen r.items in
-    let was = all.1 in
-    let inner : Inner c (skip_of chosen) octets all.0 = record {
-      blocks = was.blocks;
-      left = was.left;
-      are_blocks =
-          subst (λ (o : Option Chosen). AreInnerBlocks c (skip_of o) octets was.blocks was.left) same was.are_blocks;
-      are_bits = was.are_bits;
-    } in
-    record {
-      bits = all.0;
-      items = r.items;
-      inner = inner;
-      receive = record {
-        bits = all.0;
-        inner = inner;
-        are_items = all.3;
-        symbols =
-            subst (λ (o : Option Chosen). HaveSymbols (symbol_at c (skip_of o) was.blocks) r.items) same
-            all.4;
-      };
-      out = subst (Wrote taken taken_now) (d.are_frames ∙ ap frames_of items) wrote.2.out;
-      handed = d.handed;
-      totals = d.totals;
-      received = r;
-      counted = all.2;
-      notes =
-          subst (Wrote noted noted_now)
-          (d.is_report ∙ ap (λ (l : List (Handed ItemValue)). report_text l d.totals) handed) wrote.2.notes;
-      good = λ none. good-status e status c octets taken taken_now noted noted_now said ends read
-          (λ h. h.2 (ap (λ (l : List (Handed ItemValue)). bad (items_of l))
-          (one c octets h.0 d.handed h.1.0 d.totals ok h.1.1 r) ∙ ap bad items ∙ none));
-    }
-
--- what came of octets of which the phase is known
-came-free : OnePhase → OneHanded → (e : Ending) (status : ℕ) (c : Configuration) (octets : List ℕ)
-    (taken taken_now noted noted_now : Option (List ℕ))
-    → IsAccepted c → status ≡ status_of e → Ends e (decode_meaning c) c.limit octets
-    (taken_by taken taken_now noted noted_now) → (status ≡ 0) ⊎ (status ≡ 1)
-    → ((chosen : Option Chosen) → IsChosen c octets chosen → chosen ≡ sent_phase c)
-    → Came status c octets (sent_phase c) taken taken_now noted noted_now
-came-free one_phase one e status c octets taken taken_now noted noted_now ok said ends read known =
-    let r = (whole-output e status c octets taken taken_now noted noted_now said ends read).1.are_received in
-    came one_phase one e status c octets (sent_phase c) taken taken_now noted noted_now ok said ends read
-    (subst (λ (o : Option Chosen). IsChosen c octets o) (known r.chosen r.choice) r.choice)
+-- the whole output is written, and the status is 0 where nothing is uncorrectable
+whole-output : (e : Ending) (status : ℕ) (c : Configuration) (octets : List ℕ) (taken : Taken) → status ≡ status_of e
+    → Ends e (decode_meaning c) c.limit octets taken → (status ≡ 0) ⊎ (status ≡ 1)
+    → WroteOutput (decode_meaning c) octets taken × ((HasBad c octets → ⊥) → status ≡ 0)
+whole-output Done status c octets taken said ends read = (ends.0, λ good. said)
+whole-output Bad status c octets taken said ends read = (ends.0, λ good. absurd (good ends.2))
+whole-output LeftOver status c octets taken said ends read = absurd ends.2
+whole-output BadWindow status c octets taken said ends read = absurd ends.0
+whole-output SourceFault status c octets taken said ends read = absurd (omega (arith, said, read))
+whole-output SinkFault status c octets taken said ends read = absurd (omega (arith, said, read))
+whole-output PastLimit status c octets taken said ends read = absurd (omega (arith, said, read))
 
 -- what the octets come to is that of any bits and blocks that they have
 notes-are : OneBits → OneBlocks → (status : ℕ) (c : Configuration) (octets : List ℕ) (chosen : Option Chosen)
-    (taken taken_now noted noted_now : Option (List ℕ)) → (r : Came status c octets chosen taken taken_now noted noted_now)
-    → (bits : List Bool) (inner : Inner c (skip_of chosen) octets bits)
-    → Wrote noted noted_now (report_text (with_phase chosen r.items) (totals_of c bits inner.blocks))
-notes-are one_bits one_blocks status c octets chosen taken taken_now noted noted_now r bits inner =
+    (taken : Taken) → (r : Came status c octets chosen taken) → (bits : List Bool)
+    (inner : Inner c (skip_of chosen) octets bits)
+    → Wrote taken.notes taken.notes_now (report_text (with_phase chosen r.items) (totals_of c bits inner.blocks))
+notes-are one_bits one_blocks status c octets chosen taken r bits inner =
     let same : r.bits ≡ bits = one_bits c (skip_of chosen) octets r.bits bits r.inner inner in
     let all : r.inner.blocks ≡ inner.blocks =
     one_blocks c (skip_of chosen) octets r.inner.blocks inner.blocks r.inner.left inner.left r.inner.are_blocks
     inner.are_blocks in
-    subst (λ (t : Totals). Wrote noted noted_now (report_text (with_phase chosen r.items) t))
+    subst (λ (t : Totals). Wrote taken.notes taken.notes_now (report_text (with_phase chosen r.items) t))
     (r.counted ∙ (λ i. totals_of c (same i) (all i))) r.notes
 
--- ---- links
+-- where `decode` read all
+module _ (one_phase : OnePhase) (one : OneHanded) (e : Ending) (status : ℕ) (c : Configuration) (octets : List ℕ)
+    (taken : Taken) (ok : IsAccepted c) (stated : status ≡ status_of e)
+    (ends : Ends e (decode_meaning c) c.limit octets taken) (read : (status ≡ 0) ⊎ (status ≡ 1)) where
+  came : (chosen : Option Chosen) → IsChosen c octets chosen → Came status c octets chosen taken
+  came chosen choice =
+      let wrote = whole-output e status c octets taken stated ends read in
+      let d = wrote.0.1 in
+      let r = d.are_received in
+      let all = r.are_items in
+      let same : r.chosen ≡ chosen = one-choice one_phase c octets r.chosen chosen r.choice choice in
+      let handed : d.handed ≡ with_phase chosen r.items =
+      r.are ∙ ap (λ (o : Option Chosen). with_phase o r.items) same in
+      let items : items_of d.handed ≡ r.items = ap (items_of {I = ItemValue}) handed
+      ∙ items_of-with_phase chosen r.items in
+      let was = all.1 in
+      let inner : Inner c (skip_of chosen) octets all.0 = record {
+        blocks = was.blocks;
+        left = was.left;
+        are_blocks =
+            subst (λ (o : Option Chosen). AreInnerBlocks c (skip_of o) octets was.blocks was.left) same was.are_blocks;
+        are_bits = was.are_bits;
+      } in
+      record {
+        bits = all.0;
+        items = r.items;
+        inner = inner;
+        receive = record {
+          bits = all.0;
+          inner = inner;
+          are_items = all.3;
+          symbols =
+              subst (λ (o : Option Chosen). HaveSymbols (symbol_at c (skip_of o) was.blocks) r.items) same
+              all.4;
+        };
+        out = subst (Wrote taken.out taken.out_now) (d.are_frames ∙ ap frames_of items) wrote.0.2.out;
+        handed = d.handed;
+        totals = d.totals;
+        received = r;
+        counted = all.2;
+        notes =
+            subst (Wrote taken.notes taken.notes_now)
+            (d.is_report ∙ ap (λ (l : List (Handed ItemValue)). report_text l d.totals) handed) wrote.0.2.notes;
+        good = λ none. wrote.1
+            (λ h. h.2 (ap (λ (l : List (Handed ItemValue)). bad (items_of l))
+            (one c octets h.0 d.handed h.1.0 d.totals ok h.1.1 r) ∙ ap bad items ∙ none));
+      }
 
-pub keeps-clean : SentPhase → OnePhase → OneHanded → CleanTotals → CleanItems → CleanFrames
-    → (e : Ending) (status : ℕ) (c : Configuration) (octets : List ℕ)
-    (taken taken_now noted noted_now : Option (List ℕ))
-    → IsAccepted c → status ≡ status_of e → Ends e (decode_meaning c) c.limit octets
-    (taken_by taken taken_now noted noted_now) → (status ≡ 0) ⊎ (status ≡ 1)
-    → KeepsCleanLink status c octets taken taken_now noted noted_now
-keeps-clean sent_phases one_phase one clean_totals_of clean frames e status c octets taken taken_now noted noted_now
-    ok said ends read = λ input skip start small is.
-    let r = came-free one_phase one e status c octets taken taken_now noted noted_now ok said ends read
-    (λ chosen choice. sent_phases c input chosen skip (subst (λ (l : List ℕ). IsChosen c l chosen) is choice)) in
-    let sent_frames = found_frames c (whole_frames c.frame_length input) in
-    let receive : Receive c 0 (sent c input) r.items =
-    subst (λ (n : ℕ). Receive c n (sent c input) r.items) (sent-skip c)
-    (subst (λ (l : List ℕ). Receive c (skip_of (sent_phase c)) l r.items) is r.receive) in
-    let items : r.items ≡ clean_items c 0 sent_frames = clean c input r.items ok skip start small receive in
-    let count : r.totals ≡ clean_totals c (8 * length (cadus c input)) =
-    clean_totals_of c input r.handed r.totals ok skip start
-    (subst (λ (l : List ℕ). AreReceived c l r.handed r.totals) is r.received) in (
-      r.good (ap bad items ∙ clean-good c 0 sent_frames),
-      subst (Wrote taken taken_now) (ap frames_of items ∙ frames c 0 sent_frames) r.out,
-      subst (Wrote noted noted_now) (λ i. report_text (with_phase (sent_phase c) (items i)) (count i)) r.notes,
-    )
+  -- what came of octets of which the phase is known
+  came-free : ((chosen : Option Chosen) → IsChosen c octets chosen → chosen ≡ sent_phase c)
+      → Came status c octets (sent_phase c) taken
+  came-free known =
+      let r = (whole-output e status c octets taken stated ends read).0.1.are_received in
+      came (sent_phase c) (subst (λ (o : Option Chosen). IsChosen c octets o) (known r.chosen r.choice) r.choice)
 
-pub keeps-disturbed : OnePhase → OneHanded → OneBits → OneBlocks → SentItems → SentFrames
-    → (e : Ending) (status : ℕ) (c : Configuration) (octets : List ℕ)
-    (taken taken_now noted noted_now : Option (List ℕ))
-    → IsAccepted c → status ≡ status_of e → Ends e (decode_meaning c) c.limit octets
-    (taken_by taken taken_now noted noted_now) → (status ≡ 0) ⊎ (status ≡ 1)
-    → KeepsDisturbedLink status c octets taken taken_now noted noted_now
-keeps-disturbed one_phase one one_bits one_blocks sent_items sent_frames e status c octets taken taken_now noted
-    noted_now ok said ends read = λ bits units last chosen choice inner is.
-    let r = came one_phase one e status c octets chosen taken taken_now noted noted_now ok said ends read choice in
-    let as_sent = sent_items c (skip_of chosen) octets bits units last r.items ok inner is r.receive in (
-      r.items,
-      as_sent,
-      r.out,
-      notes-are one_bits one_blocks status c octets chosen taken taken_now noted noted_now r bits inner,
-      λ near. (
-        r.good (near-good c (unit_places c units) units r.items as_sent near),
-        subst (Wrote taken taken_now) (sent_frames c (skip_of chosen) octets bits units last r.items ok inner is
-            r.receive near) r.out,
-      ),
-    )
+  -- ---- links
 
--- no line shows a symbol, and no frame does
-frames-said : (at : ℕ → ℕ) (items : List ItemValue) → frames_of (map (said at) items) ≡ frames_of items
-frames-said at [] = refl
-frames-said at (item ∷ items) = ap (λ l. item.frame ++ l) (frames-said at items)
+  pub keeps-clean : SentPhase → CleanTotals → CleanItems → CleanFrames → KeepsCleanLink status c octets taken
+  keeps-clean sent_phases clean_totals_of clean frames = λ input skip start small is.
+      let r = came-free
+      (λ chosen choice. sent_phases c input chosen skip (subst (λ (l : List ℕ). IsChosen c l chosen) is choice)) in
+      let sent_frames = found_frames c (whole_frames c.frame_length input) in
+      let receive : Receive c 0 (sent c input) r.items =
+      subst (λ (n : ℕ). Receive c n (sent c input) r.items) (sent-skip c)
+      (subst (λ (l : List ℕ). Receive c (skip_of (sent_phase c)) l r.items) is r.receive) in
+      let items : r.items ≡ clean_items c 0 sent_frames = clean c input r.items ok skip start small receive in
+      let count : r.totals ≡ clean_totals c (8 * length (cadus c input)) =
+      clean_totals_of c input r.handed r.totals ok skip start
+      (subst (λ (l : List ℕ). AreReceived c l r.handed r.totals) is r.received) in (
+        r.good (ap bad items ∙ clean-good c 0 sent_frames),
+        subst (Wrote taken.out taken.out_now) (ap frames_of items ∙ frames c 0 sent_frames) r.out,
+        subst (Wrote taken.notes taken.notes_now)
+            (λ i. report_text (with_phase (sent_phase c) (items i)) (count i)) r.notes,
+      )
 
-lines-said : (at : ℕ → ℕ) (number : ℕ) (items : List ItemValue)
-    → items_text number (map Item (map complemented_item (map (said at) items)))
-    ≡ items_text number (map Item (map complemented_item items))
-lines-said at number [] = refl
-lines-said at number (item ∷ items) =
-    ap (λ l. item_text number (complemented_item item) ++ l) (lines-said at (number + 1) items)
+  pub keeps-disturbed : OneBits → OneBlocks → SentItems → SentFrames → KeepsDisturbedLink status c octets taken
+  keeps-disturbed one_bits one_blocks sent_items sent_frames = λ bits units last chosen choice inner is.
+      let r = came chosen choice in
+      let as_sent = sent_items c (skip_of chosen) octets bits units last r.items ok inner is r.receive in (
+        r.items,
+        as_sent,
+        r.out,
+        notes-are one_bits one_blocks status c octets chosen taken r bits inner,
+        λ near. (
+          r.good (near-good c (unit_places c units) units r.items as_sent near),
+          subst (Wrote taken.out taken.out_now)
+              (sent_frames c (skip_of chosen) octets bits units last r.items ok inner is r.receive near) r.out,
+        ),
+      )
 
-phased-said : (at : ℕ → ℕ) (chosen : Option Chosen) (items : List ItemValue)
-    → items_text 0 (with_phase chosen (map complemented_item (map (said at) items)))
-    ≡ items_text 0 (with_phase chosen (map complemented_item items))
-phased-said at None items = lines-said at 0 items
-phased-said at (Some chosen) items = ap (λ l. phase_text chosen.skip chosen.cost ++ l) (lines-said at 0 items)
+  pub keeps-complemented_input : OneItems → ComplementedItems → KeepsComplementedInput c octets taken
+  keeps-complemented_input one_items complemented = λ other bits items chosen plain find small is choice inner are.
+      let r = came chosen (choice-plain c other octets chosen plain choice) in
+      let at = symbol_at c (skip_of chosen) inner.blocks in
+      let with_symbols = map (said at) items in
+      let receive : Receive c (skip_of chosen) octets (map complemented_item with_symbols) =
+      subst (λ (l : List ℕ). Receive c (skip_of chosen) l (map complemented_item with_symbols)) (sym is)
+      (complemented c (skip_of chosen) other with_symbols ok plain find small
+      (record {
+        bits = bits;
+        inner = inner;
+        are_items = items-said c at bits (places_in c bits) items are;
+        symbols = have-said at items;
+      })) in
+      let same : r.items ≡ map complemented_item with_symbols = one_items c (skip_of chosen) octets r.items
+      (map complemented_item with_symbols) ok r.receive receive in
+      let count : r.totals ≡ totals_of c bits inner.blocks =
+      r.counted ∙ same-totals c (skip_of chosen) octets other r.bits bits plain
+      (ap length is ∙ length-map other (λ octet. 255 - octet)) r.inner inner in (
+        subst (Wrote taken.out taken.out_now)
+            (ap frames_of same ∙ frames-complemented with_symbols ∙ frames-said at items) r.out,
+        subst (Wrote taken.notes taken.notes_now)
+            (ap (λ (l : List ItemValue). report_text (with_phase chosen l) r.totals) same
+            ∙ report-said at chosen items r.totals
+            ∙ ap (report_text (with_phase chosen (map complemented_item items))) count) r.notes,
+      )
 
-good-said : (at : ℕ → ℕ) (items : List ItemValue)
-    → good (map complemented_item (map (said at) items)) ≡ good (map complemented_item items)
-good-said at [] = refl
-good-said at (item ∷ items) = ap (λ n. (if are_fixed item.answers then 1 else 0) + n) (good-said at items)
+  pub keeps-complemented_symbols : ComplementedPhase → ComplementedTotals → CleanFrames → ComplementedSymbols
+      → KeepsComplementedSymbols status c octets taken
+  keeps-complemented_symbols complemented_phases totals_of_both frames complemented =
+      λ input half find any skip small is.
+      let r = came-free
+      (λ chosen choice. complemented_phases c input chosen skip (subst (λ (l : List ℕ). IsChosen c l chosen) is choice))
+      in
+      let sent_frames = found_frames c (whole_frames c.frame_length input) in
+      let clean = clean_items c 0 sent_frames in
+      let receive : Receive c 0 (complemented_octets (sent c input)) r.items =
+      subst (λ (n : ℕ). Receive c n (complemented_octets (sent c input)) r.items) (sent-skip c)
+      (subst (λ (l : List ℕ). Receive c (skip_of (sent_phase c)) l r.items) is r.receive) in
+      let items : r.items ≡ map complemented_item clean = complemented c input r.items ok half find any skip small
+      receive in
+      let count : r.totals ≡ clean_totals c (8 * length (cadus c input)) =
+      totals_of_both c input r.handed r.totals ok half any skip
+      (subst (λ (l : List ℕ). AreReceived c l r.handed r.totals) is r.received) in (
+        r.good (ap bad items ∙ bad-complemented clean ∙ clean-good c 0 sent_frames),
+        subst (Wrote taken.out taken.out_now)
+            (ap frames_of items ∙ frames-complemented clean ∙ frames c 0 sent_frames) r.out,
+        subst (Wrote taken.notes taken.notes_now)
+            (λ i. report_text (with_phase (sent_phase c) (items i)) (count i)) r.notes,
+      )
 
-bad-said : (at : ℕ → ℕ) (items : List ItemValue)
-    → bad (map complemented_item (map (said at) items)) ≡ bad (map complemented_item items)
-bad-said at [] = refl
-bad-said at (item ∷ items) = ap (λ n. (if are_fixed item.answers then 0 else 1) + n) (bad-said at items)
-
-fixed-said : (at : ℕ → ℕ) (items : List ItemValue)
-    → fixed (map complemented_item (map (said at) items)) ≡ fixed (map complemented_item items)
-fixed-said at [] = refl
-fixed-said at (item ∷ items) = ap (λ n. fixed_of item.answers + n) (fixed-said at items)
-
-report-said : (at : ℕ → ℕ) (chosen : Option Chosen) (items : List ItemValue) (totals : Totals)
-    → report_text (with_phase chosen (map complemented_item (map (said at) items))) totals
-    ≡ report_text (with_phase chosen (map complemented_item items)) totals
-report-said at chosen items totals =
-    let xs = map complemented_item (map (said at) items) in
-    let ys = map complemented_item items in
-    ap (λ (l : List ItemValue). items_text 0 (with_phase chosen xs) ++ items_end_text l totals)
-    (items_of-with_phase chosen xs)
-    ∙ (λ i. phased-said at chosen items i ++ (slips_text totals.slips
-    ++ report_end_text (good-said at items i) (bad-said at items i) (fixed-said at items i) totals.bits))
-    ∙ sym (ap (λ (l : List ItemValue). items_text 0 (with_phase chosen ys) ++ items_end_text l totals)
-    (items_of-with_phase chosen ys))
-
-pub keeps-complemented_input : OnePhase → OneHanded → OneItems → ComplementedItems
-    → (e : Ending) (status : ℕ) (c : Configuration) (octets : List ℕ)
-    (taken taken_now noted noted_now : Option (List ℕ))
-    → IsAccepted c → status ≡ status_of e → Ends e (decode_meaning c) c.limit octets
-    (taken_by taken taken_now noted noted_now) → (status ≡ 0) ⊎ (status ≡ 1)
-    → KeepsComplementedInput c octets taken taken_now noted noted_now
-keeps-complemented_input one_phase one one_items complemented e status c octets taken taken_now noted noted_now ok
-    stated ends read = λ other bits items chosen plain find small is choice inner are.
-    let r = came one_phase one e status c octets chosen taken taken_now noted noted_now ok stated ends read
-    (choice-plain c other octets chosen plain choice) in
-    let at = symbol_at c (skip_of chosen) inner.blocks in
-    let with_symbols = map (said at) items in
-    let receive : Receive c (skip_of chosen) octets (map complemented_item with_symbols) =
-    subst (λ (l : List ℕ). Receive c (skip_of chosen) l (map complemented_item with_symbols)) (sym is)
-    (complemented c (skip_of chosen) other with_symbols ok plain find small
-    (record {
-      bits = bits;
-      inner = inner;
-      are_items = items-said c at bits (places_in c bits) items are;
-      symbols = have-said at items;
-    })) in
-    let same : r.items ≡ map complemented_item with_symbols = one_items c (skip_of chosen) octets r.items
-    (map complemented_item with_symbols) ok r.receive receive in
-    let count : r.totals ≡ totals_of c bits inner.blocks =
-    r.counted ∙ same-totals c (skip_of chosen) octets other r.bits bits plain
-    (ap length is ∙ length-map other (λ octet. 255 - octet)) r.inner inner in (
-      subst (Wrote taken taken_now) (ap frames_of same ∙ frames-complemented with_symbols ∙ frames-said at items) r.out,
-      subst (Wrote noted noted_now) (ap (λ (l : List ItemValue). report_text (with_phase chosen l) r.totals) same
-          ∙ report-said at chosen items r.totals
-          ∙ ap (report_text (with_phase chosen (map complemented_item items))) count) r.notes,
-    )
-
-pub keeps-complemented_symbols : ComplementedPhase → OnePhase → OneHanded → ComplementedTotals → CleanFrames
-    → ComplementedSymbols → (e : Ending) (status : ℕ) (c : Configuration) (octets : List ℕ)
-    (taken taken_now noted noted_now : Option (List ℕ))
-    → IsAccepted c → status ≡ status_of e → Ends e (decode_meaning c) c.limit octets
-    (taken_by taken taken_now noted noted_now) → (status ≡ 0) ⊎ (status ≡ 1)
-    → KeepsComplementedSymbols status c octets taken taken_now noted noted_now
-keeps-complemented_symbols complemented_phases one_phase one totals_of_both frames complemented e status c octets
-    taken taken_now noted noted_now ok said ends read = λ input half find any skip small is.
-    let r = came-free one_phase one e status c octets taken taken_now noted noted_now ok said ends read
-    (λ chosen choice. complemented_phases c input chosen skip (subst (λ (l : List ℕ). IsChosen c l chosen) is choice))
-    in
-    let sent_frames = found_frames c (whole_frames c.frame_length input) in
-    let clean = clean_items c 0 sent_frames in
-    let receive : Receive c 0 (complemented_octets (sent c input)) r.items =
-    subst (λ (n : ℕ). Receive c n (complemented_octets (sent c input)) r.items) (sent-skip c)
-    (subst (λ (l : List ℕ). Receive c (skip_of (sent_phase c)) l r.items) is r.receive) in
-    let items : r.items ≡ map complemented_item clean = complemented c input r.items ok half find any skip small
-    receive in
-    let count : r.totals ≡ clean_totals c (8 * length (cadus c input)) =
-    totals_of_both c input r.handed r.totals ok half any skip
-    (subst (λ (l : List ℕ). AreReceived c l r.handed r.totals) is r.received) in (
-      r.good (ap bad items ∙ bad-complemented clean ∙ clean-good c 0 sent_frames),
-      subst (Wrote taken taken_now) (ap frames_of items ∙ frames-complemented clean ∙ frames c 0 sent_frames) r.out,
-      subst (Wrote noted noted_now) (λ i. report_text (with_phase (sent_phase c) (items i)) (count i)) r.notes,
-    )
-
-pub keeps-found : OnePhase → OneHanded → OneBits → OneBlocks → FoundItems
-    → (e : Ending) (status : ℕ) (c : Configuration) (octets : List ℕ)
-    (taken taken_now noted noted_now : Option (List ℕ))
-    → IsAccepted c → status ≡ status_of e → Ends e (decode_meaning c) c.limit octets
-    (taken_by taken taken_now noted noted_now) → (status ≡ 0) ⊎ (status ≡ 1)
-    → KeepsFound c octets taken taken_now noted noted_now
-keeps-found one_phase one one_bits one_blocks found e status c octets taken taken_now noted noted_now ok said ends
-    read = λ bits chosen on alone choice inner.
-    let r = came one_phase one e status c octets chosen taken taken_now noted noted_now ok said ends read choice in (
-      r.items,
-      r.out,
-      notes-are one_bits one_blocks status c octets chosen taken taken_now noted noted_now r bits inner,
-      λ at inverted is. found c (skip_of chosen) octets bits r.items at inverted on alone inner r.receive is,
-    )
+  pub keeps-found : OneBits → OneBlocks → FoundItems → KeepsFound c octets taken
+  keeps-found one_bits one_blocks found = λ bits chosen on alone choice inner.
+      let r = came chosen choice in (
+        r.items,
+        r.out,
+        notes-are one_bits one_blocks status c octets chosen taken r bits inner,
+        λ at inverted is. found c (skip_of chosen) octets bits r.items at inverted on alone inner r.receive is,
+      )

@@ -1,8 +1,9 @@
 -- What was received of the octets that were read.
-use Rattle.std.proofs.Common.{◌≡◌, inl, inr, ℕ, ◌+◌, ◌*◌, ◌<◌, ◌≤◌, ◌^◌, Bool, List, [], ◌∷◌, ◌++◌, length, refl, sym, ap, ◌∙◌, subst, append_assoc, arith, None, length-append, length-take}
+use Rattle.std.proofs.Common.{◌≡◌, inl, inr, ℕ, ◌+◌, ◌*◌, ◌<◌, ◌≤◌, Bool, List, [], ◌∷◌, ◌++◌, length, refl, sym, ap, ◌∙◌, subst, append_assoc, arith, None, length-append, length-take}
 use Rattle.tm_base.specs.Handed.{Handed, items_of}
 use Rattle.tm_base.specs.Limits.{most_limit}
-use Rattle.tm_base.proofs.HandedItems.{items_of-append}
+use Rattle.tm_base.specs.Takers.{HandedOver}
+use Rattle.tm_base.proofs.Handing.{HandedOver-append}
 use Rattle.tm_config.specs.Accepted.{IsAccepted}
 use Rattle.tm_config.proofs.Choices.{never_both, given_or_find}
 use Rattle.tm_config.specs.declared.values.Sought.TheVariants.{Find}
@@ -28,9 +29,9 @@ use Rattle.tm_driver.specs.Writing.{Text, Note}
 use Rattle.tm_driver.specs.declared.ending.Outcome.{Outcome}
 use Rattle.tm_cli.specs.Lines.{report_end_text, totals_text}
 use Rattle.tm_cli.specs.Receiving.{Decodes, DecodesAll, HandedDue}
-use Rattle.tm_cli.specs.Taken.{AreCounted, IsOutcome, no_counts, texts_from}
+use Rattle.tm_cli.specs.Taken.{AreCounted, CountedHanded, IsOutcome, no_counts, texts_by, texts_from}
 use Rattle.tm_cli.specs.declared.counts.Counts.{Counts}
-use Rattle.tm_cli.proofs.GivenTexts.{Counting, Given, texts-append}
+use Rattle.tm_cli.proofs.GivenTexts.{Given, counted-all, texts_by-append}
 
 -- ---- items are at most as many as the bits of the octets
 
@@ -81,13 +82,13 @@ few-with_phase AreItems c octets handed most few phased =
     ∙ items_of-with_phase phased.chosen phased.items in
     omega (arith, ap length items, few (skip_of phased.chosen) phased.items phased.are_items)
 
-pub few-received_due : (c : Configuration) (octets : List ℕ) (handed : List (Handed ItemValue))
+few-received_due : (c : Configuration) (octets : List ℕ) (handed : List (Handed ItemValue))
     → AreReceivedDue c octets handed → length (items_of handed) ≤ 8 * length octets
 few-received_due c octets handed (inl none) = omega (arith, ap (λ l. length (items_of l)) none.1)
 few-received_due c octets handed (inr phased) =
     few-with_phase (λ phase. ReceiveDue c phase octets) c octets handed (8 * length octets) (few-due c octets) phased.1
 
-pub few-received : (c : Configuration) (totals : Totals) (octets : List ℕ) (handed : List (Handed ItemValue))
+few-received : (c : Configuration) (totals : Totals) (octets : List ℕ) (handed : List (Handed ItemValue))
     → AreReceived c octets handed totals → length (items_of handed) ≤ 8 * length octets
 few-received c totals octets handed =
     few-with_phase (λ phase. ReceiveAll c phase octets totals) c octets handed (8 * length octets)
@@ -131,75 +132,53 @@ pub due-none : (c : Configuration) (receiver : OctetReceiving) → IsAccepted c 
 due-none c receiver accepted same stands = record {
   handed = [];
   config = same;
-  stands = λ _. (
-    stands,
-    none-due c accepted,
-    record { good = refl; bad = refl; fixed = refl; few = omega arith },
-  );
+  counted = refl;
+  stands = λ _. (stands, none-due c accepted);
 }
 
 -- ---- more octets, and the end
-
--- all items are few
-both-few : (done more : List (Handed ItemValue)) (octets : List ℕ)
-    → length (items_of (done ++ more)) ≤ 8 * length octets → length octets ≤ most_limit
-    → length (items_of done) + length (items_of more) < 2 ^ 53
-both-few done more octets few within =
-    omega (
-      arith,
-      few,
-      within,
-      ap length (items_of-append done more),
-      length-append (items_of done) (items_of more),
-    )
-
-counts-more : (counts counts_now : Counts) (done more : List (Handed ItemValue)) (octets : List ℕ)
-    → length (items_of (done ++ more)) ≤ 8 * length octets → length octets ≤ most_limit
-    → Counting counts counts_now (items_of more) → AreCounted (items_of done) counts
-    → AreCounted (items_of (done ++ more)) counts_now
-counts-more counts counts_now done more octets few within counting counted =
-    subst (λ (l : List ItemValue). AreCounted l counts_now) (sym (items_of-append done more))
-    (counting (items_of done) (both-few done more octets few within) counted)
 
 pub due-more : (c : Configuration) (before now : OctetReceiving) (counts counts_now : Counts) (given octets : List ℕ)
     (more : List (Handed ItemValue)) → now.config ≡ before.config
     → ((given : List ℕ) (done : List (Handed ItemValue)) → length given + length octets < stream_bound
     → ReceiverStandsFor before given done → ReceiverStandsFor now (given ++ octets) (done ++ more)
     × AreReceivedDue before.config (given ++ octets) (done ++ more))
-    → Counting counts counts_now (items_of more)
+    → HandedOver CountedHanded counts more counts_now
     → HandedDue c before counts given → HandedDue c now counts_now (given ++ octets)
-due-more c before now counts counts_now given octets more same stands counting was =
-    let long = length-append given octets in
-    let all = was.handed ++ more in
-    record {
-      handed = all;
+due-more c before now counts counts_now given octets more same stands counted was =
+    let long = length-append given octets in record {
+      handed = was.handed ++ more;
       config = same ∙ was.config;
+      counted = HandedOver-append CountedHanded no_counts counts counts_now was.handed more was.counted counted;
       stands = λ few.
-          let stood = was.stands (omega (arith, few, long)) in
-          let go = stands given was.handed (omega (arith, few, long)) stood.0 in
-          let due = subst (λ (k : Configuration). AreReceivedDue k (given ++ octets) all) was.config go.1 in (
+          let go = stands given was.handed (omega (arith, few, long)) (was.stands (omega (arith, few, long))).0 in (
             go.0,
-            due,
-            counts-more counts counts_now was.handed more (given ++ octets)
-                (few-received_due c (given ++ octets) all due) few counting stood.2,
+            subst (λ (k : Configuration). AreReceivedDue k (given ++ octets) (was.handed ++ more)) was.config go.1,
           );
     }
+
+-- the texts of all that is due
+pub due-texts : (c : Configuration) (receiver : OctetReceiving) (counts : Counts) (octets : List ℕ)
+    → length octets ≤ most_limit → (d : HandedDue c receiver counts octets)
+    → texts_by no_counts d.handed ≡ texts_from 0 d.handed
+due-texts c receiver counts octets small d =
+    (counted-all d.handed counts octets (few-received_due c octets d.handed (d.stands small).1) small d.counted).0
 
 pub all-handed : (c : Configuration) (receiver : OctetReceiving) (counts counts_now : Counts) (octets : List ℕ)
     (last : List (Handed ItemValue)) (totals : Totals) → length octets ≤ most_limit
     → ((given : List ℕ) (done : List (Handed ItemValue)) → ReceiverStandsFor receiver given done
     → AreReceived receiver.config given (done ++ last) totals)
-    → Counting counts counts_now (items_of last) → (due : HandedDue c receiver counts octets)
-    → AreReceived c octets (due.handed ++ last) totals × AreCounted (items_of (due.handed ++ last)) counts_now
-all-handed c receiver counts counts_now octets last totals small finish counting due =
-    let stood = due.stands small in
-    let all = due.handed ++ last in
-    let received = subst (λ (k : Configuration). AreReceived k octets all totals) due.config
-    (finish octets due.handed stood.0) in (
-      received,
-      counts-more counts counts_now due.handed last octets (few-received c totals octets all received) small counting
-          stood.2,
-    )
+    → HandedOver CountedHanded counts last counts_now → (d : HandedDue c receiver counts octets)
+    → AreReceived c octets (d.handed ++ last) totals
+    × (texts_by no_counts (d.handed ++ last) ≡ texts_from 0 (d.handed ++ last))
+    × AreCounted (items_of (d.handed ++ last)) counts_now
+all-handed c receiver counts counts_now octets last totals small finish counted d =
+    let all = d.handed ++ last in
+    let received = subst (λ (k : Configuration). AreReceived k octets all totals) d.config
+    (finish octets d.handed (d.stands small).0) in
+    let are = counted-all all counts_now octets (few-received c totals octets all received) small
+    (HandedOver-append CountedHanded no_counts counts counts_now d.handed last d.counted counted) in
+    (received, are.0, are.1)
 
 -- ---- the texts
 
@@ -208,7 +187,7 @@ pub decodes-none : (receiver : OctetReceiving) (counts : Counts) → IsAccepted 
 unfolding due-none
 decodes-none receiver counts accepted stands new = subst
     (λ (k : Counts). Decodes receiver.config receiver k [] []) (sym new)
-    (record { due = due-none receiver.config receiver accepted refl stands; are = λ _. refl })
+    (record { due = due-none receiver.config receiver accepted refl stands; are = refl })
 
 pub decodes-more : {T : Type 0} (took : T → Text → T → Type 0) (before now : OctetReceiving)
     (counts counts_now : Counts) (taker taker_now : T) (octets : List ℕ) (more : List (Handed ItemValue))
@@ -216,49 +195,36 @@ pub decodes-more : {T : Type 0} (took : T → Text → T → Type 0) (before now
     → ((given : List ℕ) (done : List (Handed ItemValue)) → length given + length octets < stream_bound
     → ReceiverStandsFor before given done → ReceiverStandsFor now (given ++ octets) (done ++ more)
     × AreReceivedDue before.config (given ++ octets) (done ++ more))
-    → (g : Given took counts counts_now taker taker_now more)
+    → Given took counts counts_now taker taker_now more
     → (c : Configuration) (given : List ℕ) (done : List Text) → Decodes c before counts given done
-    → Decodes c now counts_now (given ++ octets) (done ++ g.texts)
+    → Decodes c now counts_now (given ++ octets) (done ++ texts_by counts more)
 unfolding due-more
-decodes-more took before now counts counts_now taker taker_now octets more same stands g c given done d =
-    let handed = d.due.handed in
-    let due = due-more c before now counts counts_now given octets more same stands
-    (λ items small counted. (g.are items small counted).1) d.due in
-    record {
-      due = due;
-      are = λ small.
-          let within : length given ≤ most_limit = omega (arith, small, length-append given octets) in
-          let few = few-received_due c (given ++ octets) (handed ++ more) (due.stands small).1 in
-          ap (λ l. l ++ g.texts) (d.are within)
-          ∙ ap (λ l. texts_from 0 handed ++ l) (g.are (items_of handed)
-          (both-few handed more (given ++ octets) few small) (d.due.stands within).2).0
-          ∙ sym (texts-append handed more);
-    }
+decodes-more took before now counts counts_now taker taker_now octets more same stands g c given done d = record {
+  due = due-more c before now counts counts_now given octets more same stands g.counted d.due;
+  are = ap (λ l. l ++ texts_by counts more) d.are
+      ∙ sym (texts_by-append d.due.handed more no_counts counts d.due.counted);
+}
 
 pub decodes-end : {T : Type 0} (took : T → Text → T → Type 0) (receiver : OctetReceiving)
     (counts counts_now : Counts) (taker taker_now : T) (last : List (Handed ItemValue)) (totals : Totals) (by : Outcome)
     → ((given : List ℕ) (done : List (Handed ItemValue)) → ReceiverStandsFor receiver given done
     → AreReceived receiver.config given (done ++ last) totals)
-    → IsOutcome counts_now.bad by → (g : Given took counts counts_now taker taker_now last)
+    → IsOutcome counts_now.bad by → Given took counts counts_now taker taker_now last
     → (c : Configuration) (given : List ℕ) (done : List Text) → length given ≤ most_limit
     → Decodes c receiver counts given done
-    → DecodesAll c given (done ++ (g.texts ++ Note (totals_text counts_now totals) ∷ [])) by
+    → DecodesAll c given (done ++ (texts_by counts last ++ Note (totals_text counts_now totals) ∷ [])) by
 decodes-end took receiver counts counts_now taker taker_now last totals by finish is g c given done small d =
     let handed = d.due.handed in
-    let all = all-handed c receiver counts counts_now given last totals small finish
-    (λ items small counted. (g.are items small counted).1) d.due in
-    let few = few-received c totals given (handed ++ last) all.0 in
-    let texts : done ++ g.texts ≡ texts_from 0 (handed ++ last) =
-    ap (λ l. l ++ g.texts) (d.are small)
-    ∙ ap (λ l. texts_from 0 handed ++ l) (g.are (items_of handed) (both-few handed last given few small)
-    (d.due.stands small).2).0
-    ∙ sym (texts-append handed last) in
+    let all = all-handed c receiver counts counts_now given last totals small finish g.counted d.due in
+    let end = Note (totals_text counts_now totals) ∷ [] in
     record {
       handed = handed ++ last;
       totals = totals;
       are_received = all.0;
-      are = sym (append_assoc done g.texts (Note (totals_text counts_now totals) ∷ []))
-          ∙ (λ i. texts i ++ Note (slips_text totals.slips
-          ++ report_end_text (all.1.good i) (all.1.bad i) (all.1.fixed i) totals.bits) ∷ []);
-      is_outcome = subst (λ (n : ℕ). IsOutcome n by) all.1.bad is;
+      are = sym (append_assoc done (texts_by counts last) end)
+          ∙ ap (λ l. (l ++ texts_by counts last) ++ end) d.are
+          ∙ ap (λ l. l ++ end) (sym (texts_by-append handed last no_counts counts d.due.counted))
+          ∙ (λ i. all.1 i ++ Note (slips_text totals.slips
+          ++ report_end_text (all.2.good i) (all.2.bad i) (all.2.fixed i) totals.bits) ∷ []);
+      is_outcome = subst (λ (n : ℕ). IsOutcome n by) all.2.bad is;
     }

@@ -8,7 +8,7 @@ use Rattle.tm_channel.specs.declared.totals.Totals.{Totals}
 use Rattle.tm_channel.specs.Items.{ItemValue}
 use Rattle.tm_channel.specs.Handing.{AreReceived, AreReceivedDue}
 use Rattle.tm_channel.specs.OctetReceiving.{OctetReceiving}
-use Rattle.tm_driver.specs.Meaning.{Output, Ends, Taken, WroteEarly, WrotePrefixes, taken_by}
+use Rattle.tm_driver.specs.Meaning.{Output, Ends, Taken, WroteEarly, WroteOutput, WrotePrefixes, taken_by}
 use Rattle.tm_driver.specs.Staged.{StagedTo}
 use Rattle.tm_driver.specs.Statuses.{is_sink_fault}
 use Rattle.tm_driver.specs.Writing.{Text, Note, StopsIn, WroteTexts, notes_of, out_of, output_of}
@@ -16,14 +16,14 @@ use Rattle.tm_driver.specs.declared.ending.Ending.{Ending}
 use Rattle.tm_driver.specs.declared.ending.Ending.TheVariants.{Done, Bad, BadWindow, LeftOver, SourceFault, SinkFault, PastLimit}
 use Rattle.tm_driver.specs.declared.ending.Outcome.{Outcome}
 use Rattle.tm_driver.specs.declared.ending.Outcome.TheVariants as outcome
-use Rattle.tm_driver.proofs.Driven.{OutcomeShows}
 use Rattle.tm_driver.proofs.SinkTexts.{wrote-nothing, wrote-no_prefix}
-use Rattle.tm_driver.proofs.Staged.{Early, ends-staged}
+use Rattle.tm_driver.proofs.Staged.{Early, OutcomeShows, ends-staged}
 use Rattle.tm_cli.specs.Decode.{IsDecoded, HasBad, decode_meaning, report_meaning}
 use Rattle.tm_cli.specs.Receiving.{Decodes, DecodesAll}
 use Rattle.tm_cli.specs.Report.{bad, items_end_text}
 use Rattle.tm_cli.specs.Taken.{all_texts, texts_from}
 use Rattle.tm_cli.specs.declared.counts.Counts.{Counts}
+use Rattle.tm_cli.proofs.Received.{due-texts}
 use Rattle.tm_cli.proofs.GivenTexts.{all-are, due-are, in-order, texts-append}
 
 -- ---- what is handed over of a whole input
@@ -83,7 +83,8 @@ module _ (exists : HasList) (one : OneList) (first : DueFirst) (c : Configuratio
       let small : length octets ≤ most_limit = omega (arith, most, within) in
       let due = d.due.handed in
       let is_due = (d.due.stands small).1 in
-      let are = due-are due texts (d.are small) in
+      let texts_are = d.are ∙ due-texts c receiver counts octets small d.due in
+      let are = due-are due texts texts_are in
       record {
         due = record { handed = due; are_due = is_due; are_frames = are.0; are_lines = are.1 };
         rest = λ more.
@@ -96,7 +97,7 @@ module _ (exists : HasList) (one : OneList) (first : DueFirst) (c : Configuratio
                 h.0,
                 h.1.0,
                 h.1.1,
-                ap (λ (l : List Text). l ++ (later ++ end)) (d.are small)
+                ap (λ (l : List Text). l ++ (later ++ end)) texts_are
                     ∙ sym (append_assoc (texts_from 0 due) later end)
                     ∙ ap (λ (l : List Text). l ++ end) (sym (texts-append due rest.0)
                     ∙ ap (texts_from 0) (sym rest.1)),
@@ -132,60 +133,46 @@ module _ (exists : HasList) (one : OneList) (first : DueFirst) (c : Configuratio
 
 -- ---- how `report` ends, which is `decode` without the frames
 
-report-prefixes : (output : Output) (frames frames_now taken taken_now noted : Option (List ℕ))
-    → WrotePrefixes output (taken_by frames frames_now taken taken_now)
-    → WrotePrefixes (record { out = output.notes; notes = [] }) (taken_by taken taken_now noted noted)
-report-prefixes output frames frames_now taken taken_now noted wrote =
-    record { out = wrote.notes; notes = wrote-no_prefix noted [] }
+module _ (c : Configuration) (taken : Taken) (noted : Option (List ℕ)) where
+  abbrev Alone : Taken
+  Alone = taken_by taken.notes taken.notes_now noted noted
 
-report-early : (c : Configuration) (octets : List ℕ) (frames frames_now taken taken_now noted : Option (List ℕ))
-    → WroteEarly (decode_meaning c) octets (taken_by frames frames_now taken taken_now)
-    → WroteEarly (report_meaning c) octets (taken_by taken taken_now noted noted)
-report-early c octets frames frames_now taken taken_now noted p = (
-  (
-    record { out = p.0.0.notes; notes = [] },
-    (p.0.0.out, p.0.1, refl),
-    record { out = p.0.2.notes; notes = wrote-nothing noted },
-  ),
-  λ more. let q = p.1 more in (
-    record { out = q.0.notes; notes = [] },
-    (q.0.out, q.1, refl),
-    report-prefixes q.0 frames frames_now taken taken_now noted q.2,
-  ),
-)
+  report-whole : (octets : List ℕ) → WroteOutput (decode_meaning c) octets taken
+      → WroteOutput (report_meaning c) octets Alone
+  report-whole octets p = (
+    record { out = p.0.notes; notes = [] },
+    (p.0.out, p.1, refl),
+    record { out = p.2.notes; notes = wrote-nothing noted },
+  )
 
-pub report-ends : (e : Ending) (c : Configuration) (limit : ℕ) (octets : List ℕ)
-    (frames frames_now taken taken_now noted : Option (List ℕ))
-    → Ends e (decode_meaning c) limit octets (taken_by frames frames_now taken taken_now)
-    → Ends e (report_meaning c) limit octets (taken_by taken taken_now noted noted)
-report-ends Done c limit octets frames frames_now taken taken_now noted p = (
-  (
-    record { out = p.0.0.notes; notes = [] },
-    (p.0.0.out, p.0.1, refl),
-    record { out = p.0.2.notes; notes = wrote-nothing noted },
-  ),
-  p.1,
-  p.2,
-  p.3,
-)
-report-ends Bad c limit octets frames frames_now taken taken_now noted p = (
-  (
-    record { out = p.0.0.notes; notes = [] },
-    (p.0.0.out, p.0.1, refl),
-    record { out = p.0.2.notes; notes = wrote-nothing noted },
-  ),
-  p.1,
-  p.2,
-)
-report-ends BadWindow c limit octets frames frames_now taken taken_now noted p = absurd p.0
-report-ends LeftOver c limit octets frames frames_now taken taken_now noted p = absurd p.2
-report-ends SourceFault c limit octets frames frames_now taken taken_now noted p =
-    (report-early c octets frames frames_now taken taken_now noted p.0, p.1)
-report-ends SinkFault c limit octets frames frames_now taken taken_now noted p = (
-  record { out = p.0.notes; notes = [] },
-  (p.0.out, p.1, refl),
-  report-prefixes p.0 frames frames_now taken taken_now noted p.2,
-  wrote-nothing noted,
-)
-report-ends PastLimit c limit octets frames frames_now taken taken_now noted p =
-    (report-early c (take limit octets) frames frames_now taken taken_now noted p.0, p.1)
+  report-prefixes : (output : Output) → WrotePrefixes output taken
+      → WrotePrefixes (record { out = output.notes; notes = [] }) Alone
+  report-prefixes output wrote = record { out = wrote.notes; notes = wrote-no_prefix noted [] }
+
+  report-early : (octets : List ℕ) → WroteEarly (decode_meaning c) octets taken
+      → WroteEarly (report_meaning c) octets Alone
+  report-early octets p = (
+    (
+      record { out = p.0.0.notes; notes = [] },
+      (p.0.0.out, p.0.1, refl),
+      record { out = p.0.2.notes; notes = wrote-nothing noted },
+    ),
+    λ more.
+        let q = p.1 more in
+        (record { out = q.0.notes; notes = [] }, (q.0.out, q.1, refl), report-prefixes q.0 q.2),
+  )
+
+  pub report-ends : (e : Ending) (limit : ℕ) (octets : List ℕ) → Ends e (decode_meaning c) limit octets taken
+      → Ends e (report_meaning c) limit octets Alone
+  report-ends Done limit octets p = (report-whole octets p.0, p.1, p.2, p.3)
+  report-ends Bad limit octets p = (report-whole octets p.0, p.1, p.2)
+  report-ends BadWindow limit octets p = absurd p.0
+  report-ends LeftOver limit octets p = absurd p.2
+  report-ends SourceFault limit octets p = (report-early octets p.0, p.1)
+  report-ends SinkFault limit octets p = (
+    record { out = p.0.notes; notes = [] },
+    (p.0.out, p.1, refl),
+    report-prefixes p.0 p.2,
+    wrote-nothing noted,
+  )
+  report-ends PastLimit limit octets p = (report-early (take limit octets) p.0, p.1)

@@ -2,10 +2,10 @@ pub mod Lines
 pub mod Report
 pub mod Taken
 pub mod Encode
+pub mod Encoding
 pub mod Decode
 pub mod Receiving
 pub mod Generated
-pub mod HeldSymbols
 pub mod Soak
 pub mod Commands
 pub mod Refusal

@@ -69,6 +69,15 @@ texts_from number (Phase skip cost ∷ handed) = Note (phase_text skip cost)
 texts_from number (Item item ∷ handed) = Out item.frame ∷ Note (item_text number item)
     ∷ texts_from (number + 1) handed
 
+-- the same with the items numbered by the counts of those before them
+abbrev pub texts_by : Counts → List (Handed ItemValue) → List Text
+texts_by counts [] = []
+texts_by counts (Phase skip cost ∷ handed) = Note (phase_text skip cost)
+    ∷ texts_by counts handed
+texts_by counts (Item item ∷ handed) = Out item.frame
+    ∷ Note (item_text (number_of counts) item)
+    ∷ texts_by (counts_after counts item.answers) handed
+
 -- all texts of what was handed over of octets that come to this
 abbrev pub all_texts : List (Handed ItemValue) → Totals → List Text
 all_texts handed totals =

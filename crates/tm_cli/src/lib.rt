@@ -17,13 +17,11 @@ mod reporting;
 mod soak_command;
 mod soak_refusal;
 mod top;
-mod unit_symbols;
 
 pub use counts::Counts;
 pub use generated::generate_unit;
 pub use report_lines::{frame_line, frames_line};
 pub use reporting::{Reporting, end_report};
-pub use tm_driver::phase_line;
 pub use tm_path_commands::{Tally, block_line, blocks_line};
 pub use tm_words::{HexText, Job, JobKind, WordsError, read_words};
 pub use top::run;

@@ -1,10 +1,10 @@
 // What `decode` makes of octets in which transfer frames were sent.
-ghost use Rattle.std.specs.Prelude.{◌≡◌, ◌⊎◌, ℕ, List, Option};
+ghost use Rattle.std.specs.Prelude.{◌≡◌, ◌⊎◌, ℕ, List};
 ghost use Rattle.tm_config.specs.Accepted.{IsAccepted};
 ghost use Rattle.tm_config.specs.Configuration.{Configuration};
 ghost use Rattle.tm_cli.specs.Decode.{decode_meaning};
 ghost use Rattle.tm_cli.specs.Link.{KeepsCleanLink, KeepsDisturbedLink, KeepsComplementedInput, KeepsComplementedSymbols, KeepsFound};
-ghost use Rattle.tm_driver.specs.Meaning.{Ends, taken_by};
+ghost use Rattle.tm_driver.specs.Meaning.{Ends, Taken};
 ghost use Rattle.tm_driver.specs.Statuses.{status_of};
 ghost use Rattle.tm_driver.specs.declared.ending.Ending.{Ending};
 
@@ -15,36 +15,26 @@ use tm_windows::phase_law;
 /// Where `decode` reads its whole input, sent frames come back, as far as they were not disturbed too much, and in the
 /// other polarity too; and where codeblocks are looked for inside others, whatever comes before. It does nothing.
 pub fn link_law()
-    ensures clean { (ending : Ending) (status : ℕ) (c : Configuration) (octets : List ℕ)
-        (taken taken_now noted noted_now : Option (List ℕ))
+    ensures clean { (ending : Ending) (status : ℕ) (c : Configuration) (octets : List ℕ) (taken : Taken)
         → IsAccepted c → status ≡ status_of ending
-        → Ends ending (decode_meaning c) c.limit octets (taken_by taken taken_now noted noted_now)
-        → (status ≡ 0) ⊎ (status ≡ 1)
-        → KeepsCleanLink status c octets taken taken_now noted noted_now }
-    ensures disturbed { (ending : Ending) (status : ℕ) (c : Configuration) (octets : List ℕ)
-        (taken taken_now noted noted_now : Option (List ℕ))
+        → Ends ending (decode_meaning c) c.limit octets taken → (status ≡ 0) ⊎ (status ≡ 1)
+        → KeepsCleanLink status c octets taken }
+    ensures disturbed { (ending : Ending) (status : ℕ) (c : Configuration) (octets : List ℕ) (taken : Taken)
         → IsAccepted c → status ≡ status_of ending
-        → Ends ending (decode_meaning c) c.limit octets (taken_by taken taken_now noted noted_now)
-        → (status ≡ 0) ⊎ (status ≡ 1)
-        → KeepsDisturbedLink status c octets taken taken_now noted noted_now }
-    ensures complemented_input { (ending : Ending) (status : ℕ) (c : Configuration) (octets : List ℕ)
-        (taken taken_now noted noted_now : Option (List ℕ))
+        → Ends ending (decode_meaning c) c.limit octets taken → (status ≡ 0) ⊎ (status ≡ 1)
+        → KeepsDisturbedLink status c octets taken }
+    ensures complemented_input { (ending : Ending) (status : ℕ) (c : Configuration) (octets : List ℕ) (taken : Taken)
         → IsAccepted c → status ≡ status_of ending
-        → Ends ending (decode_meaning c) c.limit octets (taken_by taken taken_now noted noted_now)
-        → (status ≡ 0) ⊎ (status ≡ 1)
-        → KeepsComplementedInput c octets taken taken_now noted noted_now }
-    ensures complemented_symbols { (ending : Ending) (status : ℕ) (c : Configuration) (octets : List ℕ)
-        (taken taken_now noted noted_now : Option (List ℕ))
+        → Ends ending (decode_meaning c) c.limit octets taken → (status ≡ 0) ⊎ (status ≡ 1)
+        → KeepsComplementedInput c octets taken }
+    ensures complemented_symbols { (ending : Ending) (status : ℕ) (c : Configuration) (octets : List ℕ) (taken : Taken)
         → IsAccepted c → status ≡ status_of ending
-        → Ends ending (decode_meaning c) c.limit octets (taken_by taken taken_now noted noted_now)
-        → (status ≡ 0) ⊎ (status ≡ 1)
-        → KeepsComplementedSymbols status c octets taken taken_now noted noted_now }
-    ensures found { (ending : Ending) (status : ℕ) (c : Configuration) (octets : List ℕ)
-        (taken taken_now noted noted_now : Option (List ℕ))
+        → Ends ending (decode_meaning c) c.limit octets taken → (status ≡ 0) ⊎ (status ≡ 1)
+        → KeepsComplementedSymbols status c octets taken }
+    ensures found { (ending : Ending) (status : ℕ) (c : Configuration) (octets : List ℕ) (taken : Taken)
         → IsAccepted c → status ≡ status_of ending
-        → Ends ending (decode_meaning c) c.limit octets (taken_by taken taken_now noted noted_now)
-        → (status ≡ 0) ⊎ (status ≡ 1)
-        → KeepsFound c octets taken taken_now noted noted_now }
+        → Ends ending (decode_meaning c) c.limit octets taken → (status ≡ 0) ⊎ (status ≡ 1)
+        → KeepsFound c octets taken }
 {
     items_law();
     received_law();

@@ -2,6 +2,7 @@
 ghost use Rattle.std.specs.Prelude.{◌≡◌, ◌⊎◌, ◌+◌, ◌*◌, ◌≤◌, ℕ, List, [], ◌++◌, length, false, Option, None, IfOk, OnErr};
 ghost use Rattle.tm_config.specs.Accepted.{IsAccepted};
 ghost use Rattle.tm_config.specs.Configuration.{Configuration, correctable};
+ghost use Rattle.tm_conv.specs.Octets.{most_octet_symbols};
 ghost use Rattle.tm_inner.specs.Sending.{InnerSenderStandsFor};
 ghost use Rattle.tm_inner.specs.Symbols.{symbols_of_octets};
 ghost use Rattle.tm_base.specs.Handed.{Handed, items_of};
@@ -9,11 +10,10 @@ ghost use Rattle.tm_channel.specs.Handing.{AreReceived};
 ghost use Rattle.tm_channel.specs.Items.{ItemValue};
 ghost use Rattle.tm_channel.specs.OctetReceiving.{ReceiverStandsFor};
 ghost use Rattle.tm_cli.specs.Generated.{generated};
-ghost use Rattle.tm_cli.specs.HeldSymbols.{unit_room};
 ghost use Rattle.tm_cli.specs.Receiving.{HandedDue, IsByAll};
 ghost use Rattle.tm_cli.specs.Soak.{soak_meaning, soak_refusal};
 ghost use Rattle.tm_cli.specs.Taken.{AreCounted};
-ghost use Rattle.tm_driver.specs.Courses.{SinkWent, sink_call};
+ghost use Rattle.tm_driver.specs.Courses.{SinkCourse, sink_call};
 ghost use Rattle.tm_driver.specs.Meaning.{Ends, taken_by};
 ghost use Rattle.tm_driver.specs.Statuses.{is_sink_fault};
 ghost use Rattle.tm_codeblock.specs.Cadu.{longest_cadu};
@@ -22,12 +22,11 @@ use crate::counts::Counts;
 use crate::generated::generate_unit;
 use crate::receiving::{finish, receive};
 use crate::report_lines::frames_line;
-use crate::unit_symbols::UnitSymbols;
 use rand_pcg::Lcg64Xsh32;
 use std::alloc::Global;
 use std::thread::Threads;
 use tm_base::{Failed, NoMemory, Sink};
-use tm_channel::{Config, InnerSender, Item, ItemWatch, Receiver, Totals, received_law};
+use tm_channel::{Config, InnerSender, Item, ItemWatch, ROOM, Receiver, Totals, received_law};
 use tm_codeblock::LONGEST_CADU;
 use tm_driver::Ending;
 
@@ -47,33 +46,31 @@ impl ItemWatch for Counts {
     fn phase(&mut self, _skip: u8, _cost: u64) {}
 }
 
-// Sends a unit, receives its symbols, and counts the items that are due.
+// Sends a unit, whose symbols are put into the room, receives them, and counts the items that are due.
 fn pass_unit<R: Threads + Sync>(
     rt: &R,
     unit: &[u8],
+    room: &mut [u8; ROOM],
     sender: &mut InnerSender,
     receiver: &mut Receiver,
     counts: &mut Counts,
 )
     requires unit { length unit.now ≤ longest_cadu }
-    requires fresh { sender.old.has_failed ≡ false }
-    requires stands { (given : List ℕ) × InnerSenderStandsFor sender.old given }
     requires ready { receiver.old.has_stopped ≡ false }
-    ensures fresh { sender.new.has_failed ≡ false }
     ensures config { sender.new.config ≡ sender.old.config }
     ensures stands { (given : List ℕ) → InnerSenderStandsFor sender.old given
         → InnerSenderStandsFor sender.new (given ++ unit.now) }
+    ensures few { (given : List ℕ) → InnerSenderStandsFor sender.old given
+        → length (symbols_of_octets sender.old.config (given ++ unit.now))
+        ≤ length (symbols_of_octets sender.old.config given) + most_octet_symbols * longest_cadu }
     ensures ready { receiver.new.has_stopped ≡ false }
     ensures by { IsByAll receiver.new }
     ensures handed { (c : Configuration) (given : List ℕ) → InnerSenderStandsFor sender.old given
         → HandedDue c receiver.old counts.old (symbols_of_octets sender.old.config given)
         → HandedDue c receiver.new counts.new (symbols_of_octets sender.old.config (given ++ unit.now)) }
 {
-    let mut symbols = UnitSymbols::new();
-    let sent = sender.push(unit, &mut symbols);
-    let octets = symbols.octets();
-    sent.unwrap();
-    receive(rt, receiver, octets, counts);
+    let count = sender.symbols(unit, room);
+    receive(rt, receiver, &room[..count], counts);
 }
 
 // Sends generated frames, and receives them. Returns what was counted of the items that are due.
@@ -92,7 +89,7 @@ fn pass_frames<R: Threads + Sync>(
     requires config { receiver.old.config ≡ config.now }
     requires new { ReceiverStandsFor receiver.old [] [] }
     ensures accepted { IsAccepted config.now }
-    ensures few { length (generated config.now seed frames hits) ≤ unit_room * frames }
+    ensures few { length (generated config.now seed frames hits) ≤ most_octet_symbols * longest_cadu * frames }
     ensures ready { receiver.new.has_stopped ≡ false }
     ensures by { IsByAll receiver.new }
     ensures handed { HandedDue config.now receiver.new result (generated config.now seed frames hits) }
@@ -101,11 +98,12 @@ fn pass_frames<R: Threads + Sync>(
     let mut sender = InnerSender::new(config);
     let mut counts = Counts::new();
     let size = (config.depth() * config.word_length()) as usize + 4;
-    let mut room = [0; LONGEST_CADU];
-    let unit = &mut room[..size];
+    let mut units = [0; LONGEST_CADU];
+    let unit = &mut units[..size];
+    let mut room = [0; ROOM];
     for _frame in 0..frames {
         generate_unit(&mut draws, config, hits, unit);
-        pass_unit(rt, unit, &mut sender, receiver, &mut counts);
+        pass_unit(rt, unit, &mut room, &mut sender, receiver, &mut counts);
     }
     counts
 }
@@ -154,7 +152,7 @@ pub fn soak<R: Threads + Sync, O: Sink>(
     ensures memory { OnErr result (out.new ≡ out.old) }
     ensures answers { IfOk result (λ ending. (ending ≡ Ending.Done) ⊎ (ending ≡ Ending.Bad) ⊎
         (ending ≡ Ending.SinkFault)) }
-    ensures sink { IfOk result (λ ending. SinkWent (is_sink_fault ending)
+    ensures sink { IfOk result (λ ending. SinkCourse (is_sink_fault ending)
         (sink_call O.taken O.faults O.is_last out.old out.new)) }
 {
     received_law();

@@ -4,8 +4,8 @@ ghost use Rattle.tm_config.specs.Configuration.{configuration_of};
 ghost use Rattle.tm_words.specs.declared.job.Job.{Job};
 ghost use Rattle.tm_cli.specs.Commands.{command_of, has_notes, reads};
 ghost use Rattle.tm_cli.specs.Refusal.{refusal_of, AreParsedAs};
-ghost use Rattle.tm_cli.specs.Run.{Answers, IsRefused, call_of};
-ghost use Rattle.tm_driver.specs.Courses.{sink_state, source_state};
+ghost use Rattle.tm_cli.specs.Run.{Answers, IsRefused};
+ghost use Rattle.tm_driver.specs.Courses.{sink_call, source_call};
 
 use crate::dispatch::dispatch;
 use crate::link::link_law;
@@ -47,23 +47,17 @@ pub fn run<R: Threads + Sync, S: Source, O: Sink, N: Sink>(
     ensures refused { IsSome (refusal_of (map string_bytes words.now))
         → (result ≡ 2) ⊎ (result ≡ 5) }
     ensures refusal { result ≡ 2 → IsRefused (map string_bytes words.now)
-        (sink_state (N.taken notes.old) (N.faults notes.old))
-        (sink_state (N.taken notes.new) (N.faults notes.new)) (N.is_last notes.new) }
+        (sink_call N.taken N.faults N.is_last notes.old notes.new) }
     ensures unread { (result ≡ 2) ⊎ (result ≡ 5) → (source.new ≡ source.old) × (out.new ≡ out.old) }
     ensures memory { result ≡ 5 → notes.new ≡ notes.old }
 
     // They are accepted, and ask for a job.
     ensures answered { (job : Job) → AreParsedAs (map string_bytes words.now) job → (result ≡ 5 → ⊥)
-        → Answers result (command_of job) (configuration_of job.raw) (call_of
-        (source_state (S.given source.old) (S.left source.old)
-        (S.ended source.old) (S.faults source.old))
-        (source_state (S.given source.new) (S.left source.new)
-        (S.ended source.new) (S.faults source.new))
-        (S.is_last source.new)
-        (sink_state (O.taken out.old) (O.faults out.old))
-        (sink_state (O.taken out.new) (O.faults out.new)) (O.is_last out.new)
-        (sink_state (N.taken notes.old) (N.faults notes.old))
-        (sink_state (N.taken notes.new) (N.faults notes.new)) (N.is_last notes.new)) }
+        → Answers result (command_of job) (configuration_of job.raw) (record {
+          source = source_call S.given S.left S.ended S.faults S.is_last source.old source.new;
+          out = sink_call O.taken O.faults O.is_last out.old out.new;
+          notes = sink_call N.taken N.faults N.is_last notes.old notes.new;
+        }) }
     ensures only_words { (job : Job) → AreParsedAs (map string_bytes words.now) job
         → reads (command_of job) ≡ false → source.new ≡ source.old }
     ensures only_output { (job : Job) → AreParsedAs (map string_bytes words.now) job

@@ -6,9 +6,8 @@ use tm_base::{Failed, MemSink};
 use tm_channel::{Answer, Item, ItemWatch, Totals};
 use tm_cli::{
     Counts, Reporting, Tally, block_line, blocks_line, end_report, frame_line, frames_line,
-    phase_line,
 };
-use tm_driver::{Outcome, TextTaker, Writer};
+use tm_driver::{Outcome, TextTaker, Writer, phase_text};
 use tm_viterbi::Block;
 
 const MOST: u64 = 18_446_744_073_709_551_615;
@@ -216,8 +215,8 @@ fn writes_the_other_lines(rt: HostRuntime) -> Result<(), Fail> {
     );
     assert!(rt; blocks_line(&mut out, 2, 8449, 1) == Ok(()));
     assert!(rt; blocks_line(&mut out, MOST, MOST, 255) == Ok(()));
-    assert!(rt; phase_line(&mut out, 1, 0) == Ok(()));
-    assert!(rt; phase_line(&mut out, 255, MOST) == Ok(()));
+    assert!(rt; phase_text(1, 0).put(&mut out) == Ok(()));
+    assert!(rt; phase_text(255, MOST).put(&mut out) == Ok(()));
     assert!(rt; out.calls() == 8, "a line is one piece");
     let text = "frames 1 bad 0 fixed 16 bits 296\n\
         frames 18446744073709551615 bad 18446744073709551615 fixed 18446744073709551615 bits 18446744073709551615\n\
@@ -298,7 +297,7 @@ fn lines_meet_a_full_sink(rt: HostRuntime) -> Result<(), Fail> {
     assert!(rt; frames_line(&mut out, 1, 2, 3, 4) == Err(Failed));
     assert!(rt; block_line(&mut out, after(1, 2), &block_of(2, 2, 0)) == Err(Failed));
     assert!(rt; blocks_line(&mut out, 1, 2, 3) == Err(Failed));
-    assert!(rt; phase_line(&mut out, 1, 2) == Err(Failed));
+    assert!(rt; phase_text(1, 2).put(&mut out) == Err(Failed));
     assert!(rt; out.octets() == "fra".as_bytes());
     Ok(())
 }

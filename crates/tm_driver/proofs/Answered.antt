@@ -2,7 +2,7 @@
 use Rattle.std.proofs.Common.{◌≡◌, ℕ, ◌+◌, ◌≤◌, Bool, true, List, length, Option, subst}
 use Rattle.tm_base.specs.Written.{Gave}
 use Rattle.tm_driver.specs.Answered.{Answered, AnsweredAlone, AnsweredWith}
-use Rattle.tm_driver.specs.Courses.{SinkCall, SinkState, SinkWent, SinksWent, SourceCall, SourceWent, unused}
+use Rattle.tm_driver.specs.Courses.{SinkCall, SinkState, SinkCourse, SinksCourse, SourceCall, SourceCourse, unused}
 use Rattle.tm_driver.specs.Meaning.{Ends, Meaning, taken_by}
 use Rattle.tm_driver.specs.Statuses.{is_sink_fault}
 use Rattle.tm_driver.specs.declared.ending.Ending.{Ending}
@@ -14,7 +14,7 @@ pub answered : (octets : List ℕ) (ending : Ending) (meaning : Meaning) (limit 
     → within ≡ limit → Gave source.before.given source.now.given source.before.left source.now.left octets
     → length octets ≤ within + 1
     → Ends ending meaning limit octets (taken_by out.before.taken out.now.taken notes.before.taken notes.now.taken)
-    → SourceWent ending source → SinksWent (is_sink_fault ending) out notes
+    → SourceCourse ending source → SinksCourse (is_sink_fault ending) out notes
     → AnsweredWith octets true ending meaning limit source out notes
 answered octets ending meaning limit within source out notes is gave at_most ends course sinks = record {
   gave = gave;
@@ -31,7 +31,7 @@ pub answered-alone : (octets : List ℕ) (ending : Ending) (meaning : Meaning) (
     → length octets ≤ within + 1
     → ((noted : Option (List ℕ)) → Ends ending meaning limit octets
     (taken_by out.before.taken out.now.taken noted noted))
-    → SourceWent ending source → SinkWent (is_sink_fault ending) out
+    → SourceCourse ending source → SinkCourse (is_sink_fault ending) out
     → AnsweredAlone true ending meaning limit source out
 answered-alone octets ending meaning limit within source out is gave at_most ends course sink = (
   octets,

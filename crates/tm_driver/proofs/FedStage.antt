@@ -64,14 +64,13 @@ takes-step took A B C before middle now taker taker_now piece at count step t = 
 }
 
 module _ {S T : Type 0} (took : T → Text → T → Type 0) (Stands : S → S → List ℕ → List Text → Type 0)
-    (new before now : S) (taker middle last : T) (limit : ℕ) (octets : List ℕ) (all : List Text)
-    (stood : Stands new before (take limit octets) all) (handed : HandedOver took taker all middle)
-    (most : limit ≤ most_limit) where
+    (new before now : S) (middle last : T) (limit : ℕ) (octets : List ℕ) (all : List Text)
+    (stood : Stands new before (take limit octets) all) (most : limit ≤ most_limit) where
   -- it was fed one more turn
   pub fed-turn : (After : S → S → List ℕ → List Text → Type 0) (turn piece : List ℕ)
       → take limit (octets ++ turn) ≡ take limit octets ++ piece
-      → Takes took Stands After before now middle last piece
-      → (texts : List Text) × After new now (take limit (octets ++ turn)) texts × HandedOver took taker texts last
+      → (t : Takes took Stands After before now middle last piece)
+      → After new now (take limit (octets ++ turn)) (all ++ t.texts)
   fed-turn After turn piece same t =
       let few : length (take limit octets) + length piece ≤ most_limit =
       omega (
@@ -80,34 +79,26 @@ module _ {S T : Type 0} (took : T → Text → T → Type 0) (Stands : S → S �
         length-append (take limit octets) piece,
         ap length same,
         length-take limit (octets ++ turn),
-      ) in (
-        all ++ t.texts,
-        subst (λ (o : List ℕ). After new now o (all ++ t.texts)) (sym same)
-            (t.stands new (take limit octets) all few stood),
-        HandedOver-append took taker middle last all t.texts handed t.handed,
-      )
+      ) in
+      subst (λ (o : List ℕ). After new now o (all ++ t.texts)) (sym same)
+      (t.stands new (take limit octets) all few stood)
 
   -- it goes on or has stopped
   pub fed-either : (Stopped : S → S → List ℕ → List Text → Type 0) (goes_on : Bool) (turn piece : List ℕ)
       → take limit (octets ++ turn) ≡ take limit octets ++ piece
       → (goes_on ≡ true → Takes took Stands Stands before now middle last piece)
       → (goes_on ≡ false → Takes took Stands Stopped before now middle last piece)
-      → (texts : List Text) × (Stands new now (take limit (octets ++ turn)) texts
-      ⊎ Stopped new now (take limit (octets ++ turn)) texts) × HandedOver took taker texts last
+      → (more : List Text) × (Stands new now (take limit (octets ++ turn)) (all ++ more)
+      ⊎ Stopped new now (take limit (octets ++ turn)) (all ++ more)) × HandedOver took middle more last
   fed-either Stopped true turn piece same on stops =
-      let f = fed-turn Stands turn piece same (on refl) in (f.0, inl f.1, f.2)
+      let t = on refl in (t.texts, inl (fed-turn Stands turn piece same t), t.handed)
   fed-either Stopped false turn piece same on stops =
-      let f = fed-turn Stopped turn piece same (stops refl) in (f.0, inr f.1, f.2)
+      let t = stops refl in (t.texts, inr (fed-turn Stopped turn piece same t), t.handed)
 
   pub fed-end : (Finished : S → S → List ℕ → List Text → Outcome → Type 0) (by : Outcome)
-      → TakesEnd took Stands Finished before now middle last by
-      → (texts : List Text) × Finished new now (take limit octets) texts by × HandedOver took taker texts last
-  fed-end Finished by t =
-      let few : length (take limit octets) ≤ most_limit = omega (arith, most, length-take limit octets) in (
-        all ++ t.texts,
-        t.finished new (take limit octets) all few stood,
-        HandedOver-append took taker middle last all t.texts handed t.handed,
-      )
+      → (t : TakesEnd took Stands Finished before now middle last by)
+      → Finished new now (take limit octets) (all ++ t.texts) by
+  fed-end Finished by t = t.finished new (take limit octets) all (omega (arith, most, length-take limit octets)) stood
 
 -- how it ended by its outcome
 pub staged-end : {S : Type 0} (stands stopped : S → List ℕ → List Text → Type 0)

@@ -1,6 +1,6 @@
 -- What was handed over one after another, by what holds at each step.
 use Rattle.std.proofs.Common.{◌≡◌, List, [], ◌∷◌, sym, ◌∙◌, ap}
-use Rattle.tm_base.specs.Takers.{HandedOver, HandedPart}
+use Rattle.tm_base.specs.Takers.{HandedOver}
 
 -- something that follows at each step
 pub handed-along : {T I : Type 0} (P Q : T → I → T → Type 0) → ((a : T) (i : I) (b : T) → P a i b → Q a i b)
@@ -10,19 +10,6 @@ handed-along P Q each [] a b handed = handed
 handed-along P Q each (i ∷ items) a b handed =
     (handed.0, each a i handed.0 handed.1, handed-along P Q each items handed.0 b handed.2)
 
-pub part-along : {T I : Type 0} (P Q B C : T → I → T → Type 0) → ((a : T) (i : I) (b : T) → P a i b → Q a i b)
-    → ((a : T) (i : I) (b : T) → B a i b → C a i b)
-    → (items : List I) (a b : T) → HandedPart P B a items b → HandedPart Q C a items b
-part-along P Q B C each last items a b part = record {
-  prefix = part.prefix;
-  next = part.next;
-  rest = part.rest;
-  middle = part.middle;
-  split = part.split;
-  handed = handed-along P Q each part.prefix a part.middle part.handed;
-  failed = last part.middle part.next b part.failed;
-}
-
 -- what each step keeps
 pub handed-keeps : {T I K : Type 0} (P : T → I → T → Type 0) (key : T → K)
     → ((a : T) (i : I) (b : T) → P a i b → key b ≡ key a)
@@ -30,10 +17,3 @@ pub handed-keeps : {T I K : Type 0} (P : T → I → T → Type 0) (key : T → 
 handed-keeps P key each [] a b handed = ap key (sym handed)
 handed-keeps P key each (i ∷ items) a b handed =
     handed-keeps P key each items handed.0 b handed.2 ∙ each a i handed.0 handed.1
-
-pub part-keeps : {T I K : Type 0} (P B : T → I → T → Type 0) (key : T → K)
-    → ((a : T) (i : I) (b : T) → P a i b → key b ≡ key a)
-    → ((a : T) (i : I) (b : T) → B a i b → key b ≡ key a)
-    → (items : List I) (a b : T) → HandedPart P B a items b → key b ≡ key a
-part-keeps P B key each last items a b part =
-    last part.middle part.next b part.failed ∙ handed-keeps P key each part.prefix a part.middle part.handed

@@ -1,7 +1,6 @@
 -- What sinks took of texts, one after another.
 use Rattle.std.proofs.Common.{◌≡◌, ℕ, zero, suc, ◌+◌, ◌≤◌, List, [], ◌∷◌, ◌++◌, length, take, refl, sym, ◌∙◌, ap, subst, append_assoc, Option}
 use Rattle.std.proofs.Math.Seq.{take-append-add, take-length}
-use Rattle.std.proofs.lemmas.List.{append-nil}
 use Rattle.std.specs.Io.KnownBytes.{append_known}
 use Rattle.tm_base.specs.Outside.{Rose}
 use Rattle.tm_base.specs.Written.{Wrote, WrotePrefix}
@@ -27,18 +26,10 @@ wrote-prefix before now text wrote = (length text, wrote ∙ ap (append_known be
 pub wrote-no_prefix : (known : Option (List ℕ)) (text : List ℕ) → WrotePrefix known known text
 wrote-no_prefix known text = (0, wrote-nothing known)
 
--- one text, and then another or a prefix of it
+-- one text, and then another
 pub wrote-then : (start now after : Option (List ℕ)) (a b : List ℕ) → Wrote start now a → Wrote now after b
     → Wrote start after (a ++ b)
 wrote-then start now after a b one two = two ∙ ap (λ k. append_known k b) one ∙ append_known-more start a b
-
-pub wrote-then_prefix : (start now after : Option (List ℕ)) (a b : List ℕ) → Wrote start now a
-    → WrotePrefix now after b → WrotePrefix start after (a ++ b)
-wrote-then_prefix start now after a b one two = (
-  length a + two.0,
-  two.1 ∙ ap (λ k. append_known k (take two.0 b)) one ∙ append_known-more start a (take two.0 b)
-      ∙ ap (append_known start) (sym (take-append-add a b two.0)),
-)
 
 -- a prefix of a text is a prefix of the text and more
 part-of : (n : ℕ) (text more : List ℕ) → (m : ℕ) × (take n text ≡ take m (text ++ more))
@@ -70,12 +61,14 @@ pub took-more : (a b c : SinkState) (x y : List ℕ) → TookText a b x → Took
 took-more a b c x y p q =
     record { written = wrote-then a.taken b.taken c.taken x y p.written q.written; same = q.same ∙ p.same }
 
+-- it failed in a text after more texts
 pub broke-later : (a b c : SinkState) (last : Type 0) (x first text : List ℕ) → TookText a b x
     → BrokeText b c last first text
     → BrokeText a c last (x ++ first) text
 broke-later a b c last x first text p q =
     let w = q.written in
     let part = take w.0 text in record {
+      some = q.some;
       written = (
         w.0,
         wrote-then a.taken b.taken c.taken x (first ++ part) p.written w.1
@@ -84,19 +77,3 @@ broke-later a b c last x first text p q =
       later = subst (λ (n : ℕ). n ≤ c.faults) p.same q.later;
       rose = subst (λ (n : ℕ). Rose n c.faults last) p.same q.rose;
     }
-
--- a sink took a text, and failed in the next
-pub broke-after : (a b c : SinkState) (last : Type 0) (x text : List ℕ) → TookText a b x → BrokeText b c last [] text
-    → BrokeText a c last x text
-broke-after a b c last x text p q =
-    subst (λ l. BrokeText a c last l text) (append-nil x) (broke-later a b c last x [] text p q)
-
--- where a sink failed, it has taken a prefix
-pub broke-prefix : (a c : SinkState) (last : Type 0) (first text more : List ℕ) → BrokeText a c last first text
-    → WrotePrefix a.taken c.taken (first ++ (text ++ more))
-broke-prefix a c last first text more p = part-prefix a.taken c.taken first text more p.written
-
--- where a sink took a text, it has taken a prefix of the text and more
-pub took-prefix : (a c : SinkState) (text more : List ℕ) → TookText a c text
-    → WrotePrefix a.taken c.taken (text ++ more)
-took-prefix a c text more p = prefix-of a.taken c.taken text more (wrote-prefix a.taken c.taken text p.written)

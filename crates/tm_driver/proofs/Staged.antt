@@ -1,17 +1,27 @@
 -- What each ending shows of a command, from what it gave to be written.
 use Rattle.std.proofs.Common.{inl, inr, ℕ, ◌≤◌, false, List, [], ◌++◌, length, take, subst, arith, length-take}
 use Rattle.std.proofs.lemmas.List.{append-nil}
-use Rattle.tm_driver.specs.Driven.{but_last_turn}
-use Rattle.tm_driver.specs.Meaning.{Ends, Meaning, Taken, WroteEarly}
+use Rattle.tm_driver.specs.Meaning.{Ends, Meaning, Output, Taken, WroteEarly, WrotePrefixes}
 use Rattle.tm_driver.specs.Staged.{StagedTo}
 use Rattle.tm_driver.specs.Statuses.{is_sink_fault}
+use Rattle.tm_driver.specs.Turns.{but_last_turn}
 use Rattle.tm_driver.specs.Writing.{Text, StopsIn, WroteTexts, output_of}
 use Rattle.tm_driver.specs.declared.ending.Ending.{Ending}
 use Rattle.tm_driver.specs.declared.ending.Ending.TheVariants.{Done, Bad, BadWindow, LeftOver, SourceFault, SinkFault, PastLimit}
 use Rattle.tm_driver.specs.declared.ending.Outcome.{Outcome}
 use Rattle.tm_driver.specs.declared.ending.Outcome.TheVariants as outcome
-use Rattle.tm_driver.proofs.Driven.{OutcomeShows, WroteInOrder}
 use Rattle.tm_driver.proofs.Writing.{both-prefix, stops-longer, stops-prefixes}
+
+-- prefixes of the output of these octets were written, in order
+abbrev WroteInOrder : Meaning → List ℕ → Taken → Type 0
+WroteInOrder meaning octets taken = (output : Output) × meaning.is_output octets output × WrotePrefixes output taken
+    × meaning.is_in_order octets output taken
+
+-- what an outcome shows of a whole input
+abbrev pub OutcomeShows : Meaning → List ℕ → Outcome → Type 0
+OutcomeShows meaning octets outcome.Done = (meaning.is_partial octets → ⊥) × (meaning.is_bad octets → ⊥)
+OutcomeShows meaning octets outcome.Bad = meaning.is_bad octets
+OutcomeShows meaning octets outcome.LeftOver = meaning.is_partial octets
 
 -- what is due for octets has this output, and is followed by the rest of all texts, whatever octets follow
 pub record Early (meaning : Meaning) (AreAll : List ℕ → List Text → Type 0) (octets : List ℕ)

@@ -4,12 +4,11 @@ use Rattle.std.proofs.lemmas.List.{append-nil, take_all}
 use Rattle.tm_base.specs.Takers.{HandedOver}
 use Rattle.tm_base.specs.Written.{Wrote, WrotePrefix}
 use Rattle.tm_base.proofs.Handing.{HandedOver-append}
-use Rattle.tm_driver.specs.Courses.{SinkState, SinksCourse}
+use Rattle.tm_driver.specs.Courses.{SinkCall, SinkState, SinksCourse}
 use Rattle.tm_driver.specs.Meaning.{Taken, WroteBoth, WrotePrefixes, taken_by}
-use Rattle.tm_driver.specs.Texts.{TookText}
-use Rattle.tm_driver.specs.Writing.{Text, Out, Note, AreOut, Sinks, StopsIn, TakesText, TookOrBroke, TookOut, TookPart, WritesText, WroteTexts, notes_of, out_of, output_of}
-use Rattle.tm_driver.proofs.SinkTexts.{part-prefix, prefix-of, took-none, wrote-as, wrote-nothing, wrote-prefix, wrote-then}
-use Rattle.tm_driver.proofs.TwoSinks.{fault-after}
+use Rattle.tm_driver.specs.Texts.{BrokeText, TookText}
+use Rattle.tm_driver.specs.Writing.{Text, Out, Note, AreOut, FailsAmong, FailsIn, Sinks, StopsIn, TakesText, TookOrBroke, TookOut, TookPart, WritesText, WroteTexts, notes_of, out_of, output_of}
+use Rattle.tm_driver.proofs.SinkTexts.{broke-later, part-prefix, prefix-of, took-more, took-none, wrote-as, wrote-nothing, wrote-prefix}
 
 -- ---- texts after texts
 
@@ -54,17 +53,20 @@ took_out-more took a b c x y p q = record {
 -- ---- texts that were written, and a sink that failed in one
 
 module _ {T : Type 0} (s : Sinks T) where
-  abbrev pub TakenOf : T → T → Taken
-  TakenOf a b = taken_by (s.out a).taken (s.out b).taken (s.notes a).taken (s.notes b).taken
+  abbrev OutCall : T → T → SinkCall
+  OutCall a b = record { before = s.out a; now = s.out b; is_last = s.out_last b }
 
-  -- what the sinks went through with these texts
-  abbrev pub Went : Bool → List Text → T → T → Type 0
-  Went failed texts a b = WroteTexts failed texts (TakenOf a b)
-      × SinksCourse failed (s.out a) (s.out b) (s.out_last b) (s.notes a) (s.notes b) (s.notes_last b)
+  abbrev NotesCall : T → T → SinkCall
+  NotesCall a b = record { before = s.notes a; now = s.notes b; is_last = s.notes_last b }
 
   record TookBoth (a b : T) (texts : List Text) : Type 0 where
     pub out : TookText (s.out a) (s.out b) (out_of texts)
     pub notes : TookText (s.notes a) (s.notes b) (notes_of texts)
+
+  -- what the sinks went through with these texts
+  abbrev Went : Bool → List Text → T → T → Type 0
+  Went false texts a b = TookBoth a b texts
+  Went true texts a b = FailsAmong [] texts (OutCall a b) (NotesCall a b)
 
   -- after a fault nothing changes
   stays : (texts : List Text) (a b : T) → s.has_failed a ≡ true → HandedOver (TakesText s) a texts b → b ≡ a
@@ -73,66 +75,37 @@ module _ {T : Type 0} (s : Sinks T) where
       let same = over.1.failed failed in
       stays texts over.0 b (ap s.has_failed same ∙ failed) over.2 ∙ same
 
-  part-after : (a m b : T) (first more : List Text) (next : Text) → TookBoth a m first
-      → TookPart more next (TakenOf m b) → TookPart (first ++ more) next (TakenOf a b)
-  part-after a m b first more (Out text) took part = (
-    (
-      part.0.0,
-      wrote-as (s.out a).taken (s.out b).taken (out_of first ++ (out_of more ++ take part.0.0 text))
-          (out_of (first ++ more) ++ take part.0.0 text)
-          (sym (append_assoc (out_of first) (out_of more) (take part.0.0 text))
-          ∙ ap (λ l. l ++ take part.0.0 text) (sym (out_of-append first more)))
-          (wrote-then (s.out a).taken (s.out m).taken (s.out b).taken (out_of first) (out_of more ++ take part.0.0 text)
-          took.out.written part.0.1),
-    ),
-    wrote-as (s.notes a).taken (s.notes b).taken (notes_of first ++ notes_of more) (notes_of (first ++ more))
-        (sym (notes_of-append first more))
-        (wrote-then (s.notes a).taken (s.notes m).taken (s.notes b).taken (notes_of first) (notes_of more)
-        took.notes.written part.1),
+  fails-after : (a m b : T) (first more : List Text) (next : Text) → TookBoth a m first
+      → FailsIn more next (OutCall m b) (NotesCall m b) → FailsIn (first ++ more) next (OutCall a b) (NotesCall a b)
+  fails-after a m b first more (Out text) took fails = (
+    subst (λ (l : List ℕ). BrokeText (s.out a) (s.out b) (s.out_last b) l text) (sym (out_of-append first more))
+        (broke-later (s.out a) (s.out m) (s.out b) (s.out_last b) (out_of first) (out_of more) text took.out fails.0),
+    subst (TookText (s.notes a) (s.notes b)) (sym (notes_of-append first more))
+        (took-more (s.notes a) (s.notes m) (s.notes b) (notes_of first) (notes_of more) took.notes fails.1),
   )
-  part-after a m b first more (Note text) took part = (
-    wrote-as (s.out a).taken (s.out b).taken (out_of first ++ out_of more) (out_of (first ++ more))
-        (sym (out_of-append first more))
-        (wrote-then (s.out a).taken (s.out m).taken (s.out b).taken (out_of first) (out_of more)
-        took.out.written part.0),
-    (
-      part.1.0,
-      wrote-as (s.notes a).taken (s.notes b).taken (notes_of first ++ (notes_of more ++ take part.1.0 text))
-          (notes_of (first ++ more) ++ take part.1.0 text)
-          (sym (append_assoc (notes_of first) (notes_of more) (take part.1.0 text))
-          ∙ ap (λ l. l ++ take part.1.0 text) (sym (notes_of-append first more)))
-          (wrote-then (s.notes a).taken (s.notes m).taken (s.notes b).taken (notes_of first)
-          (notes_of more ++ take part.1.0 text) took.notes.written part.1.1),
-    ),
+  fails-after a m b first more (Note text) took fails = (
+    subst (TookText (s.out a) (s.out b)) (sym (out_of-append first more))
+        (took-more (s.out a) (s.out m) (s.out b) (out_of first) (out_of more) took.out fails.0),
+    subst (λ (l : List ℕ). BrokeText (s.notes a) (s.notes b) (s.notes_last b) l text) (sym (notes_of-append first more))
+        (broke-later (s.notes a) (s.notes m) (s.notes b) (s.notes_last b) (notes_of first) (notes_of more) text
+        took.notes fails.1),
   )
 
   went-after : (failed : Bool) (a m b : T) (first texts : List Text) → TookBoth a m first → Went failed texts m b
       → Went failed (first ++ texts) a b
-  went-after false a m b first texts took went = (
-    record {
-      out = wrote-as (s.out a).taken (s.out b).taken (out_of first ++ out_of texts) (out_of (first ++ texts))
-          (sym (out_of-append first texts))
-          (wrote-then (s.out a).taken (s.out m).taken (s.out b).taken (out_of first) (out_of texts) took.out.written
-          went.0.out);
-      notes = wrote-as (s.notes a).taken (s.notes b).taken (notes_of first ++ notes_of texts) (notes_of (first ++ texts))
-          (sym (notes_of-append first texts))
-          (wrote-then (s.notes a).taken (s.notes m).taken (s.notes b).taken (notes_of first) (notes_of texts)
-          took.notes.written went.0.notes);
-    },
-    fault-after false (s.out a) (s.out m) (s.out b) (s.out_last m) (s.out_last b) (s.notes a) (s.notes m) (s.notes b)
-        (s.notes_last m) (s.notes_last b) (took.out.same, took.notes.same) went.1,
-  )
-  went-after true a m b first texts took went = (
-    record {
-      first = first ++ went.0.first;
-      next = went.0.next;
-      rest = went.0.rest;
-      split = ap (λ l. first ++ l) went.0.split ∙ sym (append_assoc first went.0.first (went.0.next ∷ went.0.rest));
-      part = part-after a m b first went.0.first went.0.next took went.0.part;
-    },
-    fault-after true (s.out a) (s.out m) (s.out b) (s.out_last m) (s.out_last b) (s.notes a) (s.notes m) (s.notes b)
-        (s.notes_last m) (s.notes_last b) (took.out.same, took.notes.same) went.1,
-  )
+  went-after false a m b first texts took went = record {
+    out = subst (TookText (s.out a) (s.out b)) (sym (out_of-append first texts))
+        (took-more (s.out a) (s.out m) (s.out b) (out_of first) (out_of texts) took.out went.out);
+    notes = subst (TookText (s.notes a) (s.notes b)) (sym (notes_of-append first texts))
+        (took-more (s.notes a) (s.notes m) (s.notes b) (notes_of first) (notes_of texts) took.notes went.notes);
+  }
+  went-after true a m b first texts took went = record {
+    middle = first ++ went.middle;
+    next = went.next;
+    rest = went.rest;
+    split = ap (λ l. first ++ l) went.split ∙ sym (append_assoc first went.middle (went.next ∷ went.rest));
+    fails = fails-after a m b first went.middle went.next took went.fails;
+  }
 
   same-text : (before now : SinkState) → now ≡ before → TookText before now []
   same-text before now same = subst (λ (k : SinkState). TookText before k []) (sym same) (took-none before)
@@ -151,46 +124,77 @@ module _ {T : Type 0} (s : Sinks T) where
   }
 
   -- or its sink failed in it
-  broke-one : (text : Text) (texts : List Text) (a m : T) → s.has_failed m ≡ true → WritesText s a text m
-      → Went true (text ∷ texts) a m
-  broke-one (Out text) texts a m failed p =
-      let broke = subst (TookOrBroke (s.out a) (s.out m) (s.out_last m) text) failed p.0 in
-      let same = same-text (s.notes a) (s.notes m) p.1 in (
-        record { first = []; next = Out text; rest = texts; split = refl; part = (broke.written, same.written) },
-        inl ((broke.rose, broke.later), same.same),
-      )
-  broke-one (Note text) texts a m failed p =
-      let broke = subst (TookOrBroke (s.notes a) (s.notes m) (s.notes_last m) text) failed p.0 in
-      let same = same-text (s.out a) (s.out m) p.1 in (
-        record { first = []; next = Note text; rest = texts; split = refl; part = (same.written, broke.written) },
-        inr ((broke.rose, broke.later), same.same),
-      )
-
-  went-none : (a : T) → Went false [] a a
-  went-none a = (
-    record { out = wrote-nothing (s.out a).taken; notes = wrote-nothing (s.notes a).taken },
-    (refl, refl),
+  broke-one : (text : Text) (a m : T) → s.has_failed m ≡ true → WritesText s a text m
+      → FailsIn [] text (OutCall a m) (NotesCall a m)
+  broke-one (Out text) a m failed p = (
+    subst (TookOrBroke (s.out a) (s.out m) (s.out_last m) text) failed p.0,
+    same-text (s.notes a) (s.notes m) p.1,
+  )
+  broke-one (Note text) a m failed p = (
+    same-text (s.out a) (s.out m) p.1,
+    subst (TookOrBroke (s.notes a) (s.notes m) (s.notes_last m) text) failed p.0,
   )
 
-  pub went : (texts : List Text) (a b : T) → s.has_failed a ≡ false → HandedOver (TakesText s) a texts b
-      → Went (s.has_failed b) texts a b
-  went [] a b going over = subst (λ (k : T). Went (s.has_failed k) [] a k) over
-      (subst (λ (f : Bool). Went f [] a a) (sym going) (went-none a))
-  went (text ∷ texts) a b going over =
-      let m = over.0 in
-      let step = over.1.going going in
-      which (s.has_failed m) refl
-      (λ fine. went-after (s.has_failed b) a m b (text ∷ []) texts (took-one text a m fine step)
-      (went texts m b fine over.2))
-      (λ failed.
-      let same = stays texts m b failed over.2 in
-      subst (λ (k : T). Went (s.has_failed k) (text ∷ texts) a k) (sym same)
-      (subst (λ (f : Bool). Went f (text ∷ texts) a m) (sym failed) (broke-one text texts a m failed step)))
+  went : (failed : Bool) (texts : List Text) (a b : T) → s.has_failed a ≡ false
+      → HandedOver (TakesText s) a texts b → s.has_failed b ≡ failed → Went failed texts a b
+  went true [] a b going over is = absurd cc
+  went false [] a b going over is = subst (λ (k : T). TookBoth a k []) over
+      (record { out = took-none (s.out a); notes = took-none (s.notes a) })
+  went failed (text ∷ texts) a b going over is =
+      which (s.has_failed over.0) refl (over.1.going going) (λ fine. went failed texts over.0 b fine over.2 is)
     where
-      which : {P : Type 0} (f : Bool) → s.has_failed over.0 ≡ f → (s.has_failed over.0 ≡ false → P)
-          → (s.has_failed over.0 ≡ true → P) → P
-      which true is fine failed = failed is
-      which false is fine failed = fine is
+      which : (f : Bool) → s.has_failed over.0 ≡ f → WritesText s a text over.0
+          → (s.has_failed over.0 ≡ false → Went failed texts over.0 b) → Went failed (text ∷ texts) a b
+      which false fine step later =
+          went-after failed a over.0 b (text ∷ []) texts (took-one text a over.0 fine step) (later fine)
+      which true broken step later =
+          let same = stays texts over.0 b broken over.2 in
+          subst (λ (f : Bool). Went f (text ∷ texts) a b) (sym broken ∙ ap s.has_failed (sym same) ∙ is)
+          (subst (λ (k : T). Went true (text ∷ texts) a k) (sym same) (record {
+            middle = [];
+            next = text;
+            rest = texts;
+            split = refl;
+            fails = broke-one text a over.0 broken step;
+          }))
+
+  -- where a sink failed in the last texts, those before them were written
+  pub fails-last : (fed last : List Text) (a m b : T) → s.has_failed a ≡ false → HandedOver (TakesText s) a fed m
+      → s.has_failed m ≡ false → HandedOver (TakesText s) m last b → s.has_failed b ≡ true
+      → FailsAmong fed last (OutCall a b) (NotesCall a b)
+  fails-last fed last a m b going over fine more broken =
+      let f = went true last m b fine more broken in record {
+        middle = f.middle;
+        next = f.next;
+        rest = f.rest;
+        split = f.split;
+        fails = fails-after a m b fed f.middle f.next (went false fed a m going over fine) f.fails;
+      }
+
+-- what the sinks took then, and went through
+part-of-fails : (first : List Text) (next : Text) (out notes : SinkCall) → FailsIn first next out notes
+    → TookPart first next (taken_by out.before.taken out.now.taken notes.before.taken notes.now.taken)
+    × SinksCourse true out notes
+part-of-fails first (Out text) out notes fails = (
+  (fails.0.written, fails.1.written),
+  inl ((fails.0.rose, fails.0.later), fails.1.same),
+)
+part-of-fails first (Note text) out notes fails = (
+  (fails.0.written, fails.1.written),
+  inr ((fails.1.rose, fails.1.later), fails.0.same),
+)
+
+pub wrote-texts : {T : Type 0} (s : Sinks T) (failed : Bool) (texts : List Text) (a b : T) → s.has_failed a ≡ false
+    → HandedOver (TakesText s) a texts b → s.has_failed b ≡ failed
+    → WroteTexts failed texts (taken_by (s.out a).taken (s.out b).taken (s.notes a).taken (s.notes b).taken)
+    × SinksCourse failed (OutCall s a b) (NotesCall s a b)
+wrote-texts s false texts a b going over is =
+    let w = went s false texts a b going over is in
+    (record { out = w.out.written; notes = w.notes.written }, (w.out.same, w.notes.same))
+wrote-texts s true texts a b going over is =
+    let w = went s true texts a b going over is in
+    let p = part-of-fails w.middle w.next _ _ w.fails in
+    (record { first = w.middle; next = w.next; rest = w.rest; split = w.split; part = p.0 }, p.1)
 
 -- ---- prefixes
 

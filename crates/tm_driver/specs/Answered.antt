@@ -1,7 +1,7 @@
 -- What a command answers.
 use Rattle.std.specs.Prelude.{◌≡◌, ℕ, ◌+◌, ◌≤◌, Bool, true, List, length}
 use Rattle.tm_base.specs.Written.{Gave}
-use Rattle.tm_driver.specs.Courses.{SinkCall, SinkState, SinksWent, SourceCall, SourceWent, unused}
+use Rattle.tm_driver.specs.Courses.{SinkCall, SinkState, SinksCourse, SourceCall, SourceCourse, unused}
 use Rattle.tm_driver.specs.Meaning.{Ends, Meaning, taken_by}
 use Rattle.tm_driver.specs.Statuses.{is_sink_fault}
 use Rattle.tm_driver.specs.declared.ending.Ending.{Ending}
@@ -15,8 +15,8 @@ pub record AnsweredWith (octets : List ℕ) (reads : Bool) (ending : Ending) (me
   -- what was written then, and what the source and the sinks went through
   pub ends : Ends ending meaning limit octets
       (taken_by out.before.taken out.now.taken notes.before.taken notes.now.taken)
-  pub course : reads ≡ true → SourceWent ending source
-  pub sinks : SinksWent (is_sink_fault ending) out notes
+  pub course : reads ≡ true → SourceCourse ending source
+  pub sinks : SinksCourse (is_sink_fault ending) out notes
 
 -- what it did with some octets
 abbrev pub Answered : (reads : Bool) → Ending → Meaning → (limit : ℕ) → SourceCall

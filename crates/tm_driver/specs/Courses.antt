@@ -29,44 +29,16 @@ pub record SinkState : Type 0 where
 abbrev pub sink_state : Option (List ℕ) → ℕ → SinkState
 sink_state taken faults = record { taken = taken; faults = faults }
 
--- What a source went through by which a command read that ended so. Its count of faults can't rise
--- any more where `is_last` holds.
-pub record SourceCourse (ending : Ending) (before now : SourceState)
-    (is_last : Type 0) : Type 0 where
-  -- it reported its end, and where it says which octets it has none is left
-  pub ended : (ending ≡ Done) ⊎ (ending ≡ Bad) ⊎ (ending ≡ LeftOver) → (now.ended ≡ true)
-      × IsAtEnd now.left
-  -- it did not report its end in this call
-  pub unended : (ending ≡ SourceFault) ⊎ (ending ≡ PastLimit) ⊎ (ending ≡ BadWindow)
-      → now.ended ≡ before.ended
-  pub fault : ending ≡ SourceFault → Rose before.faults now.faults is_last
-  pub later : before.faults ≤ now.faults
-  pub same : (ending ≡ SourceFault → ⊥) → now.faults ≡ before.faults
+-- ---- over a call
 
--- one sink failed, or none did
-abbrev pub SinkCourse : (failed : Bool) → (before now : SinkState) → Type 0 → Type 0
-SinkCourse true before now is_last = Rose before.faults now.faults is_last
-    × (before.faults ≤ now.faults)
-SinkCourse false before now is_last = now.faults ≡ before.faults
-
--- the same of two sinks, of which just one failed, or none did
-abbrev pub SinksCourse : (failed : Bool) → (out out_now : SinkState) → Type 0
-    → (notes notes_now : SinkState) → Type 0 → Type 0
-SinksCourse true out out_now out_last notes notes_now notes_last =
-    (SinkCourse true out out_now out_last × SinkCourse false notes notes_now notes_last)
-    ⊎ (SinkCourse true notes notes_now notes_last × SinkCourse false out out_now out_last)
-SinksCourse false out out_now out_last notes notes_now notes_last =
-    SinkCourse false out out_now out_last × SinkCourse false notes notes_now notes_last
-
--- ---- the same of a source and of sinks by what they say of themselves
-
--- a source over a call: where it stood before, where it stands after, and that its count of faults
--- can't rise any more
+-- where a source stood before a call, where it stands after, and that its count of faults can't
+-- rise any more
 pub record SourceCall : Type 1 where
   pub before : SourceState
   pub now : SourceState
   pub is_last : Type 0
 
+-- by what a source says of itself
 abbrev pub source_call : {S : Type 0} → (given left : S → Option (List ℕ)) → (ended : S → Bool)
     → (faults : S → ℕ) → (is_last : S → Type 0) → (before now : S) → SourceCall
 source_call given left ended faults is_last before now = record {
@@ -75,7 +47,7 @@ source_call given left ended faults is_last before now = record {
   is_last = is_last now;
 }
 
--- a sink over a call
+-- and of a sink
 pub record SinkCall : Type 1 where
   pub before : SinkState
   pub now : SinkState
@@ -93,19 +65,35 @@ sink_call taken faults is_last before now = record {
 abbrev pub unused : SinkState → SinkCall
 unused sink = record { before = sink; now = sink; is_last = ⊥ }
 
-abbrev pub SourceWent : Ending → SourceCall → Type 0
-SourceWent ending source = SourceCourse ending source.before source.now source.is_last
+-- ---- what they went through
 
-abbrev pub SinkWent : (failed : Bool) → SinkCall → Type 0
-SinkWent failed sink = SinkCourse failed sink.before sink.now sink.is_last
+-- a source by which a command read that ended so
+pub record SourceCourse (ending : Ending) (source : SourceCall) : Type 0 where
+  -- it reported its end, and where it says which octets it has none is left
+  pub ended : (ending ≡ Done) ⊎ (ending ≡ Bad) ⊎ (ending ≡ LeftOver)
+      → (source.now.ended ≡ true) × IsAtEnd source.now.left
+  -- it did not report its end in this call
+  pub unended : (ending ≡ SourceFault) ⊎ (ending ≡ PastLimit) ⊎ (ending ≡ BadWindow)
+      → source.now.ended ≡ source.before.ended
+  pub fault : ending ≡ SourceFault → Rose source.before.faults source.now.faults source.is_last
+  pub later : source.before.faults ≤ source.now.faults
+  pub same : (ending ≡ SourceFault → ⊥) → source.now.faults ≡ source.before.faults
 
-abbrev pub SinksWent : (failed : Bool) → (out notes : SinkCall) → Type 0
-SinksWent failed out notes =
-    SinksCourse failed out.before out.now out.is_last notes.before notes.now notes.is_last
+-- one sink failed, or none did
+abbrev pub SinkCourse : (failed : Bool) → SinkCall → Type 0
+SinkCourse true sink = Rose sink.before.faults sink.now.faults sink.is_last
+    × (sink.before.faults ≤ sink.now.faults)
+SinkCourse false sink = sink.now.faults ≡ sink.before.faults
+
+-- the same of two sinks, of which just one failed, or none did
+abbrev pub SinksCourse : (failed : Bool) → (out notes : SinkCall) → Type 0
+SinksCourse true out notes = (SinkCourse true out × SinkCourse false notes)
+    ⊎ (SinkCourse true notes × SinkCourse false out)
+SinksCourse false out notes = SinkCourse false out × SinkCourse false notes
 
 -- A sink failed, and nothing went on: the output did, the end of the input was not reported yet and
 -- the notes are as they were; or the notes did, and all was read and sent.
 abbrev pub StopsAtSink : SourceCall → (out notes : SinkCall) → Type 0
 StopsAtSink source out notes =
-    (SinkWent true out × (source.now.ended ≡ source.before.ended) × (notes.now ≡ notes.before))
-    ⊎ (SinkWent true notes × (source.now.ended ≡ true) × (out.now.faults ≡ out.before.faults))
+    (SinkCourse true out × (source.now.ended ≡ source.before.ended) × (notes.now ≡ notes.before))
+    ⊎ (SinkCourse true notes × (source.now.ended ≡ true) × (out.now.faults ≡ out.before.faults))

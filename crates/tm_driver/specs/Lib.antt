@@ -2,7 +2,7 @@ pub mod Courses
 pub mod Texts
 pub mod Lines
 pub mod Statuses
-pub mod Driven
+pub mod Turns
 pub mod Meaning
 pub mod Answered
 pub mod Writing

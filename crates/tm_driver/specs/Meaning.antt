@@ -1,7 +1,7 @@
 -- What a command writes, and what each way to end shows of it.
 use Rattle.std.specs.Prelude.{◌≡◌, ℕ, ◌+◌, ◌≤◌, List, ◌++◌, length, take, Option}
 use Rattle.tm_base.specs.Written.{Wrote, WrotePrefix}
-use Rattle.tm_driver.specs.Driven.{but_last_turn}
+use Rattle.tm_driver.specs.Turns.{but_last_turn}
 use Rattle.tm_driver.specs.declared.ending.Ending.{Ending}
 use Rattle.tm_driver.specs.declared.ending.Ending.TheVariants.{Done, Bad, BadWindow, LeftOver, SourceFault, SinkFault, PastLimit}
 

@@ -50,3 +50,25 @@ StagedTo stands stopped finished limit now SinkFault octets texts =
     ⊎ ((by : Outcome) × finished now (take limit octets) texts by)
 StagedTo stands stopped finished limit now PastLimit octets texts =
     stands now (take limit octets) texts × (length octets ≡ limit + 1)
+
+-- a stage was given the end, and had given these texts before it, and then the last ones
+pub record EndsWith {S : Type 0} (stands : S → List ℕ → List Text → Type 0)
+    (finished : S → List ℕ → List Text → Outcome → Type 0) (now : S)
+    (fed last : List Text) : Type 0 where
+  pub octets : List ℕ
+  pub before : S
+  pub stood : stands before octets fed
+  pub outcome : Outcome
+  pub ends : finished now octets (fed ++ last) outcome
+
+-- A sink failed in the texts that a stage gave last, and those before them were written. The end of
+-- the input had not been reported, or the stage gave the last texts at the end.
+pub record Halts {S : Type 0} (stands stopped : S → List ℕ → List Text → Type 0)
+    (finished : S → List ℕ → List Text → Outcome → Type 0) (now : S) (ended unended : Type 0)
+    (Fails : (fed last : List Text) → Type 0) : Type 0 where
+  pub fed : List Text
+  pub last : List Text
+  pub fails : Fails fed last
+  pub when : (unended × (octets : List ℕ) × (stands now octets (fed ++ last)
+      ⊎ stopped now octets (fed ++ last)))
+      ⊎ (ended × EndsWith stands finished now fed last)

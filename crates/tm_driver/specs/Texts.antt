@@ -1,5 +1,5 @@
 -- What a sink took of a text.
-use Rattle.std.specs.Prelude.{◌≡◌, ◌⊎◌, ℕ, ◌≤◌, List, ◌++◌, take, Option}
+use Rattle.std.specs.Prelude.{◌≡◌, ◌⊎◌, ℕ, ◌<◌, ◌≤◌, List, ◌++◌, length, take, Option}
 use Rattle.tm_base.specs.Outside.{Rose}
 use Rattle.tm_base.specs.Written.{Wrote}
 use Rattle.tm_driver.specs.Courses.{SinkState}
@@ -9,9 +9,10 @@ pub record TookText (before now : SinkState) (text : List ℕ) : Type 0 where
   pub written : Wrote before.taken now.taken text
   pub same : now.faults ≡ before.faults
 
--- it took the whole of `first`, and failed in the text after it
+-- it took the whole of `first`, and failed in the text after it, which is not empty
 pub record BrokeText (before now : SinkState) (is_last : Type 0)
     (first text : List ℕ) : Type 0 where
+  pub some : 0 < length text
   pub written : (count : ℕ) × Wrote before.taken now.taken (first ++ take count text)
   pub later : before.faults ≤ now.faults
   pub rose : Rose before.faults now.faults is_last

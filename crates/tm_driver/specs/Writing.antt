@@ -2,7 +2,7 @@
 use Rattle.std.specs.Prelude.{◌≡◌, ℕ, Bool, true, false, List, [], ◌∷◌, ◌++◌, take}
 use Rattle.tm_base.specs.Takers.{HandedOver}
 use Rattle.tm_base.specs.Written.{Wrote}
-use Rattle.tm_driver.specs.Courses.{SinkState}
+use Rattle.tm_driver.specs.Courses.{SinkCall, SinkState}
 use Rattle.tm_driver.specs.Meaning.{Output, Taken, WroteBoth}
 use Rattle.tm_driver.specs.Texts.{BrokeText, TookText}
 
@@ -59,6 +59,22 @@ pub record StopsIn (texts : List Text) (taken : Taken) : Type 0 where
 abbrev pub WroteTexts : (failed : Bool) → List Text → Taken → Type 0
 WroteTexts false texts taken = WroteBoth (output_of texts) taken
 WroteTexts true texts taken = StopsIn texts taken
+
+-- a sink failed in a text that comes after others, all of which were taken
+abbrev pub FailsIn : List Text → Text → (out notes : SinkCall) → Type 0
+FailsIn first (Out text) out notes =
+    BrokeText out.before out.now out.is_last (out_of first) text
+    × TookText notes.before notes.now (notes_of first)
+FailsIn first (Note text) out notes = TookText out.before out.now (out_of first)
+    × BrokeText notes.before notes.now notes.is_last (notes_of first) text
+
+-- a sink failed in one of the last texts, and nothing after it was begun
+pub record FailsAmong (fed last : List Text) (out notes : SinkCall) : Type 0 where
+  pub middle : List Text
+  pub next : Text
+  pub rest : List Text
+  pub split : last ≡ middle ++ next ∷ rest
+  pub fails : FailsIn (fed ++ middle) next out notes
 
 -- ---- what a text does to a writer
 

@@ -1,6 +1,6 @@
 // How a command ended.
 ghost use Rattle.std.specs.Prelude.{◌≡◌};
-ghost use Rattle.tm_driver.specs.Statuses.{ending_at_end, ending_of_stop, status_of};
+ghost use Rattle.tm_driver.specs.Statuses.{ending_at_end, status_of};
 
 /// How a command ended.
 #[derive(Clone, Copy, Debug, PartialEq, Eq)]
@@ -59,27 +59,6 @@ impl Outcome {
             Outcome::Done => Ending::Done,
             Outcome::Bad => Ending::Bad,
             Outcome::LeftOver => Ending::LeftOver,
-        }
-    }
-}
-
-/// Why a command takes no more octets before the end of its input.
-#[derive(Clone, Copy, Debug, PartialEq, Eq)]
-pub enum Stop {
-    /// A sink failed.
-    SinkFault,
-    /// A window of a certificate fails.
-    BadWindow,
-}
-
-impl Stop {
-    /// How the command ended by it.
-    pub fn ending(self) -> Ending
-        ensures { result ≡ ending_of_stop self }
-    {
-        match self {
-            Stop::SinkFault => Ending::SinkFault,
-            Stop::BadWindow => Ending::BadWindow,
         }
     }
 }

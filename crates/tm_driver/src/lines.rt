@@ -1,14 +1,11 @@
 // The lines that several commands write.
-ghost use Rattle.std.specs.Prelude.{◌≡◌, ◌+◌, ◌≤◌, ◌++◌, length, IfOk, OnOk, OnErr};
-ghost use Rattle.tm_base.specs.Outside.{HasCause};
-ghost use Rattle.tm_base.specs.Written.{Wrote, WrotePrefix};
+ghost use Rattle.std.specs.Prelude.{◌≡◌, ◌+◌, ◌≤◌, ◌++◌, length};
 ghost use Rattle.tm_driver.specs.Lines.{left_over_text, line_room, outcome_by, phase_text, slips_text};
 ghost use Rattle.tm_driver.specs.Writing.{Note};
 
 use crate::ending::Outcome;
 use crate::line::Line;
 use crate::text_taker::TextTaker;
-use tm_base::{Failed, Sink};
 
 // How many octets follow the last whole frame or record, where there are some.
 fn left_over_text(rest: u32) -> Line
@@ -34,20 +31,6 @@ fn outcome_by(rest: u32) -> Outcome
     }
 }
 
-/// Writes how many octets follow the last whole frame or record, where there are some, and returns what came of the
-/// input by that.
-pub fn report_rest<N: Sink>(notes: &mut N, rest: u32) -> Result<Outcome, Failed>
-    ensures ok { IfOk result (λ outcome. (outcome ≡ outcome_by rest)
-        × Wrote (N.taken notes.old) (N.taken notes.new) (left_over_text rest)) }
-    ensures err { OnErr result (WrotePrefix (N.taken notes.old) (N.taken notes.new) (left_over_text rest)) }
-    ensures cause { HasCause (N.faults notes.old) (N.faults notes.new) (N.is_last notes.new) result }
-{
-    match left_over_text(rest).put(notes) {
-        Ok(()) => Ok(outcome_by(rest)),
-        Err(Failed) => Err(Failed),
-    }
-}
-
 /// Gives to the notes how many octets follow the last whole frame or record, where there are some, and returns what came
 /// of the input by that.
 pub fn note_rest<W: TextTaker>(texts: &mut W, rest: u32) -> Outcome
@@ -70,15 +53,6 @@ pub fn phase_text(skip: u8, cost: u64) -> Line
     line.number(cost);
     line.text(b"\n");
     line
-}
-
-/// Writes the symbol phase that was chosen. `Failed` comes only where the sink's count of faults rose.
-pub fn phase_line<O: Sink>(out: &mut O, skip: u8, cost: u64) -> Result<(), Failed>
-    ensures ok { OnOk result (Wrote (O.taken out.old) (O.taken out.new) (phase_text skip cost)) }
-    ensures err { OnErr result (WrotePrefix (O.taken out.old) (O.taken out.new) (phase_text skip cost)) }
-    ensures cause { HasCause (O.faults out.old) (O.faults out.new) (O.is_last out.new) result }
-{
-    phase_text(skip, cost).put(out)
 }
 
 /// Adds before how many windows octets were dropped, a line of its own: `slips N`; nothing where the symbol phase is

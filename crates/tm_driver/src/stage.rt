@@ -1,21 +1,24 @@
 // What turns a stream of octets into texts, and the driver that feeds it.
-ghost use Rattle.std.specs.Prelude.{◌≡◌, ℕ, ◌+◌, ◌≤◌, Bool, true, List, [], length, if◌then◌else◌, false, IsTrue};
+ghost use Rattle.std.specs.Prelude.{◌≡◌, ℕ, ◌+◌, ◌≤◌, true, List, [], length, false, IsTrue};
 ghost use Rattle.tm_base.specs.Limits.{most_limit};
 ghost use Rattle.tm_base.specs.Takers.{HandedOver};
 ghost use Rattle.tm_base.specs.Written.{Gave};
-ghost use Rattle.tm_driver.specs.Courses.{SinksWent, SourceWent, sink_call, source_call};
-ghost use Rattle.tm_driver.specs.Driven.{turn_size};
+ghost use Rattle.tm_driver.specs.Courses.{SinksCourse, SourceCourse, sink_call, source_call};
+ghost use Rattle.tm_driver.specs.Turns.{turn_size};
 ghost use Rattle.tm_driver.specs.Meaning.{taken_by};
-ghost use Rattle.tm_driver.specs.Staged.{StagedTo, Takes, TakesEnd};
+ghost use Rattle.tm_driver.specs.Staged.{Halts, StagedTo, Takes, TakesEnd};
 ghost use Rattle.tm_driver.specs.Statuses.{is_sink_fault};
-ghost use Rattle.tm_driver.specs.Writing.{Text, WroteTexts};
+ghost use Rattle.tm_driver.specs.Writing.{FailsAmong, Text, WroteTexts};
+ghost use Rattle.tm_driver.specs.declared.ending.Ending.TheVariants.{SinkFault};
 ghost use Rattle.tm_driver.specs.declared.ending.Outcome.{Outcome};
 
-use crate::driver::TURN;
 use crate::ending::{Ending, Outcome};
 use crate::text_taker::TextTaker;
 use crate::writer::Writer;
 use tm_base::{Failed, Sink, Source};
+
+/// The most octets that a turn reads.
+pub const TURN: usize = 4096;
 
 /// Takes a stream of octets in pieces, and then its end, and gives texts as it goes. It never fails, and meets no
 /// fault: the driver writes the texts.
@@ -65,9 +68,13 @@ pub fn drive_stage<S: Source, T: Stage, O: Sink, N: Sink>(
         × StagedTo (T.stands stage.old) (T.stopped stage.old) (T.finished stage.old) limit stage.new result octets texts
         × WroteTexts (is_sink_fault result) texts
         (taken_by (O.taken out.old) (O.taken out.new) (N.taken notes.old) (N.taken notes.new)) }
-    ensures source { SourceWent result (source_call S.given S.left S.ended S.faults S.is_last source.old source.new) }
-    ensures sinks { SinksWent (is_sink_fault result) (sink_call O.taken O.faults O.is_last out.old out.new)
+    ensures source { SourceCourse result (source_call S.given S.left S.ended S.faults S.is_last source.old source.new) }
+    ensures sinks { SinksCourse (is_sink_fault result) (sink_call O.taken O.faults O.is_last out.old out.new)
         (sink_call N.taken N.faults N.is_last notes.old notes.new) }
+    ensures halts { result ≡ SinkFault → Halts (T.stands stage.old) (T.stopped stage.old) (T.finished stage.old)
+        stage.new (S.ended source.new ≡ true) (S.ended source.new ≡ S.ended source.old)
+        (λ fed last. FailsAmong fed last (sink_call O.taken O.faults O.is_last out.old out.new)
+        (sink_call N.taken N.faults N.is_last notes.old notes.new)) }
 {
     let mut writer = Writer {
         out,
@@ -99,10 +106,15 @@ fn drive_writer<S: Source, T: Stage, O: Sink, N: Sink>(
         × StagedTo (T.stands stage.old) (T.stopped stage.old) (T.finished stage.old) limit stage.new result octets texts
         × WroteTexts (is_sink_fault result) texts (taken_by (O.taken writer.old.out.now) (O.taken writer.new.out.now)
         (N.taken writer.old.notes.now) (N.taken writer.new.notes.now)) }
-    ensures source { SourceWent result (source_call S.given S.left S.ended S.faults S.is_last source.old source.new) }
-    ensures sinks { SinksWent (is_sink_fault result)
+    ensures source { SourceCourse result (source_call S.given S.left S.ended S.faults S.is_last source.old source.new) }
+    ensures sinks { SinksCourse (is_sink_fault result)
         (sink_call O.taken O.faults O.is_last writer.old.out.now writer.new.out.now)
         (sink_call N.taken N.faults N.is_last writer.old.notes.now writer.new.notes.now) }
+    ensures halts { result ≡ SinkFault → Halts (T.stands stage.old) (T.stopped stage.old) (T.finished stage.old)
+        stage.new (S.ended source.new ≡ true) (S.ended source.new ≡ S.ended source.old)
+        (λ fed last. FailsAmong fed last
+        (sink_call O.taken O.faults O.is_last writer.old.out.now writer.new.out.now)
+        (sink_call N.taken N.faults N.is_last writer.old.notes.now writer.new.notes.now)) }
     ensures same { (writer.new.out.ghost_name ≡ writer.old.out.ghost_name)
         × (writer.new.notes.ghost_name ≡ writer.old.notes.ghost_name) }
 {
@@ -124,8 +136,12 @@ fn drive_into<S: Source, T: Stage, W: TextTaker>(
         (S.left source.old) (S.left source.new) octets × (length octets ≤ limit + 1)
         × StagedTo (T.stands stage.old) (T.stopped stage.old) (T.finished stage.old) limit stage.new result octets all
         × HandedOver W.took texts.old all texts.new }
+    ensures halts { result ≡ SinkFault → Halts (T.stands stage.old) (T.stopped stage.old) (T.finished stage.old)
+        stage.new (S.ended source.new ≡ true) (S.ended source.new ≡ S.ended source.old)
+        (λ fed last. (middle : W) × HandedOver W.took texts.old fed middle × (W.failed middle ≡ false)
+        × HandedOver W.took middle last texts.new) }
     ensures failed { W.failed texts.new ≡ is_sink_fault result }
-    ensures source { SourceWent result (source_call S.given S.left S.ended S.faults S.is_last source.old source.new) }
+    ensures source { SourceCourse result (source_call S.given S.left S.ended S.faults S.is_last source.old source.new) }
 {
     let mut buffer = [0; TURN];
     let mut room = limit + 1;

@@ -28,7 +28,7 @@ impl<'a, 'b, O: Sink, N: Sink> TextTaker for Writer<'a, 'b, O, N> {
     ghost failed = { λ w. w.has_failed };
 
     fn out(&mut self, text: &[u8]) {
-        if self.has_failed {
+        if self.has_failed || text.is_empty() {
             return;
         }
         match put_all(self.out, text) {
@@ -38,7 +38,7 @@ impl<'a, 'b, O: Sink, N: Sink> TextTaker for Writer<'a, 'b, O, N> {
     }
 
     fn note(&mut self, text: &[u8]) {
-        if self.has_failed {
+        if self.has_failed || text.is_empty() {
             return;
         }
         match put_all(self.notes, text) {

@@ -17,9 +17,8 @@ use Rattle.tm_driver.specs.Writing.{Text, Out, Note, StopsIn, TookPart, WroteTex
 use Rattle.tm_driver.specs.declared.ending.Ending.{Ending}
 use Rattle.tm_driver.specs.declared.ending.Outcome.{Outcome}
 use Rattle.tm_driver.specs.declared.ending.Outcome.TheVariants.{Done, Bad, LeftOver}
-use Rattle.tm_driver.proofs.Driven.{OutcomeShows}
 use Rattle.tm_driver.proofs.SinkTexts.{wrote-as}
-use Rattle.tm_driver.proofs.Staged.{Early, ends-staged}
+use Rattle.tm_driver.proofs.Staged.{Early, OutcomeShows, ends-staged}
 use Rattle.tm_driver.proofs.Writing.{notes_of-append, out_of-append, stops-last, stops-prefixes, stops-split}
 use Rattle.tm_path_commands.specs.Bits.{AreBitsInOrder, IsBits, bits_meaning, bits_of_handed, end_line, fill, phase_line}
 use Rattle.tm_path_commands.specs.Packing.{GivesAllBits, GivesBits, IsFirstNote, plain_more}
@@ -48,7 +47,8 @@ bits-output c octets all w =
 notes-before : (first more rest : List Text) (next : Text) (taken : Taken) → notes_of (more ++ next ∷ rest) ≡ []
     → TookPart (first ++ more) next taken → Wrote taken.notes taken.notes_now (notes_of first)
 notes-before first more rest next taken none part =
-    let both = nothing-both (notes_of more) (notes_of (next ∷ rest)) (sym (notes_of-append more (next ∷ rest)) ∙ none) in
+    let both = nothing-both (notes_of more) (notes_of (next ∷ rest))
+    (sym (notes_of-append more (next ∷ rest)) ∙ none) in
     by next both.1 both.0 part
   where
     before : notes_of more ≡ [] → notes_of (first ++ more) ≡ notes_of first

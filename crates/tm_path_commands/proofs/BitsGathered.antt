@@ -19,18 +19,20 @@ use Rattle.tm_driver.proofs.Writing.{notes_of-append, out_of-append}
 use Rattle.tm_windows.specs.declared.choosing.Chosen.{Chosen}
 use Rattle.tm_viterbi.specs.Clean.{kept_bits}
 use Rattle.tm_viterbi.specs.WindowBlock.{WindowBlock}
-use Rattle.tm_inner.specs.Handing.{AreHanded, AreHandedDue}
+use Rattle.tm_inner.specs.Handing.{AreHanded, AreHandedDue, ReadsLast}
 use Rattle.tm_inner.specs.Inner.{BlocksAt, DueAt, bits_at, inner_bits, plain_bits, plain_count, reported_slips, soft_value}
 use Rattle.tm_inner.specs.InnerDecoding.{InnerDecoding}
 use Rattle.tm_inner.specs.Phase.{IsChosenBy, IsSettled, needed_at, phase_octets, skip_of, skipped_at, with_phase}
 use Rattle.tm_inner.specs.Receiving.{HasHanded, Hands}
+use Rattle.tm_inner.specs.declared.decoder.InnerEnd.{InnerEnd}
 use Rattle.tm_inner.proofs.DecoderReads.{handed-due}
 use Rattle.tm_inner.proofs.DueBits.{drop-split, kept-append}
 use Rattle.tm_inner.proofs.PhasePieces.{items_of-with_phase}
 use Rattle.tm_inner.proofs.PlainBits.{bits-nil, length-plain, plain-append}
 use Rattle.tm_path_commands.specs.Bits.{bits_of_handed, fill, phase_line}
 use Rattle.tm_path_commands.specs.Lines.{bits_end_text}
-use Rattle.tm_path_commands.specs.Packing.{AreGiven, Gives, GivesAllBits, GivesBits, IsFirstNote, PackingTo, Packs, packing, packs_handed, plain_more}
+use Rattle.tm_path_commands.specs.Packing.{AreGiven, Gives, GivesAllBits, GivesBits, IsFirstNote, IsSameLoan, Packs, packed, plain_more}
+use Rattle.tm_path_commands.specs.declared.bits_command.PackedWindows.{PackedWindows}
 use Rattle.tm_path_commands.proofs.PackedBits.{bits-after, gives-more, no-octets, octets-after, octets-none}
 use Rattle.tm_path_commands.proofs.FewHanded.{few-handed}
 
@@ -94,19 +96,20 @@ all_bits blocks = map (λ bit. bit == 1) (kept_bits blocks)
 
 module _ {T : Type 0} (took : T → Text → T → Type 0) where
   -- what is handed over is packed, and then further bits
-  record GivesHanded (a b : PackingTo T) (more : List (Handed WindowBlock)) (further bits_now : List Bool)
+  record GivesHanded (a b : PackedWindows T) (more : List (Handed WindowBlock)) (further bits_now : List Bool)
       (taker_now : T) : Type 0 where
     texts : List Text
-    gives : Gives took a.bits a.texts texts (all_bits (items_of more) ++ further) bits_now taker_now
+    gives : Gives took a.packer.now a.texts.now texts (all_bits (items_of more) ++ further) bits_now taker_now
     notes : notes_of texts ≡ phase_line more
     noted : later_line more ≡ [] → IsFirstNote texts (phase_line more)
     windows : (n : ℕ) → a.windows ≡ raised_by n 0 → b.windows ≡ raised_by (n + length (items_of more)) 0
 
-  gives-handed : (more : List (Handed WindowBlock)) (a b : PackingTo T) (further bits_now : List Bool) (taker_now : T)
-      → HandedOver (packs_handed took) a more b → Packs took b.bits b.texts further bits_now taker_now
+  gives-handed : (more : List (Handed WindowBlock)) (a b : PackedWindows T) (further bits_now : List Bool)
+      (taker_now : T)
+      → HandedOver (packed took) a more b → Packs took b.packer.now b.texts.now further bits_now taker_now
       → GivesHanded a b more further bits_now taker_now
   gives-handed [] a b further bits_now taker_now same p =
-      subst (λ (q : PackingTo T). Packs took q.bits q.texts further bits_now taker_now
+      subst (λ (q : PackedWindows T). Packs took q.packer.now q.texts.now further bits_now taker_now
       → GivesHanded a q [] further bits_now taker_now) same (λ p. record {
         texts = p.texts;
         gives = p.gives;
@@ -121,9 +124,9 @@ module _ {T : Type 0} (took : T → Text → T → Type 0) where
       let text = phase_text skip cost in record {
         texts = Note text ∷ g.texts;
         gives = record {
-          handed = (m.texts, one.0, g.gives.handed);
+          handed = (m.texts.now, one.1, g.gives.handed);
           are_octets = g.gives.are_octets;
-          all = g.gives.all ∙ ap (λ l. l ++ (all_bits (items_of more) ++ further)) one.1;
+          all = g.gives.all ∙ ap (λ bits. bits ++ (all_bits (items_of more) ++ further)) one.2;
         };
         notes = ap (λ l. text ++ l) g.notes;
         noted = λ none. record {
@@ -134,11 +137,11 @@ module _ {T : Type 0} (took : T → Text → T → Type 0) where
           noted = ap (λ l. text ++ l) (sym none);
           only = g.notes ∙ none;
         };
-        windows = λ n is. g.windows n (one.2 ∙ is);
+        windows = λ n is. g.windows n (one.3 ∙ is);
       }
   gives-handed (Item block ∷ more) a b further bits_now taker_now over p =
       let m = over.0 in
-      let one = over.1.0 in
+      let one = over.1.1 in
       let g = gives-handed more m b further bits_now taker_now over.2 p in
       let bits = take block.kept block.bits in
       let kept : List Bool = map (λ bit. bit == 1) bits in
@@ -149,15 +152,24 @@ module _ {T : Type 0} (took : T → Text → T → Type 0) where
       let notes : notes_of (one.texts ++ g.texts) ≡ phase_line more =
       notes_of-append one.texts g.texts ∙ ap (λ l. l ++ notes_of g.texts) one.silent ∙ g.notes in record {
         texts = one.texts ++ g.texts;
-        gives = subst (λ l. Gives took a.bits a.texts (one.texts ++ g.texts) l bits_now taker_now) same
-            (gives-more took a.bits m.bits bits_now kept (rest ++ further) a.texts m.texts taker_now one.texts
-            g.texts one.gives g.gives);
+        gives = subst (λ l. Gives took a.packer.now a.texts.now (one.texts ++ g.texts) l bits_now taker_now) same
+            (gives-more took a.packer.now m.packer.now bits_now kept (rest ++ further) a.texts.now m.texts.now taker_now
+            one.texts g.texts one.gives g.gives);
         notes = notes;
         noted = no-line (one.texts ++ g.texts) (phase_line more) notes;
         windows = λ n is.
-            let next : m.windows ≡ raised_by (n + 1) 0 = omega (arith, over.1.1, is) in
+            let next : m.windows ≡ raised_by (n + 1) 0 = omega (arith, over.1.2, is) in
             omega (arith, g.windows (n + 1) next);
       }
+
+-- of the same packer and taker of texts
+pub same-loan : {T : Type 0} (took : T → Text → T → Type 0) (more : List (Handed WindowBlock)) (a b : PackedWindows T)
+    → HandedOver (packed took) a more b → IsSameLoan a b
+same-loan took [] a b same = (ap (λ q. q.packer.ghost_name) (sym same), ap (λ q. q.texts.ghost_name) (sym same))
+same-loan took (Phase skip cost ∷ more) a b over =
+    let rest = same-loan took more over.0 b over.2 in (rest.0 ∙ over.1.0.0, rest.1 ∙ over.1.0.1)
+same-loan took (Item block ∷ more) a b over =
+    let rest = same-loan took more over.0 b over.2 in (rest.0 ∙ over.1.0.0, rest.1 ∙ over.1.0.1)
 
 -- ---- what is handed over after other
 
@@ -311,44 +323,41 @@ length-items : (xs ys : List (Handed WindowBlock))
     → length (items_of (xs ++ ys)) ≡ length (items_of xs) + length (items_of ys)
 length-items xs ys = ap length (items_of-append xs ys) ∙ length-append (items_of xs) (items_of ys)
 
-module _ {T : Type 0} (took : T → Text → T → Type 0) (d : InnerDecoding) (bits bits_now bits_last : List Bool)
-    (windows windows_now : ℕ) (taker middle last : T) (few : length bits_last < 8) where
+module _ {T : Type 0} (took : T → Text → T → Type 0) (d : InnerDecoding) (a b : PackedWindows T)
+    (bits_last : List Bool) (last : T) (few : length bits_last < 8) where
   -- with those before
-  module _ (c : Configuration) (given : List ℕ) (done : List Text) (t : GivesBits c d bits windows given done)
-      (more : List (Handed WindowBlock)) (further : List Bool)
-      (g : GivesHanded took (packing bits windows taker) (packing bits_now windows_now middle) more further bits_last
-      last) (rest : Rest c t.handed more) where
+  module _ (c : Configuration) (given : List ℕ) (done : List Text)
+      (t : GivesBits c d a.packer.now a.windows given done) (more : List (Handed WindowBlock)) (further : List Bool)
+      (g : GivesHanded took a b more further bits_last last) (rest : Rest c t.handed more) where
     now-given : (all : List Bool)
         → bits_of_handed c given t.handed ++ (all_bits (items_of more) ++ further) ≡ all
         → AreGiven (done ++ g.texts) (phase_line (t.handed ++ more)) all bits_last
     now-given all are = record {
       are_octets = octets-after done g.texts t.given.are_octets g.gives.are_octets;
-      octets = bits-after done g.texts (bits_of_handed c given t.handed) (all_bits (items_of more) ++ further) bits
+      octets = bits-after done g.texts (bits_of_handed c given t.handed) (all_bits (items_of more) ++ further) a.packer.now
           bits_last t.given.octets g.gives.all ∙ are;
       noted = subst (IsFirstNote (done ++ g.texts)) (sym (line-append t.handed more))
           (first-more done g.texts (phase_line t.handed) (phase_line more) t.given.noted (g.noted rest.later)
-          (line-first c given t.handed more done (phase_line t.handed) bits
+          (line-first c given t.handed more done (phase_line t.handed) a.packer.now
           (subst (λ (k : Configuration). AreHandedDue k given t.handed) t.config (handed-due d given t.handed t.stands))
           t.given rest));
     }
 
-    now-counted : windows_now ≡ raised_by (length (items_of (t.handed ++ more))) 0
+    now-counted : b.windows ≡ raised_by (length (items_of (t.handed ++ more))) 0
     now-counted = g.windows (length (items_of t.handed)) t.counted
         ∙ ap (λ n. raised_by n 0) (sym (length-items t.handed more))
 
   pub gives-fed : (now : InnerDecoding) (octets : List ℕ) (skip : ℕ) → now.config ≡ d.config
       → skip ≡ d.config.skip - plain_count d.config d.count
-      → Hands (packs_handed took) HasHanded d now (packing bits windows taker) (packing bits_now windows_now middle)
-      octets
-      → Packs took bits_now middle (plain_more d.config.inner d.config skip octets) bits_last last
-      → (texts : List Text) × HandedOver took taker texts last
+      → Hands (packed took) HasHanded d now a b octets
+      → Packs took b.packer.now b.texts.now (plain_more d.config.inner d.config skip octets) bits_last last
+      → (texts : List Text) × HandedOver took a.texts.now texts last
       × ((c : Configuration) (given : List ℕ) (done : List Text) → length given + length octets ≤ most_limit
-      → GivesBits c d bits windows given done
-      → GivesBits c now bits_last windows_now (given ++ octets) (done ++ texts))
+      → GivesBits c d a.packer.now a.windows given done
+      → GivesBits c now bits_last b.windows (given ++ octets) (done ++ texts))
   gives-fed now octets skip config is h p =
       let further = plain_more d.config.inner d.config skip octets in
-      let g = gives-handed took h.more (packing bits windows taker) (packing bits_now windows_now middle) further
-      bits_last last h.handed p in (
+      let g = gives-handed took h.more a b further bits_last last h.handed p in (
         g.texts,
         g.gives.handed,
         λ c given done within t.
@@ -372,30 +381,26 @@ module _ {T : Type 0} (took : T → Text → T → Type 0) (d : InnerDecoding) (
       )
 
   -- the last bits, filled to a whole octet, and the line after them
-  pub gives-end : (all : List (Handed WindowBlock)) (left count : ℕ) (slips : Option ℕ) (end : T)
-      → HandedOver (packs_handed took) (packing bits windows taker) all (packing bits_now windows_now middle)
-      → Packs took bits_now middle (low_bits 7 0) bits_last last
-      → took last (Note (bits_end_text slips windows_now count left)) end
-      → ((given : List ℕ) (done : List (Handed WindowBlock)) → HasHanded d given done
-      → AreHanded d.config given (done ++ all) left
-      × (count ≡ length (inner_bits d.config given (items_of (done ++ all))))
-      × (slips ≡ reported_slips d.config (items_of (done ++ all))))
-      → (texts : List Text) × HandedOver took taker texts end
+  pub gives-end : (now : InnerDecoding) (end : InnerEnd) (taker : T) → ReadsLast (packed took) d now a b end
+      → Packs took b.packer.now b.texts.now (low_bits 7 0) bits_last last
+      → took last (Note (bits_end_text end.slips b.windows end.bits end.leftover)) taker
+      → (texts : List Text) × HandedOver took a.texts.now texts taker
       × ((c : Configuration) (given : List ℕ) (done : List Text) → length given ≤ most_limit
-      → GivesBits c d bits windows given done → GivesAllBits c given (done ++ texts))
-  gives-end all left count slips end over p noted whole =
-      let text = Note (bits_end_text slips windows_now count left) in
-      let g = gives-handed took all (packing bits windows taker) (packing bits_now windows_now middle) (low_bits 7 0)
-      bits_last last over p in (
+      → GivesBits c d a.packer.now a.windows given done → GivesAllBits c given (done ++ texts))
+  gives-end now end taker r p noted =
+      let all = r.last in
+      let left = end.leftover in
+      let text = Note (bits_end_text end.slips b.windows end.bits left) in
+      let g = gives-handed took all a b (low_bits 7 0) bits_last last r.handed p in (
         g.texts ++ text ∷ [],
-        HandedOver-push took taker last end g.texts text g.gives.handed noted,
+        HandedOver-push took a.texts.now last taker g.texts text g.gives.handed noted,
         λ c given done within t.
             let handed = t.handed ++ all in
             let w = subst (λ (k : Configuration). AreHanded k given handed left
-            × (count ≡ length (inner_bits k given (items_of handed)))
-            × (slips ≡ reported_slips k (items_of handed))) t.config (whole given t.handed t.stands) in
+            × (end.bits ≡ length (inner_bits k given (items_of handed)))
+            × (end.slips ≡ reported_slips k (items_of handed))) t.config (r.all given t.handed t.stands) in
             let rest = rest-all c given t.handed all left w.0 in
-            let windows_are : windows_now ≡ length (items_of handed) =
+            let windows_are : b.windows ≡ length (items_of handed) =
             omega (
               arith,
               now-counted c given done t all (low_bits 7 0) g rest,

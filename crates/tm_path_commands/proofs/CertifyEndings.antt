@@ -13,8 +13,7 @@ use Rattle.tm_driver.specs.Writing.{Text, Out, WroteTexts, notes_of, output_of}
 use Rattle.tm_driver.specs.declared.ending.Ending.{Ending}
 use Rattle.tm_driver.specs.declared.ending.Outcome.{Outcome}
 use Rattle.tm_driver.specs.declared.ending.Outcome.TheVariants.{Done, Bad, LeftOver}
-use Rattle.tm_driver.proofs.Driven.{OutcomeShows}
-use Rattle.tm_driver.proofs.Staged.{Early, ends-staged, staged-texts}
+use Rattle.tm_driver.proofs.Staged.{Early, OutcomeShows, ends-staged, staged-texts}
 use Rattle.tm_driver.proofs.Writing.{are_out-more, stops-alone, wrote-alone}
 use Rattle.tm_viterbi.specs.Blocks.{AreBlocksOf}
 use Rattle.tm_viterbi.specs.Settings.{Settings}

@@ -9,16 +9,15 @@ use Rattle.tm_cert_file.specs.declared.seen.Seen.TheVariants.{More, Failed}
 use Rattle.tm_cert_file.specs.Window.{Window}
 use Rattle.tm_cert_file.specs.Before.{Rules}
 use Rattle.tm_cert_file.specs.File.{IsRead, IsCut, IsBroken, all_kept, is_cut, kept_octets}
-use Rattle.tm_driver.specs.Driven.{but_last_turn}
 use Rattle.tm_driver.specs.Meaning.{Ends, Taken}
 use Rattle.tm_driver.specs.Staged.{StagedTo}
 use Rattle.tm_driver.specs.Statuses.{is_sink_fault}
+use Rattle.tm_driver.specs.Turns.{but_last_turn}
 use Rattle.tm_driver.specs.Writing.{Text, Out, Note, StopsIn, TookPart, WroteTexts, notes_of, out_of, output_of}
 use Rattle.tm_driver.specs.declared.ending.Ending.{Ending}
 use Rattle.tm_driver.specs.declared.ending.Outcome.{Outcome}
 use Rattle.tm_driver.specs.declared.ending.Outcome.TheVariants.{Done, Bad, LeftOver}
-use Rattle.tm_driver.proofs.Driven.{OutcomeShows}
-use Rattle.tm_driver.proofs.Staged.{Early, ends-staged}
+use Rattle.tm_driver.proofs.Staged.{Early, OutcomeShows, ends-staged}
 use Rattle.tm_driver.proofs.Writing.{notes_of-append, out_of-append}
 use Rattle.tm_path_commands.specs.Check.{ReadAt, IsChecked, IsCheckedDue, AreInOrder, bits_kept, check_meaning, windows_text, end_text, next_kept, next_line}
 use Rattle.tm_path_commands.specs.Checking.{Checks, ChecksAll, EndsChecking, StopsChecking, window_texts}

@@ -14,8 +14,8 @@ use Rattle.tm_cert_file.specs.File.{ArePassed, IsBroken, IsRead, all_kept, is_cu
 use Rattle.tm_cert_file.specs.Reading.{Reading, HasPassed, ReaderStandsFor}
 use Rattle.tm_cert_file.proofs.Stages.{Holds-from_none}
 use Rattle.tm_cert_file.proofs.Looking.{Shaped-from_shape}
-use Rattle.tm_driver.specs.Driven.{but_last_turn}
 use Rattle.tm_driver.specs.Staged.{Takes}
+use Rattle.tm_driver.specs.Turns.{but_last_turn}
 use Rattle.tm_driver.specs.Writing.{Text, Out, Note, notes_of, out_of}
 use Rattle.tm_driver.proofs.Pieces.{piece-all}
 use Rattle.tm_path_commands.specs.Check.{bits_kept, end_text, windows_text}

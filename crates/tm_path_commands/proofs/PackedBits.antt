@@ -80,11 +80,6 @@ add-whole room place last octet pending count value within few small is full bef
 
 -- ---- whole octets, and the bits after them
 
-pub length-view : (octets : List ℕ) (pending last : ℕ) → length (bits_of octets ++ low_bits pending last) ≡ 8 * length
-    octets + pending
-length-view octets pending last = length-append (bits_of octets) (low_bits pending last)
-    ∙ omega (arith, length-bits_of octets, length-low_bits pending last)
-
 -- fewer bits than an octet come to none
 pub octets-none : (bits : List Bool) → length bits < 8 → octets_of bits ≡ []
 octets-none bits few = empty (octets_of bits) (omega (arith, length-octets_of bits))

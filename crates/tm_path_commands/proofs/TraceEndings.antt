@@ -1,5 +1,5 @@
 -- What a trace shows at each ending.
-use Rattle.std.proofs.Common.{◌≡◌, ℕ, ◌+◌, ◌≤◌, List, [], ◌∷◌, ◌++◌, length, refl, sym, ap, ◌∙◌, subst, arith, Option}
+use Rattle.std.proofs.Common.{◌≡◌, ℕ, ◌≤◌, List, [], ◌∷◌, ◌++◌, length, refl, sym, ap, ◌∙◌, subst, arith, Option}
 use Rattle.std.proofs.lemmas.List.{append-nil}
 use Rattle.tm_base.specs.Handed.{Handed, items_of}
 use Rattle.tm_config.specs.Configuration.{Configuration}
@@ -16,8 +16,7 @@ use Rattle.tm_driver.specs.declared.ending.Ending.{Ending}
 use Rattle.tm_driver.specs.Writing.{Text, Out, AreOut, StopsIn, WroteTexts, notes_of, output_of}
 use Rattle.tm_driver.specs.declared.ending.Outcome.{Outcome}
 use Rattle.tm_driver.specs.declared.ending.Outcome.TheVariants.{Done, Bad, LeftOver}
-use Rattle.tm_driver.proofs.Driven.{OutcomeShows}
-use Rattle.tm_driver.proofs.Staged.{Early, ends-staged, staged-texts}
+use Rattle.tm_driver.proofs.Staged.{Early, OutcomeShows, ends-staged, staged-texts}
 use Rattle.tm_driver.proofs.Writing.{are_out-more, notes_of-append, stops-alone, wrote-alone}
 use Rattle.tm_path_commands.specs.declared.tally.Tally.{Tally}
 use Rattle.tm_path_commands.specs.Lines.{no_blocks, trace_end_text}

@@ -7,30 +7,47 @@ use Rattle.tm_driver.specs.Lines.{phase_text}
 use Rattle.tm_driver.specs.Writing.{Text, Out, AreOut, notes_of}
 use Rattle.tm_windows.specs.Windows.{kept_of}
 use Rattle.tm_path_commands.specs.declared.tally.Tally.{Tally}
+use Rattle.tm_path_commands.specs.declared.trace_command.WindowLines.{WindowLines}
 use Rattle.tm_path_commands.specs.Lines.{block_text, no_blocks, tally_after, trace_end_text}
 use Rattle.tm_path_commands.specs.Trace.{blocks_text, tally_all, trace_text}
 use Rattle.tm_path_commands.proofs.FewHanded.{AreFew}
-use Rattle.tm_path_commands.specs.Tracing.{TracingTo, counted_after, counted_by, lines_by, traced_handed}
+use Rattle.tm_path_commands.specs.Tracing.{counted_after, counted_by, lines_by, traced}
 
 -- ---- what is given
 
-pub lines-given : {T : Type 0} (took : T → Text → T → Type 0) (handed : List (Handed WindowBlock)) (a b : TracingTo T)
-    → HandedOver (traced_handed took) a handed b
-    → HandedOver took a.texts (lines_by a.tally handed) b.texts × (b.tally ≡ counted_by a.tally handed)
-lines-given took [] a b over = (ap (λ t. t.texts) over, ap (λ t. t.tally) (sym over))
+pub lines-given : {T : Type 0} (took : T → Text → T → Type 0) (handed : List (Handed WindowBlock)) (a b : WindowLines T)
+    → HandedOver (traced took) a handed b → (b.texts.ghost_name ≡ a.texts.ghost_name)
+    × HandedOver took a.texts.now (lines_by a.tally handed) b.texts.now × (b.tally ≡ counted_by a.tally handed)
+lines-given took [] a b over = (
+  ap (λ t. t.texts.ghost_name) (sym over),
+  ap (λ t. t.texts.now) over,
+  ap (λ t. t.tally) (sym over),
+)
 lines-given took (Phase skip cost ∷ handed) a b over =
     let m = over.0 in
     let rest = lines-given took handed m b over.2 in
-    let same : m.tally ≡ a.tally = over.1.1 in (
-      (m.texts, over.1.0, subst (λ (t : Tally). HandedOver took m.texts (lines_by t handed) b.texts) same rest.0),
-      subst (λ (t : Tally). b.tally ≡ counted_by t handed) same rest.1,
+    let same : m.tally ≡ a.tally = over.1.2 in (
+      rest.0 ∙ over.1.0,
+      (
+        m.texts.now,
+        over.1.1,
+        subst (λ (t : Tally). HandedOver took m.texts.now (lines_by t handed) b.texts.now) same
+            rest.1,
+      ),
+      subst (λ (t : Tally). b.tally ≡ counted_by t handed) same rest.2,
     )
 lines-given took (Item block ∷ handed) a b over =
     let m = over.0 in
     let rest = lines-given took handed m b over.2 in
-    let same : m.tally ≡ counted_after a.tally block = over.1.1 in (
-      (m.texts, over.1.0, subst (λ (t : Tally). HandedOver took m.texts (lines_by t handed) b.texts) same rest.0),
-      subst (λ (t : Tally). b.tally ≡ counted_by t handed) same rest.1,
+    let same : m.tally ≡ counted_after a.tally block = over.1.2 in (
+      rest.0 ∙ over.1.0,
+      (
+        m.texts.now,
+        over.1.1,
+        subst (λ (t : Tally). HandedOver took m.texts.now (lines_by t handed) b.texts.now) same
+            rest.1,
+      ),
+      subst (λ (t : Tally). b.tally ≡ counted_by t handed) same rest.2,
     )
 
 -- ---- lists

@@ -8,7 +8,7 @@ use Rattle.tm_cert_file.specs.Window.{Window}
 use Rattle.tm_cert_file.specs.Before.{Rules}
 use Rattle.tm_cert_file.specs.File.{IsRead, IsBroken, is_cut, kept_octets}
 use Rattle.tm_cert_file.specs.Reading.{IsOpen, ReaderStandsFor}
-use Rattle.tm_driver.specs.Driven.{but_last_turn}
+use Rattle.tm_driver.specs.Turns.{but_last_turn}
 use Rattle.tm_driver.specs.Writing.{Text, Out, Note}
 use Rattle.tm_driver.specs.declared.ending.Outcome.{Outcome}
 use Rattle.tm_driver.specs.declared.ending.Outcome.TheVariants.{Done, Bad, LeftOver}

@@ -2,7 +2,7 @@
 use Rattle.std.specs.Prelude.{◌≡◌, ℕ, ◌<◌, ◌==◌, Bool, List, [], ◌∷◌, ◌++◌, length, map, drop, take, Option, Some, None}
 use Rattle.tm_base.specs.Bits.{AreOctets, bits_of}
 use Rattle.tm_base.specs.Count.{raised_by}
-use Rattle.tm_base.specs.Handed.{Handed, items_of, on_handed}
+use Rattle.tm_base.specs.Handed.{Handed, Item, Phase, items_of}
 use Rattle.tm_base.specs.Takers.{HandedOver}
 use Rattle.tm_config.specs.Accepted.{IsAccepted}
 use Rattle.tm_config.specs.Configuration.{Configuration}
@@ -14,6 +14,7 @@ use Rattle.tm_inner.specs.Handing.{AreHanded}
 use Rattle.tm_inner.specs.Inner.{plain_bits}
 use Rattle.tm_inner.specs.InnerDecoding.{InnerDecoding}
 use Rattle.tm_inner.specs.Receiving.{HasHanded}
+use Rattle.tm_path_commands.specs.declared.bits_command.PackedWindows.{PackedWindows}
 use Rattle.tm_path_commands.specs.Bits.{bits_of_handed, end_line, filled_octets, phase_line}
 
 -- ---- further bits
@@ -39,30 +40,20 @@ plain_more (Some rate) c skip octets = []
 
 -- ---- what a decoder hands over
 
--- bits that are packed, the windows so far, and what takes texts
-pub record PackingTo (T : Type 0) : Type 0 where
-  pub bits : List Bool
-  pub windows : ℕ
-  pub texts : T
-
-abbrev pub packing : {T : Type 0} → List Bool → ℕ → T → PackingTo T
-packing bits windows texts = record { bits = bits; windows = windows; texts = texts }
+-- both are of one packer and one taker of texts
+abbrev pub IsSameLoan : {T : Type 0} → PackedWindows T → PackedWindows T → Type 0
+IsSameLoan a b = (b.packer.ghost_name ≡ a.packer.ghost_name)
+    × (b.texts.ghost_name ≡ a.texts.ghost_name)
 
 -- the line of the phase is given, or the bits that a window keeps are packed, and it is counted
-abbrev pub packs_phase : {T : Type 0} → (T → Text → T → Type 0) → PackingTo T → (skip cost : ℕ)
-    → PackingTo T → Type 0
-packs_phase took a skip cost b = took a.texts (Note (phase_text skip cost)) b.texts
-    × (b.bits ≡ a.bits) × (b.windows ≡ a.windows)
-
-abbrev pub packs_window : {T : Type 0} → (T → Text → T → Type 0) → PackingTo T → WindowBlock
-    → PackingTo T → Type 0
-packs_window took a block b =
-    Packs took a.bits a.texts (map (λ bit. bit == 1) (take block.kept block.bits)) b.bits b.texts
-    × (b.windows ≡ raised_by 1 a.windows)
-
-abbrev pub packs_handed : {T : Type 0} → (T → Text → T → Type 0) → PackingTo T
-    → Handed WindowBlock → PackingTo T → Type 0
-packs_handed took = on_handed (packs_phase took) (packs_window took)
+abbrev pub packed : {T : Type 0} → (T → Text → T → Type 0) → PackedWindows T → Handed WindowBlock
+    → PackedWindows T → Type 0
+packed took a (Phase skip cost) b = IsSameLoan a b
+    × took a.texts.now (Note (phase_text skip cost)) b.texts.now × (b.packer.now ≡ a.packer.now)
+    × (b.windows ≡ a.windows)
+packed took a (Item block) b = IsSameLoan a b
+    × Packs took a.packer.now a.texts.now (map (λ bit. bit == 1) (take block.kept block.bits))
+    b.packer.now b.texts.now × (b.windows ≡ raised_by 1 a.windows)
 
 -- ---- what was given
 

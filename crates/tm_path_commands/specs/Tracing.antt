@@ -1,7 +1,7 @@
 -- What tracing gives of the octets that were read.
 use Rattle.std.specs.Prelude.{◌≡◌, ℕ, List, [], ◌∷◌, ◌++◌, length}
 use Rattle.tm_base.specs.Count.{raised_by}
-use Rattle.tm_base.specs.Handed.{Handed, Phase, Item, items_of, on_handed}
+use Rattle.tm_base.specs.Handed.{Handed, Phase, Item, items_of}
 use Rattle.tm_config.specs.Accepted.{IsAccepted}
 use Rattle.tm_config.specs.Configuration.{Configuration}
 use Rattle.tm_driver.specs.Lines.{phase_text}
@@ -12,6 +12,7 @@ use Rattle.tm_inner.specs.Inner.{inner_bits}
 use Rattle.tm_inner.specs.InnerDecoding.{InnerDecoding}
 use Rattle.tm_inner.specs.Receiving.{HasHanded}
 use Rattle.tm_path_commands.specs.declared.tally.Tally.{Tally}
+use Rattle.tm_path_commands.specs.declared.trace_command.WindowLines.{WindowLines}
 use Rattle.tm_path_commands.specs.Lines.{block_text, no_blocks, trace_end_text}
 
 -- the windows and the bits once this one was reported, too, each up to 2^64-1
@@ -19,28 +20,14 @@ abbrev pub counted_after : Tally → WindowBlock → Tally
 counted_after was block =
     record { blocks = raised_by 1 was.blocks; bits = raised_by block.kept was.bits }
 
--- a tally, and what takes texts
-pub record TracingTo (T : Type 0) : Type 0 where
-  pub tally : Tally
-  pub texts : T
-
-abbrev pub tracing : {T : Type 0} → Tally → T → TracingTo T
-tracing tally texts = record { tally = tally; texts = texts }
-
 -- the line of the phase was given, or that of a window, which was counted
-abbrev pub traced_phase : {T : Type 0} → (T → Text → T → Type 0) → TracingTo T
-    → (skip cost : ℕ) → TracingTo T → Type 0
-traced_phase took a skip cost b =
-    took a.texts (Out (phase_text skip cost)) b.texts × (b.tally ≡ a.tally)
-
-abbrev pub traced : {T : Type 0} → (T → Text → T → Type 0) → TracingTo T → WindowBlock
-    → TracingTo T → Type 0
-traced took a block b = took a.texts (Out (block_text a.tally block)) b.texts
+abbrev pub traced : {T : Type 0} → (T → Text → T → Type 0) → WindowLines T → Handed WindowBlock
+    → WindowLines T → Type 0
+traced took a (Phase skip cost) b = (b.texts.ghost_name ≡ a.texts.ghost_name)
+    × took a.texts.now (Out (phase_text skip cost)) b.texts.now × (b.tally ≡ a.tally)
+traced took a (Item block) b = (b.texts.ghost_name ≡ a.texts.ghost_name)
+    × took a.texts.now (Out (block_text a.tally block)) b.texts.now
     × (b.tally ≡ counted_after a.tally block)
-
-abbrev pub traced_handed : {T : Type 0} → (T → Text → T → Type 0) → TracingTo T
-    → Handed WindowBlock → TracingTo T → Type 0
-traced_handed took = on_handed (traced_phase took) (traced took)
 
 -- all lines, after the windows and bits that `was` counts, and what is counted then
 abbrev pub lines_by : Tally → List (Handed WindowBlock) → List Text

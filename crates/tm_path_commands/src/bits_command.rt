@@ -1,20 +1,13 @@
 // The command `bits`: the bits that are received, eight an octet, and what is said of them.
-ghost use Rattle.std.specs.Prelude.{◌≡◌, ℕ, ◌<◌, ◌≤◌, ◌==◌, ◌++◌, Bool, List, false, true, [], length, map, take, drop, None, OnErr, IfOk};
+ghost use Rattle.std.specs.Prelude.{◌≡◌, ◌<◌, ◌≤◌, ◌==◌, true, [], length, map, drop, OnErr, IfOk};
 ghost use Rattle.tm_base.specs.Bits.{AreOctets, bits_of, low_bits};
-ghost use Rattle.tm_base.specs.Handed.{Handed};
-ghost use Rattle.tm_base.specs.Takers.{HandedOver};
 ghost use Rattle.tm_driver.specs.Answered.{Answered};
 ghost use Rattle.tm_driver.specs.Courses.{sink_call, source_call};
-ghost use Rattle.tm_driver.specs.Driven.{turn_size};
+ghost use Rattle.tm_driver.specs.Turns.{turn_size};
 ghost use Rattle.tm_driver.specs.Writing.{Out};
-ghost use Rattle.tm_viterbi.specs.WindowBlock.{WindowBlock};
-ghost use Rattle.tm_inner.specs.Handing.{IsKept, ReadsDue};
 ghost use Rattle.tm_inner.specs.Inner.{nearest_bit};
-ghost use Rattle.tm_inner.specs.InnerDecoding.{IsDrained, IsSameDecoder, has_phase_now, held_in, ready_in, unread};
-ghost use Rattle.tm_inner.specs.Phase.{with_phase};
-ghost use Rattle.tm_inner.specs.Receiving.{Hands, HasRead};
 ghost use Rattle.tm_path_commands.specs.Bits.{bits_meaning};
-ghost use Rattle.tm_path_commands.specs.Packing.{Packs, packs_handed, packs_window, packing, plain_more};
+ghost use Rattle.tm_path_commands.specs.Packing.{Packs, plain_more};
 
 use crate::window_lines::bits_end_text;
 use std::alloc::Global;
@@ -22,8 +15,7 @@ use std::marker::Model;
 use tm_base::{NoMemory, Sink, Source};
 use tm_config::Config;
 use tm_driver::{Ending, Outcome, Stage, TURN, TextTaker, drive_stage, phase_text};
-use tm_inner::{InnerDecoder, handed_law};
-use tm_windows::Alone;
+use tm_inner::{InnerDecoder, WindowWatch, handed_law, watch_due, watch_last};
 
 // Bits that are packed to octets, the first one most significant, until they are given: those of a turn at once, where
 // they are no more than its octets.
@@ -122,7 +114,32 @@ fn give_octets<W: TextTaker>(octets: &[u8], texts: &mut W)
     texts.out(octets);
 }
 
-// A decoder whose bits are packed, and the windows so far, up to 2^64-1.
+// Packs the bits of windows, and counts these, up to 2^64-1.
+#[derive(Drop)]
+struct PackedWindows<'a, W> {
+    packer: &'a mut Packer,
+    windows: u64,
+    texts: &'a mut W,
+}
+
+impl<'a, W: TextTaker> WindowWatch for PackedWindows<'a, W> {
+    ghost use Rattle.tm_path_commands.specs.Packing.{packed};
+
+    ghost took = { λ a window b. Unit {0} };
+
+    ghost told = { λ a item b. packed W.took a item b };
+
+    fn phase(&mut self, skip: u8, cost: u64) {
+        self.texts.note(phase_text(skip, cost).octets());
+    }
+
+    fn window(&mut self, inner: &InnerDecoder, index: usize) {
+        self.packer.add_bits(inner.kept_bits(index), self.texts);
+        self.windows = self.windows.saturating_add(1);
+    }
+}
+
+// A decoder whose bits are packed, and its windows so far, up to 2^64-1.
 #[derive(Drop)]
 struct BitsOf {
     inner: InnerDecoder,
@@ -145,111 +162,33 @@ impl Stage for BitsOf {
 
     fn feed<W: TextTaker>(&mut self, piece: &[u8], texts: &mut W) -> bool {
         let skip = self.inner.bits_to_skip();
-        pack_windows(
-            &mut self.inner,
-            &mut self.packer,
-            &mut self.windows,
-            piece,
+        let mut packed = PackedWindows {
+            packer: &mut self.packer,
+            windows: self.windows,
             texts,
-        );
+        };
+        watch_due(&mut self.inner, piece, &mut packed);
+        let PackedWindows { windows, .. } = packed;
+        self.windows = windows;
         pack_plain(&self.inner, &mut self.packer, skip, piece, texts);
         self.packer.give(texts);
         true
     }
 
     fn finish<W: TextTaker>(&mut self, texts: &mut W) -> Outcome {
-        self.inner.settle();
-        pack_windows(
-            &mut self.inner,
-            &mut self.packer,
-            &mut self.windows,
-            &[],
+        let mut packed = PackedWindows {
+            packer: &mut self.packer,
+            windows: self.windows,
             texts,
-        );
-        let end = self.inner.last();
-        pack_ready(&self.inner, &mut self.packer, &mut self.windows, texts);
+        };
+        let end = watch_last(&mut self.inner, &mut packed);
+        let PackedWindows { windows, .. } = packed;
         // Zeros fill the last octet.
         self.packer.add(0, 7, texts);
         self.packer.give(texts);
-        let line = bits_end_text(end.slips, self.windows, end.bits, end.leftover);
+        let line = bits_end_text(end.slips, windows, end.bits, end.leftover);
         texts.note(line.octets());
         Outcome::Done
-    }
-}
-
-// Puts octets in, notes the line of the phase, once it is chosen, and packs the bits of the windows that are closed.
-fn pack_windows<W: TextTaker>(
-    inner: &mut InnerDecoder,
-    packer: &mut Packer,
-    windows: &mut u64,
-    octets: &[u8],
-    texts: &mut W,
-)
-    requires { 0 < length octets.now → inner.old.has_ended ≡ false }
-    ensures { ReadsDue (packs_handed W.took) inner.old inner.new (packing packer.old windows.old texts.old)
-        (packing packer.new windows.new texts.new) octets.now }
-{
-    let mut done = 0;
-    'runs: loop {
-        let count = pack_run(inner, packer, windows, texts);
-        if count > 0 {
-            continue;
-        }
-        if done == octets.len() {
-            return;
-        }
-        done += inner.fill(&octets[done..]);
-    }
-}
-
-// Decodes the next run of windows, and packs their bits, after the line of the phase, where it was chosen since. Returns
-// how many windows.
-fn pack_run<W: TextTaker>(
-    inner: &mut InnerDecoder,
-    packer: &mut Packer,
-    windows: &mut u64,
-    texts: &mut W,
-) -> usize
-    ensures same { IsSameDecoder inner.old inner.new }
-    ensures drained { (result ≡ 0 → IsDrained inner.new.queue) × (unread inner.new ≡ None) }
-    ensures moved { length (held_in inner.new.queue) ≤ length (held_in inner.old.queue) }
-    ensures shorter { 0 < result → length (held_in inner.new.queue) < length (held_in inner.old.queue) }
-    ensures read { Hands (packs_handed W.took) HasRead inner.old inner.new (packing packer.old windows.old texts.old)
-        (packing packer.new windows.new texts.new) [] }
-    ensures chosen { (given : List ℕ) (done : List (Handed WindowBlock)) → HasRead inner.old given done
-        → IsKept inner.new given }
-{
-    let count = inner.decode(&Alone);
-    note_phase(inner, texts);
-    pack_ready(inner, packer, windows, texts);
-    count
-}
-
-// Notes the line of the phase, where it was chosen since.
-fn note_phase<W: TextTaker>(inner: &mut InnerDecoder, texts: &mut W)
-    ensures read { inner.new ≡ record inner.old { has_phase = has_phase_now inner.old } }
-    ensures given { (packer : List Bool) (windows : ℕ) → HandedOver (packs_handed W.took)
-        (packing packer windows texts.old) (with_phase (unread inner.old) []) (packing packer windows texts.new) }
-{
-    match inner.new_phase() {
-        Some(chosen) => texts.note(phase_text(chosen.skip, chosen.cost).octets()),
-        None => {}
-    }
-}
-
-// Packs the bits of the windows whose blocks are ready, and counts them.
-fn pack_ready<W: TextTaker>(
-    inner: &InnerDecoder,
-    packer: &mut Packer,
-    windows: &mut u64,
-    texts: &mut W,
-)
-    ensures { HandedOver (packs_window W.took) (packing packer.old windows.old texts.old) (ready_in inner.now.queue)
-        (packing packer.new windows.new texts.new) }
-{
-    for index in 0..inner.ready() {
-        packer.add_bits(inner.kept_bits(index), texts);
-        *windows = windows.saturating_add(1);
     }
 }
 

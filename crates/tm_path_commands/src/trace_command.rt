@@ -1,17 +1,8 @@
 // The command `trace`: the symbol phase, where it is to be found, and the windows of the soft decoder, a line each.
-ghost use Rattle.std.specs.Prelude.{◌≡◌, ℕ, ◌+◌, ◌<◌, ◌≤◌, List, None, true, false, [], length, slice_index_or, OnErr, IfOk};
-ghost use Rattle.tm_base.specs.Handed.{Handed};
-ghost use Rattle.tm_base.specs.Takers.{HandedOver};
+ghost use Rattle.std.specs.Prelude.{◌≡◌, true, OnErr, IfOk};
 ghost use Rattle.tm_driver.specs.Answered.{AnsweredAlone};
 ghost use Rattle.tm_driver.specs.Courses.{sink_call, source_call};
-ghost use Rattle.tm_viterbi.specs.WindowBlock.{WindowBlock};
-ghost use Rattle.tm_inner.specs.Handing.{IsKept, ReadsDue};
-ghost use Rattle.tm_inner.specs.InnerDecoding.{IsDrained, IsSameDecoder, has_phase_now, held_in, ready_in, unread};
-ghost use Rattle.tm_inner.specs.Phase.{with_phase};
-ghost use Rattle.tm_inner.specs.Receiving.{Hands, HasRead};
 ghost use Rattle.tm_path_commands.specs.Trace.{trace_meaning};
-ghost use Rattle.tm_path_commands.specs.Tracing.{traced, traced_handed, tracing};
-ghost use Rattle.tm_path_commands.specs.declared.tally.Tally.{Tally};
 
 use crate::tally::Tally;
 use crate::window_lines::{block_text, trace_end_text};
@@ -19,8 +10,7 @@ use std::alloc::Global;
 use tm_base::{NoMemory, Sink, Source, SureSink};
 use tm_config::Config;
 use tm_driver::{Ending, Outcome, Stage, TextTaker, drive_stage, phase_text};
-use tm_inner::{InnerDecoder, handed_law};
-use tm_windows::Alone;
+use tm_inner::{InnerDecoder, WindowWatch, handed_law, watch_due, watch_last};
 
 // A decoder whose phase and windows are reported, and the windows and bits that were.
 #[derive(Drop)]
@@ -43,96 +33,54 @@ impl Stage for Tracing {
     ghost is_ready = { λ t. t.inner.has_ended ≡ false };
 
     fn feed<W: TextTaker>(&mut self, piece: &[u8], texts: &mut W) -> bool {
-        trace_octets(&mut self.inner, &mut self.tally, piece, texts);
+        let mut lines = WindowLines {
+            tally: self.tally,
+            texts,
+        };
+        watch_due(&mut self.inner, piece, &mut lines);
+        let WindowLines { tally, .. } = lines;
+        self.tally = tally;
         true
     }
 
     fn finish<W: TextTaker>(&mut self, texts: &mut W) -> Outcome {
-        self.inner.settle();
-        trace_octets(&mut self.inner, &mut self.tally, &[], texts);
-        let end = self.inner.last();
-        trace_ready(&self.inner, &mut self.tally, texts);
-        texts.out(trace_end_text(self.tally.blocks, end.bits, end.leftover).octets());
+        let mut lines = WindowLines {
+            tally: self.tally,
+            texts,
+        };
+        let end = watch_last(&mut self.inner, &mut lines);
+        let WindowLines { tally, .. } = lines;
+        texts.out(trace_end_text(tally.blocks, end.bits, end.leftover).octets());
         Outcome::Done
     }
 }
 
-// Puts octets in, and gives the lines of the phase, once it is chosen, and of the windows that are closed.
-fn trace_octets<W: TextTaker>(
-    inner: &mut InnerDecoder,
-    tally: &mut Tally,
-    octets: &[u8],
-    texts: &mut W,
-)
-    requires { 0 < length octets.now → inner.old.has_ended ≡ false }
-    ensures { ReadsDue (traced_handed W.took) inner.old inner.new (tracing tally.old texts.old)
-        (tracing tally.new texts.new) octets.now }
-{
-    let mut done = 0;
-    'runs: loop {
-        let count = trace_run(inner, tally, texts);
-        if count > 0 {
-            continue;
-        }
-        if done == octets.len() {
-            return;
-        }
-        done += inner.fill(&octets[done..]);
+// Gives the lines of the phase and of windows, which it counts.
+#[derive(Drop)]
+struct WindowLines<'a, W> {
+    tally: Tally,
+    texts: &'a mut W,
+}
+
+impl<'a, W: TextTaker> WindowWatch for WindowLines<'a, W> {
+    ghost use Rattle.tm_path_commands.specs.Tracing.{traced};
+
+    ghost took = { λ a window b. Unit {0} };
+
+    ghost told = { λ a item b. traced W.took a item b };
+
+    fn phase(&mut self, skip: u8, cost: u64) {
+        self.texts.out(phase_text(skip, cost).octets());
     }
-}
 
-// Decodes the next run of windows, and gives their lines, after that of the phase, where it was chosen since. Returns
-// how many windows.
-fn trace_run<W: TextTaker>(inner: &mut InnerDecoder, tally: &mut Tally, texts: &mut W) -> usize
-    ensures same { IsSameDecoder inner.old inner.new }
-    ensures drained { (result ≡ 0 → IsDrained inner.new.queue) × (unread inner.new ≡ None) }
-    ensures moved { length (held_in inner.new.queue) ≤ length (held_in inner.old.queue) }
-    ensures shorter { 0 < result → length (held_in inner.new.queue) < length (held_in inner.old.queue) }
-    ensures read { Hands (traced_handed W.took) HasRead inner.old inner.new (tracing tally.old texts.old)
-        (tracing tally.new texts.new) [] }
-    ensures chosen { (given : List ℕ) (done : List (Handed WindowBlock)) → HasRead inner.old given done
-        → IsKept inner.new given }
-{
-    let count = inner.decode(&Alone);
-    trace_phase(inner, texts);
-    trace_ready(inner, tally, texts);
-    count
-}
-
-// Gives the line of the phase, where it was chosen since.
-fn trace_phase<W: TextTaker>(inner: &mut InnerDecoder, texts: &mut W)
-    ensures read { inner.new ≡ record inner.old { has_phase = has_phase_now inner.old } }
-    ensures given { (tally : Tally) → HandedOver (traced_handed W.took) (tracing tally texts.old)
-        (with_phase (unread inner.old) []) (tracing tally texts.new) }
-{
-    match inner.new_phase() {
-        Some(chosen) => texts.out(phase_text(chosen.skip, chosen.cost).octets()),
-        None => {}
+    fn window(&mut self, inner: &InnerDecoder, index: usize) {
+        let block = inner.block(index);
+        self.texts.out(block_text(self.tally, &block).octets());
+        self.tally = Tally {
+            blocks: self.tally.blocks.saturating_add(1),
+            bits: self.tally.bits.saturating_add(u64::from(block.kept)),
+        };
     }
-}
-
-// Gives the lines of the windows whose blocks are ready, and counts them.
-fn trace_ready<W: TextTaker>(inner: &InnerDecoder, tally: &mut Tally, texts: &mut W)
-    ensures { HandedOver (traced W.took) (tracing tally.old texts.old) (ready_in inner.now.queue)
-        (tracing tally.new texts.new) }
-{
-    for index in 0..inner.ready() {
-        trace_block(inner, index, tally, texts);
-    }
-}
-
-// Gives the line of a window whose block is ready, and counts it.
-fn trace_block<W: TextTaker>(inner: &InnerDecoder, index: usize, tally: &mut Tally, texts: &mut W)
-    requires { index < length (ready_in inner.now.queue) }
-    ensures { (block : WindowBlock) → traced W.took (tracing tally.old texts.old)
-        (slice_index_or (ready_in inner.now.queue) index block) (tracing tally.new texts.new) }
-{
-    let block = inner.block(index);
-    texts.out(block_text(*tally, &block).octets());
-    *tally = Tally {
-        blocks: tally.blocks.saturating_add(1),
-        bits: tally.bits.saturating_add(u64::from(block.kept)),
-    };
 }
 
 /// Writes a line for the symbol phase of the soft octets of the source, where it is to be found, and one for each

@@ -1,11 +1,14 @@
 -- The lines of records, batch by batch, and how `erased` ends.
-use Rattle.std.proofs.Common.{◌≡◌, ◌⊎◌, inl, inr, ℕ, zero, suc, ◌+◌, ◌*◌, ◌/◌, ◌%◌, ◌<◌, ◌≤◌, ◌==◌, ◌||◌, Bool, true, false, List, [], ◌∷◌, ◌++◌, length, take, drop, Some, map, refl, sym, ap, ◌∙◌, subst, arith, append_assoc, length-append}
-use Rattle.std.specs.Prelude.{slice_get, if◌then◌else◌}
+use Rattle.std.proofs.Common.{◌≡◌, inl, inr, ℕ, zero, suc, ◌+◌, ◌*◌, ◌/◌, ◌%◌, ◌<◌, ◌≤◌, ◌||◌, Bool, true, false, List, [], ◌∷◌, ◌++◌, length, take, drop, Some, map, refl, sym, ap, ◌∙◌, subst, arith, append_assoc, length-append}
+use Rattle.std.specs.Prelude.{slice_get}
 use Rattle.std.specs.List.{list_any}
 use Rattle.std.proofs.lemmas.Bool.Decides.{nat_tests}
-use Rattle.std.proofs.lemmas.List.{append-nil, drop_at, map-append}
+use Rattle.std.proofs.Math.Nat.{mul-add-div_right, mul-add-mod_self_right}
+use Rattle.std.proofs.Math.Path.{transport}
+use Rattle.std.proofs.lemmas.Option.{slice_get_within, get_or_from_slice_get}
+use Rattle.std.proofs.lemmas.List.{append-nil, drop_at, map-append, take_more}
 use Rattle.std.proofs.lemmas.List.Folds.{list_any-append}
-use Rattle.std.proofs.lemmas.Nat.{div-add-mod', div-mul-add, mod-mul-add, mod_below, div_below, le-div}
+use Rattle.std.proofs.lemmas.Nat.{div-mul-add, div_below, le-div}
 use Rattle.tm_base.specs.Written.{Wrote}
 use Rattle.tm_config.specs.Configuration.{Configuration}
 use Rattle.tm_driver.specs.Lines.{left_over_text, outcome_by}
@@ -15,9 +18,8 @@ use Rattle.tm_driver.specs.Statuses.{is_sink_fault}
 use Rattle.tm_driver.specs.Writing.{Text, Out, Note, AreOut, StopsIn, WroteTexts, notes_of, out_of, output_of}
 use Rattle.tm_driver.specs.declared.ending.Ending.{Ending}
 use Rattle.tm_driver.specs.declared.ending.Outcome.{Outcome}
-use Rattle.tm_driver.specs.declared.ending.Outcome.TheVariants.{Done, Bad, LeftOver}
-use Rattle.tm_driver.proofs.Driven.{OutcomeShows}
-use Rattle.tm_driver.proofs.Staged.{Early, ends-staged}
+use Rattle.tm_driver.specs.declared.ending.Outcome.TheVariants.{LeftOver}
+use Rattle.tm_driver.proofs.Staged.{Early, OutcomeShows, ends-staged}
 use Rattle.tm_driver.proofs.Writing.{notes_of-append, out_of-append, stops-alone, stops-last}
 use Rattle.tm_gf256.specs.declared.basis.Basis.{Basis}
 use Rattle.tm_gf256.specs.Octet.{sent_octet}
@@ -30,7 +32,7 @@ use Rattle.tm_records.specs.declared.coding.Coding.{Coding}
 use Rattle.tm_records.specs.declared.erased_command.Erasing.{Erasing}
 use Rattle.tm_records.specs.Erased.{coding_of, erased_meaning, erased_text, nearest_text, nearest_lines, is_beyond, record_rest}
 use Rattle.tm_records.specs.Erasing.{AreTexts, ErasesAll, Holds, HasSpace, outcome_with, record_texts}
-use Rattle.tm_records.specs.Records.{AreFirstNearest, AreNearest, AreNearestDue, in_batches, left_over, record_count, record_size}
+use Rattle.tm_records.specs.Records.{AreFirstNearest, AreNearest, AreNearestDue, left_over, record_count, record_size}
 use Rattle.tm_records.proofs.NearestRecords.{first-append, first-longer, has_rest, nearest_only}
 
 -- ---- lines
@@ -43,11 +45,8 @@ line-is BeyondBoth basis codeword octets is = refl
 
 take-one_more : {A : Type 0} (xs : List A) (i : ℕ) (x : A) → slice_get xs i ≡ Some x
     → take (i + 1) xs ≡ take i xs ++ x ∷ []
-take-one_more [] i x is = cc is
-take-one_more (y ∷ xs) zero x is = let one : y ≡ x = cc is in ap (λ z. z ∷ []) one
-take-one_more (y ∷ xs) (suc i) x is =
-    let next : suc i + 1 ≡ suc (i + 1) = omega arith in
-    ap (λ n. take n (y ∷ xs)) next ∙ ap (λ l. y ∷ l) (take-one_more xs i x is)
+take-one_more xs i x is =
+    take_more xs i x (slice_get_within xs i x is) ∙ ap (λ v. take i xs ++ v ∷ []) (get_or_from_slice_get xs i x x is)
 
 texts-append : (basis : Basis) (a b : List NearestErased)
     → record_texts basis (a ++ b) ≡ record_texts basis a ++ record_texts basis b
@@ -70,23 +69,9 @@ pub beyond-more : (nearest : List NearestErased) (i : ℕ) (x : NearestErased) �
     → list_any is_beyond (take (i + 1) nearest) ≡ (list_any is_beyond (take i nearest) || is_beyond x)
 beyond-more nearest i x is =
     ap (list_any is_beyond) (take-one_more nearest i x is) ∙ list_any-append is_beyond (take i nearest) (x ∷ [])
-    ∙ ap (λ b. list_any is_beyond (take i nearest) || b) (or-false (is_beyond x))
-  where
-    or-false : (b : Bool) → (b || false) ≡ b
-    or-false true = refl
-    or-false false = refl
+    ∙ grind (arith, nat_tests)
 
 -- ---- batches
-
-module _ (a s r : ℕ) (some : 0 < s) where
-  parts : a * s + r ≡ (a + r / s) * s + r % s
-  parts = omega (arith, div-add-mod' r s)
-
-  add-div : (a * s + r) / s ≡ a + r / s
-  add-div = ap (λ n. n / s) parts ∙ div-mul-add (a + r / s) s (r % s) (mod_below r s some)
-
-  add-mod : (a * s + r) % s ≡ r % s
-  add-mod = ap (λ n. n % s) parts ∙ mod-mul-add (a + r / s) s (r % s) (mod_below r s some)
 
 module _ (c : Coding) (octets prefix held : List ℕ) (count : ℕ) (is : octets ≡ prefix ++ held)
     (long : length prefix ≡ count * record_size c) where
@@ -97,10 +82,10 @@ module _ (c : Coding) (octets prefix held : List ℕ) (count : ℕ) (is : octets
   after-prefix = ap (drop (count * record_size c)) is ∙ drop_at prefix held (count * record_size c) long
 
   pub count-is : 0 < record_size c → record_count c octets ≡ count + record_count c held
-  count-is some = ap (λ n. n / record_size c) length-is ∙ add-div count (record_size c) (length held) some
+  count-is some = ap (λ n. n / record_size c) length-is ∙ mul-add-div_right some count (length held)
 
-  pub rest-is : 0 < record_size c → left_over c octets ≡ left_over c held
-  rest-is some = ap (λ n. n % record_size c) length-is ∙ add-mod count (record_size c) (length held) some
+  pub rest-is : left_over c octets ≡ left_over c held
+  rest-is = ap (λ n. n % record_size c) length-is ∙ mul-add-mod_self_right count (record_size c) (length held)
 
 module _ (c : Coding) (batch : Batch) (beyond : Bool) (octets : List ℕ) (texts : List Text)
     (h : Holds c batch beyond octets texts) where
@@ -163,6 +148,8 @@ held-full c batch after beyond octets texts more coding empty full some are h =
     let count : length more ≡ 256 =
     are.all ∙ ap (λ (k : Coding). record_count k batch.octets) h.coding ∙ ap (λ n. n / record_size c) own
     ∙ div-whole (record_size c) some_own in
+    let grown : length h.nearest * record_size c + 256 * record_size c ≡ (length h.nearest + 256) * record_size c =
+    omega arith in
     record {
       coding = coding ∙ h.coding;
       nearest = h.nearest ++ more;
@@ -172,14 +159,11 @@ held-full c batch after beyond octets texts more coding empty full some are h =
       prefix = octets;
       parts = sym (ap (λ l. octets ++ l) empty ∙ append-nil octets);
       long = length-is c octets h.prefix batch.octets (length h.nearest) h.parts h.long
-          ∙ sized (length h.nearest) (length (h.nearest ++ more)) (record_size c) (length batch.octets) own
-          (length-append h.nearest more ∙ ap (λ n. length h.nearest + n) count);
+          ∙ ap (λ n. length h.nearest * record_size c + n) own ∙ grown
+          ∙ ap (λ n. n * record_size c) (sym (length-append h.nearest more ∙ ap (λ n. length h.nearest + n) count));
       are = texts-held c batch beyond octets texts h more are;
       known = beyond-held c batch beyond octets texts h more are;
     }
-  where
-    sized : (a b s r : ℕ) → r ≡ 256 * s → b ≡ a + 256 → a * s + r ≡ b * s
-    sized a b s r size is = ap (λ n. a * s + n) size ∙ omega arith ∙ ap (λ n. n * s) (sym is)
 
 -- nothing was given yet
 pub holds-none : (batch : Batch) → batch.octets ≡ [] → Holds batch.coding batch false [] []
@@ -205,17 +189,14 @@ due-are c batch beyond octets texts space h =
     let some = some-size c batch beyond octets texts h space in
     record {
       each = h.each;
-      all = batched (length h.nearest) (record_count c octets) (record_count c batch.octets) h.batches h.whole
-          (count-held c batch beyond octets texts h some)
-          (div_below (length batch.octets) (record_size c) 256 some
-          (subst (λ (k : Coding). length batch.octets < 256 * record_size k) h.coding space));
+      all = omega (
+        arith,
+        h.whole,
+        count-held c batch beyond octets texts h some,
+        div_below (length batch.octets) (record_size c) 256 some
+            (subst (λ (k : Coding). length batch.octets < 256 * record_size k) h.coding space),
+      );
     }
-  where
-    batched : (stated count held batches : ℕ) → stated ≡ 256 * batches → count ≡ stated + held → held < 256
-        → stated ≡ in_batches count
-    batched stated count held batches whole is few =
-        whole ∙ ap (λ n. 256 * n) (sym (ap (λ n. n / 256) (is ∙ ap (λ n. n + held) whole ∙ omega arith)
-        ∙ div-mul-add batches 256 held few))
 
 -- the last records were given, after what was held before, and what is left over
 pub erases-all : (c : Coding) (batch after : Batch) (beyond now : Bool) (octets : List ℕ) (texts : List Text)
@@ -230,7 +211,7 @@ erases-all c batch after beyond now octets texts more rest by outcome space codi
     let some = some-size c batch beyond octets texts h space in
     let known : rest ≡ left_over c octets =
     is ∙ (λ i. left_over (coding i) (same i)) ∙ ap (λ (k : Coding). left_over k batch.octets) h.coding
-    ∙ sym (rest-is c octets h.prefix batch.octets (length h.nearest) h.parts h.long some) in
+    ∙ sym (rest-is c octets h.prefix batch.octets (length h.nearest) h.parts h.long) in
     let lines = record_texts batch.coding.basis more in (
       record {
         nearest = h.nearest ++ more;
@@ -245,38 +226,26 @@ erases-all c batch after beyond now octets texts more rest by outcome space codi
 
 -- ---- what is shown
 
-some-left : (n : ℕ) → outcome_by (suc n) ≡ LeftOver
-some-left n = ap (λ (b : Bool). if b then Done else LeftOver) (not-zero (suc n) (omega arith))
-  where
-    not-zero : (m : ℕ) → 0 < m → (m == 0) ≡ false
-    not-zero m lt = grind (arith, nat_tests)
-
 module _ (c : Configuration) where
   outcome-shows : (octets : List ℕ) (nearest : List NearestErased) (rest : ℕ) (beyond : Bool) (outcome : Outcome)
       → AreNearest (coding_of c) octets nearest → (coding_of c).params.n ≤ 255
       → rest ≡ record_rest c octets → beyond ≡ list_any is_beyond nearest
       → outcome ≡ outcome_with (outcome_by rest) beyond → OutcomeShows (erased_meaning c) octets outcome
-  outcome-shows octets nearest zero true Done are short is known ends = let no : Done ≡ Bad = ends in cc no
-  outcome-shows octets nearest zero false Done are short is known ends = (
-    λ partial. partial (sym is),
-    λ bad. let other = bad.1 in
-        let same : other.0 ≡ nearest = nearest_only (coding_of c) octets other.0 nearest short other.1 are in
-        let no : false ≡ true = known ∙ ap (list_any is_beyond) (sym same) ∙ other.2 in cc no,
-  )
-  outcome-shows octets nearest (suc n) true Done are short is known ends = let no : Done ≡ LeftOver = ends
-      ∙ ap (λ o. outcome_with o true) (some-left n) in cc no
-  outcome-shows octets nearest (suc n) false Done are short is known ends = let no : Done ≡ LeftOver = ends
-      ∙ ap (λ o. outcome_with o false) (some-left n) in cc no
-  outcome-shows octets nearest zero true Bad are short is known ends = (sym is, (nearest, are, sym known))
-  outcome-shows octets nearest zero false Bad are short is known ends = let no : Bad ≡ Done = ends in cc no
-  outcome-shows octets nearest (suc n) true Bad are short is known ends = let no : Bad ≡ LeftOver = ends
-      ∙ ap (λ o. outcome_with o true) (some-left n) in cc no
-  outcome-shows octets nearest (suc n) false Bad are short is known ends = let no : Bad ≡ LeftOver = ends
-      ∙ ap (λ o. outcome_with o false) (some-left n) in cc no
-  outcome-shows octets nearest zero true LeftOver are short is known ends = let no : LeftOver ≡ Bad = ends in cc no
-  outcome-shows octets nearest zero false LeftOver are short is known ends = let no : LeftOver ≡ Done = ends in cc no
-  outcome-shows octets nearest (suc n) beyond LeftOver are short is known ends = λ none. let no : suc n ≡ 0 = is
-      ∙ none in cc no
+  outcome-shows octets nearest rest beyond outcome are short is known ends =
+      subst (OutcomeShows (erased_meaning c) octets) (sym ends) (by rest beyond is known)
+    where
+      by : (rest : ℕ) (beyond : Bool) → rest ≡ record_rest c octets → beyond ≡ list_any is_beyond nearest
+          → OutcomeShows (erased_meaning c) octets (outcome_with (outcome_by rest) beyond)
+      by zero true is known = (sym is, (nearest, are, sym known))
+      by zero false is known = (
+        λ partial. partial (sym is),
+        λ bad. let same = nearest_only (coding_of c) octets bad.1.0 nearest short bad.1.1 are in
+            let no : false ≡ true = known ∙ ap (list_any is_beyond) (sym same) ∙ bad.1.2 in cc no,
+      )
+      by (suc n) beyond is known =
+          let left : outcome_by (suc n) ≡ LeftOver = grind (arith, nat_tests) in
+          subst (λ o. OutcomeShows (erased_meaning c) octets (outcome_with o beyond)) (sym left)
+          (λ none. let no : suc n ≡ 0 = is ∙ none in cc no)
 
   output : (octets : List ℕ) (all : List Text) → AreTexts (coding_of c) octets all
       → (erased_meaning c).is_output octets (output_of all)
@@ -355,13 +324,9 @@ module _ (c : Configuration) where
       ending octets texts
       → WroteTexts (is_sink_fault ending) texts taken → Ends ending (erased_meaning c) c.limit octets taken
   erased-ends {R} k same limit within now ending octets texts taken staged =
-      let Stands : Coding → Erasing R → List ℕ → List Text → Type 0 =
-      λ k t o x. HasSpace t.records × Holds k t.records t.beyond o x in
-      let Stopped : Erasing R → List ℕ → List Text → Type 0 = λ t o x. ⊥ in
-      let Finished : Coding → Erasing R → List ℕ → List Text → Outcome → Type 0 = λ k t o x by. ErasesAll k o x by in
-      ends-staged (Stands (coding_of c)) Stopped (Finished (coding_of c)) (erased_meaning c) c.limit
+      ends-staged (λ (t : Erasing R) o x. HasSpace t.records × Holds (coding_of c) t.records t.beyond o x)
+      (λ t o x. ⊥) (λ t o x by. ErasesAll (coding_of c) o x by) (erased_meaning c) c.limit
       (AreTexts (coding_of c)) output order now (λ o x _ s. early now.records now.beyond o x s.0 s.1)
       (λ o x _ none. absurd none) (λ o x by _ f. whole o x by f) ending octets texts taken
-      (subst (λ (n : ℕ). StagedTo (Stands (coding_of c)) Stopped (Finished (coding_of c)) n now ending octets texts)
-      within
-      (subst (λ (k : Coding). StagedTo (Stands k) Stopped (Finished k) limit now ending octets texts) same staged))
+      (transport (λ i. StagedTo (λ (t : Erasing R) o x. HasSpace t.records × Holds (same i) t.records t.beyond o x)
+      (λ t o x. ⊥) (λ t o x by. ErasesAll (same i) o x by) (within i) now ending octets texts) staged)

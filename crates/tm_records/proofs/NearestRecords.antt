@@ -1,5 +1,6 @@
 -- What is nearest to the words of records.
-use Rattle.std.proofs.Common.{◌≡◌, ℕ, zero, suc, ◌+◌, ◌-◌, ◌*◌, ◌≤◌, ◌==◌, Bool, not, List, [], ◌∷◌, ◌++◌, length, map, take, drop, refl, sym, ap, ◌∙◌, subst, arith, length-append, length-drop}
+use Rattle.std.proofs.Common.{◌≡◌, ℕ, zero, suc, ◌+◌, ◌-◌, ◌*◌, ◌≤◌, ◌==◌, not, List, [], ◌∷◌, ◌++◌, length, map, take, drop, refl, sym, ap, ◌∙◌, subst, arith, length-append, length-drop}
+use Rattle.std.proofs.Math.Path.{transport}
 use Rattle.std.proofs.lemmas.List.{length-map, length-take-le, take-append-le, drop-append-le, drop-drop}
 use Rattle.std.proofs.lemmas.Nat.{div-add-mod'}
 use Rattle.tm_gf256.specs.Octet.{element_of}
@@ -7,7 +8,7 @@ use Rattle.tm_rs_code.specs.Erasures.{IsNearestErased, NearestErased}
 use Rattle.tm_rs_code.proofs.HasNearest.{has_nearest_erased}
 use Rattle.tm_rs_code.proofs.OnlyNearest.{nearest_erased_only}
 use Rattle.tm_records.specs.declared.coding.Coding.{Coding}
-use Rattle.tm_records.specs.Records.{record_size, record_count, first_word, first_erased, in_batches, AreFirstNearest, AreNearest, AreNearestDue}
+use Rattle.tm_records.specs.Records.{record_size, record_count, first_word, first_erased, AreFirstNearest, AreNearest, AreNearestDue}
 
 pub has_first : (c : Coding) (count : ℕ) (octets : List ℕ) → (nearest : List NearestErased)
     × AreFirstNearest c octets nearest × (length nearest ≡ count)
@@ -48,10 +49,6 @@ first_only c octets (x ∷ a) (y ∷ b) short fits same h k =
     (omega (arith, length-drop (record_size c) octets)) (omega arith) h.1 k.1 in
     λ i. one i ∷ more i
 
--- those in whole batches are not more than those that are whole
-pub in_batches-le : (count : ℕ) → in_batches count ≤ count
-in_batches-le count = omega arith
-
 whole-fits : (c : Coding) (octets : List ℕ) (count : ℕ) → count ≤ record_count c octets
     → count * record_size c ≤ length octets
 whole-fits c octets count le = grind (arith, div-add-mod' (length octets) (record_size c))
@@ -66,20 +63,9 @@ pub nearest_due_only : (c : Coding) (octets : List ℕ) (a b : List NearestErase
     → AreNearestDue c octets a → AreNearestDue c octets b → a ≡ b
 nearest_due_only c octets a b short h k =
     first_only c octets a b short (whole-fits c octets (length a)
-    (omega (arith, h.all, in_batches-le (record_count c octets)))) (h.all ∙ sym k.all) h.each k.each
+    (omega (arith, h.all))) (h.all ∙ sym k.all) h.each k.each
 
 -- ---- octets that go on
-
-first_word-longer : (c : Coding) (octets more : List ℕ) → record_size c ≤ length octets
-    → first_word c (octets ++ more) ≡ first_word c octets
-first_word-longer c octets more fits =
-    ap (map (element_of c.basis)) (take-append-le c.params.n octets more (omega arith))
-
-first_erased-longer : (c : Coding) (octets more : List ℕ) → record_size c ≤ length octets
-    → first_erased c (octets ++ more) ≡ first_erased c octets
-first_erased-longer c octets more fits =
-    ap (map (λ flag. not (flag == 0))) (ap (take c.params.n) (drop-append-le c.params.n octets more (omega arith))
-    ∙ take-append-le c.params.n (drop c.params.n octets) more (omega (arith, length-drop c.params.n octets)))
 
 -- what is nearest to first records, whatever octets come after them
 pub first-longer : (c : Coding) (octets more : List ℕ) (nearest : List NearestErased)
@@ -88,11 +74,12 @@ pub first-longer : (c : Coding) (octets more : List ℕ) (nearest : List Nearest
 first-longer c octets more [] fits are = tt
 first-longer c octets more (x ∷ nearest) fits are =
     let steps = mul-suc (length nearest) (record_size c) in
-    let room : record_size c ≤ length octets = omega arith in (
-      subst (λ (w : List ℕ). IsNearestErased c.params.e c.repair (first_erased c (octets ++ more)) w x)
-          (sym (first_word-longer c octets more room))
-          (subst (λ (f : List Bool). IsNearestErased c.params.e c.repair f (first_word c octets) x)
-          (sym (first_erased-longer c octets more room)) are.0),
+    let room : record_size c ≤ length octets = omega arith in
+    let word = ap (map (element_of c.basis)) (take-append-le c.params.n octets more (omega arith)) in
+    let erased = ap (map (λ flag. not (flag == 0))) (ap (take c.params.n)
+    (drop-append-le c.params.n octets more (omega arith))
+    ∙ take-append-le c.params.n (drop c.params.n octets) more (omega (arith, length-drop c.params.n octets))) in (
+      transport (λ i. IsNearestErased c.params.e c.repair (sym erased i) (sym word i) x) are.0,
       subst (λ (l : List ℕ). AreFirstNearest c l nearest) (sym (drop-append-le (record_size c) octets more room))
           (first-longer c (drop (record_size c) octets) more nearest
           (omega (arith, length-drop (record_size c) octets)) are.1),

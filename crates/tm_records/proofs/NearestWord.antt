@@ -1,8 +1,9 @@
 -- Words in hexadecimal, and the lines of their nearest codewords.
-use Rattle.std.proofs.Common.{◌≡◌, ◌≢◌, ℕ, ◌*◌, ◌/◌, ◌%◌, ◌≤◌, ◌<◌, Bool, true, false, List, [], length, map, if◌then◌else◌, Option, Some, None, Result, Ok, Err, refl, sym, ap, ◌∙◌, subst, arith}
+use Rattle.std.proofs.Common.{◌≡◌, ◌≢◌, ℕ, ◌*◌, ◌/◌, ◌%◌, ◌≤◌, ◌<◌, true, false, List, [], length, map, if◌then◌else◌, Option, Some, None, Result, Ok, Err, refl, sym, ap, ◌∙◌, subst, arith}
 use Rattle.std.specs.Prelude.{MatchResult, IsOk}
 use Rattle.std.specs.List.{list_all}
 use Rattle.std.specs.Result.{result_unwrap_or}
+use Rattle.std.proofs.lemmas.Bool.{false_from_ne_true}
 use Rattle.std.proofs.lemmas.Bool.Decides.{nat_tests}
 use Rattle.std.proofs.lemmas.List.Sums.{AllPass-from_list_all, list_all-from_AllPass}
 use Rattle.hex.specs.Hex.{is_hex_digit, decode_sized}
@@ -36,19 +37,13 @@ all-digits text count octets answer written ok =
     list_all-from_AllPass is_hex_digit text ((IsOk-decode_sized text count).0
     ((IsOk-written (decode_sized text count) answer octets written).0 ok)).1
 
-no-digit : (text : List ℕ) (count : ℕ) (octets : List ℕ) (e : FromHexError) (all : Bool) → length text ≡ 2 * count
-    → Written text count (Err e) octets
-    → list_all is_hex_digit text ≡ all → all ≡ false
-no-digit text count octets e false long written is = refl
-no-digit text count octets e true long written is =
-    let fails : IsOk {T = Unit {0}} (Err e) = (IsOk-written (decode_sized text count) (Err e) octets written).1
-    ((IsOk-decode_sized text count).1 (long, AllPass-from_list_all is_hex_digit text is)) in
-    cc fails
-
 pub not_all-digits : (text : List ℕ) (count : ℕ) (octets : List ℕ) (e : FromHexError) → length text ≡ 2 * count
     → Written text count (Err e) octets → list_all is_hex_digit text ≡ false
-not_all-digits text count octets e long written = no-digit text count octets e (list_all is_hex_digit text) long
-    written refl
+not_all-digits text count octets e long written =
+    false_from_ne_true (list_all is_hex_digit text) (λ is.
+    let fails : IsOk {T = Unit {0}} (Err e) = (IsOk-written (decode_sized text count) (Err e) octets written).1
+    ((IsOk-decode_sized text count).1 (long, AllPass-from_list_all is_hex_digit text is)) in
+    cc fails)
 
 -- ---- the text that is accepted
 
@@ -94,47 +89,37 @@ Repaired c octets answer now = (codeword : List ℕ)
     × IsNearest (correctable c.code) c.repair (map (element_of c.basis) octets) (found answer codeword)
     × (now ≡ map (sent_octet c.basis) codeword)
 
-repaired-text : (c : Configuration) (text octets now : List ℕ) (answer : Answer) → word_refusal c text ≡ None
+pub repaired-text : (c : Configuration) (text octets now : List ℕ) (answer : Answer) → word_refusal c text ≡ None
     → (list_all is_hex_digit text ≡ true → octets ≡ octets_of_hex text)
     → Repaired c octets answer now → Repaired c (octets_of_hex text) answer now
 repaired-text c text octets now answer accepted read repaired =
     subst (λ (l : List ℕ). Repaired c l answer now) (read (accepted-text c text accepted).digits) repaired
 
-pub nearest-line : (c : Configuration) (text octets now : List ℕ) (answer : Answer) → word_refusal c text ≡ None
-    → (list_all is_hex_digit text ≡ true → octets ≡ octets_of_hex text)
-    → Repaired c octets answer now → IsWordLine c text (word_text answer now)
-nearest-line c text octets now answer accepted read repaired =
-    let near = repaired-text c text octets now answer accepted read repaired in
+pub nearest-line : (c : Configuration) (text now : List ℕ) (answer : Answer)
+    → Repaired c (octets_of_hex text) answer now → IsWordLine c text (word_text answer now)
+nearest-line c text now answer near =
     record { answer = answer; codeword = near.0; nearest = near.1; is_line = ap (word_text answer) near.2 }
 
 -- all of it was written
-pub line-written : (c : Configuration) (text octets now : List ℕ) (answer : Answer) → word_refusal c text ≡ None
-    → (list_all is_hex_digit text ≡ true → octets ≡ octets_of_hex text)
-    → Repaired c octets answer now → (taken taken_now noted : Option (List ℕ))
+pub line-written : (c : Configuration) (text now : List ℕ) (answer : Answer)
+    → Repaired c (octets_of_hex text) answer now → (taken taken_now noted : Option (List ℕ))
     → Wrote taken taken_now (word_text answer now)
     → WroteOutput (word_meaning text c) [] (taken_by taken taken_now noted noted)
-line-written c text octets now answer accepted read repaired taken taken_now noted wrote = (
+line-written c text now answer near taken taken_now noted wrote = (
   record { out = word_text answer now; notes = [] },
-  (nearest-line c text octets now answer accepted read repaired, refl),
+  (nearest-line c text now answer near, refl),
   record { out = wrote; notes = wrote-nothing noted },
 )
 
 -- a word is uncorrectable where it is answered so
-pub is_beyond : (c : Configuration) (text octets now : List ℕ) (answer : Answer) → word_refusal c text ≡ None
-    → (list_all is_hex_digit text ≡ true → octets ≡ octets_of_hex text)
-    → Repaired c octets answer now → answer ≡ Beyond → IsBeyond c text
-is_beyond c text octets now answer accepted read repaired is =
-    let near = repaired-text c text octets now answer accepted read repaired in
+pub is_beyond : (c : Configuration) (text now : List ℕ) (answer : Answer)
+    → Repaired c (octets_of_hex text) answer now → answer ≡ Beyond → IsBeyond c text
+is_beyond c text now answer near is =
     subst (λ (a : Answer). IsNearest (correctable c.code) c.repair (word_of c text) (found a near.0)) is near.1
 
-pub not_beyond : (c : Configuration) (text octets now : List ℕ) (answer : Answer) (d : ℕ) → word_refusal c text ≡ None
-    → (list_all is_hex_digit text ≡ true → octets ≡ octets_of_hex text)
-    → Repaired c octets answer now → answer ≡ Fixed d → IsBeyond c text → ⊥
-not_beyond c text octets now answer d accepted read repaired is beyond =
-    let near = repaired-text c text octets now answer accepted read repaired in
+pub not_beyond : (c : Configuration) (text now : List ℕ) (answer : Answer) (d : ℕ)
+    → Repaired c (octets_of_hex text) answer now → answer ≡ Fixed d → IsBeyond c text → ⊥
+not_beyond c text now answer d near is beyond =
     let fixed : IsNearest (correctable c.code) c.repair (word_of c text) (found (Fixed d) near.0) = subst
     (λ (a : Answer). IsNearest (correctable c.code) c.repair (word_of c text) (found a near.0)) is near.1 in
-    let far = beyond near.0 fixed.0 in
-    let at = fixed.1 in
-    let within = fixed.2 in
-    absurd (omega (arith, far, at, within))
+    absurd (omega (arith, beyond near.0 fixed.0, fixed.1, fixed.2))

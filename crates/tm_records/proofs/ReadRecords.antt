@@ -1,12 +1,12 @@
 -- Records that are read into words.
-use Rattle.std.proofs.Common.{◌≡◌, ℕ, suc, ◌+◌, ◌-◌, ◌*◌, ◌≤◌, ◌<◌, ◌==◌, ◌⊎◌, inl, inr, Bool, not, List, [], ◌∷◌, length, map, take, drop, get_or, set, sym, ap, ◌∙◌, subst, arith, Option, unwrap_or}
+use Rattle.std.proofs.Common.{◌≡◌, ℕ, suc, ◌+◌, ◌-◌, ◌*◌, ◌≤◌, ◌<◌, ◌==◌, ◌⊎◌, inl, inr, not, List, [], ◌∷◌, length, map, take, drop, get_or, set, sym, ap, ◌∙◌, subst, arith, unwrap_or}
+use Rattle.std.proofs.Math.Path.{transport}
 use Rattle.std.proofs.lemmas.Bool.{cases_lt}
 use Rattle.std.proofs.lemmas.List.{drop-drop, drop-take, take-take, get_or-set_other, get_or-set_same}
 use Rattle.tm_gf256.specs.Octet.{element_of}
 use Rattle.tm_gf256.specs.Poly.{numbers}
 use Rattle.tm_rs_code.specs.Erasures.{IsNearestErased}
 use Rattle.tm_rs.specs.Answers.{found_erased}
-use Rattle.tm_rs.specs.declared.answers.ErasedAnswer.{ErasedAnswer}
 use Rattle.tm_rs.specs.declared.answers.ErasedAnswer.TheVariants.{Beyond}
 use Rattle.tm_workers.specs.declared.words.ErasedWord.{ErasedWord}
 use Rattle.tm_workers.specs.Batch.{EachBecomes}
@@ -28,15 +28,8 @@ nearest-are c octets (w ∷ words) (w' ∷ now) read become =
     one : DecodesErased c.params c.repair w w' → IsNearestErased c.params.e c.repair (first_erased c octets)
         (first_word c octets) (nearest_in c w')
     one d =
-        let said : d.answer ≡ unwrap_or w'.answer Beyond = sym
-        (ap (λ (o : Option ErasedAnswer). unwrap_or o Beyond) d.answered) in
-        subst (λ (l : List ℕ). IsNearestErased c.params.e c.repair (first_erased c octets) l (nearest_in c w'))
-        read.0.symbols
-        (subst (λ (f : List Bool). IsNearestErased c.params.e c.repair f (numbers (take c.params.n w.symbols))
-        (nearest_in c w')) read.0.erased
-        (subst (λ (a : ErasedAnswer). IsNearestErased c.params.e c.repair (take c.params.n w.erased)
-        (numbers (take c.params.n w.symbols)) (found_erased a (numbers (take c.params.n w'.symbols)))) said
-        d.nearest))
+        transport (λ i. IsNearestErased c.params.e c.repair (read.0.erased i) (read.0.symbols i)
+        (found_erased (sym (ap (λ o. unwrap_or o Beyond) d.answered) i) (numbers (take c.params.n w'.symbols)))) d.nearest
 
 -- a record that was read into a word
 pub record-read : (c : Coding) (index size : ℕ) (octets : List ℕ) (w : ErasedWord) → size ≡ record_size c

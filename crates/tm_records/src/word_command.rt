@@ -5,7 +5,7 @@ ghost use Rattle.hex.specs.Hex.{is_hex_digit};
 ghost use Rattle.tm_base.specs.Outside.{HasCause};
 ghost use Rattle.tm_base.specs.Written.{Wrote, WrotePrefix};
 ghost use Rattle.tm_config.specs.Configuration.{correctable};
-ghost use Rattle.tm_driver.specs.Courses.{SinkWent, sink_call};
+ghost use Rattle.tm_driver.specs.Courses.{SinkCourse, sink_call};
 ghost use Rattle.tm_driver.specs.Meaning.{Ends, taken_by};
 ghost use Rattle.tm_driver.specs.Statuses.{is_sink_fault};
 ghost use Rattle.tm_gf256.specs.Octet.{sent_octet, element_of};
@@ -130,7 +130,7 @@ pub fn word<O: Sink>(config: &Config, text: &[u8], out: &mut O) -> Ending
     ensures ends { (noted : Option (List ℕ)) → Ends result (word_meaning text.now config.now) config.now.limit []
         (taken_by (O.taken out.old) (O.taken out.new) noted noted) }
     ensures answers { (result ≡ Ending.Done) ⊎ (result ≡ Ending.Bad) ⊎ (result ≡ Ending.SinkFault) }
-    ensures sink { SinkWent (is_sink_fault result) (sink_call O.taken O.faults O.is_last out.old out.new) }
+    ensures sink { SinkCourse (is_sink_fault result) (sink_call O.taken O.faults O.is_last out.old out.new) }
 {
     let mut room = [0; LONGEST_WORD];
     let octets = &mut room[..text.len() / 2];

@@ -1,6 +1,5 @@
 use Rattle.std.proofs.Common.{rules, ◌∙◌, Ok, refl, sym, ap}
 use Rattle.tm_base.specs.declared.outside.NoMemory.{NoMemory}
-use Rattle.tm_driver.specs.Courses.{sink_state, source_state}
 use Rattle.tm_words.specs.declared.commands.JobKind.{JobKind}
 use Rattle.tm_cli.specs.Commands.{command_by}
 use Rattle.tm_cli.specs.Commands.Command.{Encode, Decode, Report, Trace, Word, Soak, Erased, Certify, Check, Bits}
@@ -34,43 +33,29 @@ returns-in-Bits-clause-answered g c =
 
 pub returns-in-Report-clause-answered : goal.returns-in-Report-clause-answered
 returns-in-Report-clause-answered g c =
-    without-notes c.report.result _ Report c.args.config.now _ _
-    (sink_state (g.N.Sink.taken c.args.notes.now) (g.N.Sink.faults c.args.notes.now))
-    (g.N.Sink.is_last c.args.notes.now)
+    without-notes c.report.result _ Report c.args.config.now _ _ _ _
     (ap (λ (k : JobKind). command_by k c.args.job.now) c.in-Report.is) c.report.ensures.answered
 
 pub returns-in-Trace-clause-answered : goal.returns-in-Trace-clause-answered
 returns-in-Trace-clause-answered g c =
-    without-notes c.trace.result _ Trace c.args.config.now _ _
-    (sink_state (g.N.Sink.taken c.args.notes.now) (g.N.Sink.faults c.args.notes.now))
-    (g.N.Sink.is_last c.args.notes.now)
+    without-notes c.trace.result _ Trace c.args.config.now _ _ _ _
     (ap (λ (k : JobKind). command_by k c.args.job.now) c.in-Trace.is) c.trace.ensures.answered
 
 pub returns-in-Certify-clause-answered : goal.returns-in-Certify-clause-answered
 returns-in-Certify-clause-answered g c =
-    without-notes c.certify.result _ Certify c.args.config.now _ _
-    (sink_state (g.N.Sink.taken c.args.notes.now) (g.N.Sink.faults c.args.notes.now))
-    (g.N.Sink.is_last c.args.notes.now)
+    without-notes c.certify.result _ Certify c.args.config.now _ _ _ _
     (ap (λ (k : JobKind). command_by k c.args.job.now) c.in-Certify.is) c.certify.ensures.answered
 
 pub returns-in-Word-clause-answered : goal.returns-in-Word-clause-answered
 returns-in-Word-clause-answered g c =
-    without-input {E = NoMemory} (Ok c.word.result) _ (Word c.as_bytes.result.now) c.args.config.now
-    (source_state (g.S.Source.given c.args.source.now) (g.S.Source.left c.args.source.now)
-    (g.S.Source.ended c.args.source.now) (g.S.Source.faults c.args.source.now))
-    (g.S.Source.is_last c.args.source.now) _ (sink_state (g.N.Sink.taken c.args.notes.now)
-    (g.N.Sink.faults c.args.notes.now)) (g.N.Sink.is_last c.args.notes.now)
+    without-input {E = NoMemory} (Ok c.word.result) _ (Word c.as_bytes.result.now) c.args.config.now _ _ _ _ _
     (ap (λ (k : JobKind). command_by k c.args.job.now) c.in-Word.is ∙ ap Word (sym c.as_bytes.ensures)) refl
     c.word.ensures.ends c.word.ensures.sink
 
 pub returns-in-Soak-clause-answered : goal.returns-in-Soak-clause-answered
 returns-in-Soak-clause-answered g c =
     without-input c.soak.result _
-    (Soak c.args.job.now.seed c.args.job.now.frames c.args.job.now.hits) c.args.config.now
-    (source_state (g.S.Source.given c.args.source.now) (g.S.Source.left c.args.source.now)
-    (g.S.Source.ended c.args.source.now) (g.S.Source.faults c.args.source.now))
-    (g.S.Source.is_last c.args.source.now) _ (sink_state (g.N.Sink.taken c.args.notes.now)
-    (g.N.Sink.faults c.args.notes.now)) (g.N.Sink.is_last c.args.notes.now)
+    (Soak c.args.job.now.seed c.args.job.now.frames c.args.job.now.hits) c.args.config.now _ _ _ _ _
     (ap (λ (k : JobKind). command_by k c.args.job.now) c.in-Soak.is) refl c.soak.ensures.ends c.soak.ensures.sink
 
 pub erased-requires : goal.erased-requires

@@ -3,12 +3,12 @@ use Rattle.std.proofs.lemmas.Grind.{common_steps}
 use Rattle.tm_config.specs.Configuration.{codeblock_length}
 use Rattle.tm_inner.specs.Sending.{InnerSenderStandsFor}
 use Rattle.tm_inner.specs.Symbols.{symbols_of_octets}
+use Rattle.tm_inner.proofs.Symbols.{symbols-none}
 use Rattle.tm_cli.specs.Generated.{generator_of, drawn, draw_count, generated_units}
 use Rattle.tm_cli.specs.Receiving.{HandedDue}
 use Rattle.tm_cli.specs.declared.counts.Counts.{Counts}
-use Rattle.tm_cli.proofs.FewSymbols.{length-symbols}
 use Rattle.tm_cli.proofs.Generating.{drawn-none, units-none, units-more, draws-frames}
-use Rattle.tm_cli.proofs.Soaking.{unit_few, handed-none, handed-more, units-long}
+use Rattle.tm_cli.proofs.Soaking.{unit_few, few-more, handed-none, handed-more}
 use Rattle.tm_cli.proofs.soak_command.pass_frames.Goals as goal
 
 pub loop-frame-init : goal.loop-frame-init
@@ -18,12 +18,14 @@ loop-frame-init g c =
     let none : 0 ≡ 0 * draw_count config c.args.hits = omega arith in
     record {
       draws = c.new-draws.ensures ∙ drawn-none start ∙ ap (λ n. drawn n start) none;
-      fresh = c.new-sender.ensures.fresh;
       config = c.new-sender.ensures.config;
       stands =
           subst (InnerSenderStandsFor c.new-sender.result)
           (sym (units-none config c.args.hits start)) c.new-sender.ensures.stands;
-      few = omega (arith, ap length (units-none config c.args.hits start));
+      few = omega (
+        arith,
+        ap length (ap (symbols_of_octets config) (units-none config c.args.hits start) ∙ symbols-none config),
+      );
       ready = c.requires.ready;
       by = c.requires.by;
       handed =
@@ -59,17 +61,17 @@ loop-frame-preserved g c =
     let made = c.generate_unit in
     let pass = c.pass_unit in
     let frame = here._frame in
-    let small : length made.new.unit ≤ 2044 = grind (arith, common_steps, made.ensures.size, here.auto.unit) in
     record {
       draws = draws-frames config frame hits start here.draws made.new.draws was.draws made.ensures.draws;
-      fresh = pass.ensures.fresh;
       config = pass.ensures.config ∙ was.config;
       stands =
           subst (InnerSenderStandsFor pass.new.sender)
           (ap (λ (unit : List _). generated_units config frame hits start ++ unit) made.ensures.unit
           ∙ units-more config frame hits start here.draws was.draws)
           (pass.ensures.stands (generated_units config frame hits start) was.stands);
-      few = units-long config frame hits start here.draws made.new.unit was.draws made.ensures.unit small was.few;
+      few =
+          few-more config hits frame start here.draws here.sender made.new.unit was.config was.draws made.ensures.unit
+          was.few (pass.ensures.few (generated_units config frame hits start) was.stands);
       ready = pass.ensures.ready;
       by = pass.ensures.by;
       handed =
@@ -87,9 +89,8 @@ returns-clause-few g c =
       c.loop-frame.auto._frame-end,
       c.loop-frame-test.false,
     ) in
-    let few = subst (λ n. length (generated_units config n c.args.hits start) ≤ 2044 * n) end
-    c.loop-frame.invariant.few in
-    omega (arith, few, length-symbols config (generated_units config c.args.frames c.args.hits start))
+    subst (λ n. length (symbols_of_octets config (generated_units config n c.args.hits start)) ≤ 32704 * n) end
+    c.loop-frame.invariant.few
 
 pub returns-clause-handed : goal.returns-clause-handed
 returns-clause-handed g c =

@@ -1,19 +1,16 @@
-use Rattle.std.proofs.lemmas.Result.{IfOk-at_ok}
-use Rattle.tm_cli.proofs.Soaking.{unit-sent, unit-received}
+use Rattle.std.proofs.Common.{arith, length-take}
+use Rattle.tm_cli.proofs.Soaking.{unit-few, unit-received}
 use Rattle.tm_cli.proofs.soak_command.pass_unit.Goals as goal
 
-pub unwrap-requires : goal.unwrap-requires
-unwrap-requires g c =
-    let push = c.push-sent in
-    unit-sent c.args.sender.now c.requires.stands.0 c.args.unit.now push.result c.new-symbols.result push.new.out
-    c.new-symbols.ensures c.requires.unit c.requires.stands.1 c.requires.fresh
-    push.ensures.stopped.0 push.ensures.prefix push.ensures.rose c.octets-octets.ensures.full
+pub returns-clause-few : goal.returns-clause-few
+returns-clause-few g c = λ given stands.
+    let s = c.symbols-count in
+    unit-few c.args.sender.now s.new.self given c.args.unit.now _ s.ensures.made stands
+    (omega (arith, s.ensures.fits, length-take s.result s.new.room))
 
 pub returns-clause-handed : goal.returns-clause-handed
 returns-clause-handed g c = λ config given stands was.
-    let push = c.push-sent in
+    let s = c.symbols-count in
     let r = c.receive in
-    let sent = IfOk-at_ok _ c.unwrap.ensures push.ensures.sent in
-    unit-received config c.args.sender.now push.new.self c.args.receiver.now r.new.receiver c.args.counts.now
-    r.new.items given c.args.unit.now c.octets-octets.result.now c.new-symbols.result push.new.out c.new-symbols.ensures
-    c.octets-octets.ensures.octets sent stands r.ensures.config r.ensures.handed was
+    unit-received config c.args.sender.now s.new.self c.args.receiver.now r.new.receiver c.args.counts.now
+    r.new.items given c.args.unit.now _ s.ensures.made stands r.ensures.config r.ensures.handed was

@@ -2,14 +2,14 @@ use Rattle.std.specs.Io.KnownBytes.{IsAtEnd}
 use Rattle.std.specs.Option.{IsSome}
 use Rattle.std.proofs.Common.{◌⊎◌, inl, inr, ◌≡◌, ◌≤◌, false, ℕ, List, map, string_bytes, Some, None, refl, sym, ◌∙◌, subst}
 use Rattle.tm_config.specs.Configuration.{Configuration, configuration_of}
-use Rattle.tm_driver.specs.Courses.{sink_state, source_state}
-use Rattle.tm_driver.specs.Meaning.{Ends, taken_by}
+use Rattle.tm_driver.specs.Courses.{sink_call, source_call}
+use Rattle.tm_driver.specs.Meaning.{Ends}
 use Rattle.tm_driver.specs.declared.ending.Ending.TheVariants.{LeftOver, SourceFault, SinkFault}
 use Rattle.tm_words.specs.declared.job.Job.{Job}
 use Rattle.tm_cli.specs.Commands.{Command, command_of, has_notes, meaning_of, reads}
 use Rattle.tm_cli.specs.Commands.Command.{Decode, Check}
 use Rattle.tm_cli.specs.Refusal.{AreParsedAs}
-use Rattle.tm_cli.specs.Run.{Answers, Call, HasNoFault, call_of}
+use Rattle.tm_cli.specs.Run.{Answers, Call, HasNoFault, taken_in}
 use Rattle.tm_cli.specs.declared.refusal.Refusal.{Refusal}
 use Rattle.tm_cli.proofs.Answering.{of-check, of-encode, left-reads, source-reads, status-small, never-two_or_five, without-fault, sink-rose, whole-input_known}
 use Rattle.tm_cli.proofs.top.run.Goals as goal
@@ -27,36 +27,24 @@ returns-in-Ok-clause-answered g c = λ job asked _.
     let command = command_of c.in-Command.job in
     let h = c.in-Ok.ensures.answered in
     let ending = c.in-Ok.ending in
-    let taken = g.O.Sink.taken c.args.out.now in
-    let now = g.O.Sink.taken c.dispatch.new.out in
-    let noted = g.N.Sink.taken c.args.notes.now in
-    let noted_now = g.N.Sink.taken c.dispatch.new.notes in
-    let all = taken_by taken now noted noted_now in
+    let call : Call = record {
+      source = source_call g.S.Source.given g.S.Source.left g.S.Source.ended g.S.Source.faults g.S.Source.is_last
+          c.args.source.now c.dispatch.new.source;
+      out = sink_call g.O.Sink.taken g.O.Sink.faults g.O.Sink.is_last c.args.out.now c.dispatch.new.out;
+      notes = sink_call g.N.Sink.taken g.N.Sink.faults g.N.Sink.is_last c.args.notes.now c.dispatch.new.notes;
+    } in
+    let all = taken_in call in
     let is = c.status.ensures in
-    let out = sink_state taken (g.O.Sink.faults c.args.out.now) in
-    let out_now = sink_state now (g.O.Sink.faults c.dispatch.new.out) in
-    let notes = sink_state noted (g.N.Sink.faults c.args.notes.now) in
-    let notes_now = sink_state noted_now (g.N.Sink.faults c.dispatch.new.notes) in
-    let call : Call = call_of
-    (source_state (g.S.Source.given c.args.source.now) (g.S.Source.left c.args.source.now)
-    (g.S.Source.ended c.args.source.now) (g.S.Source.faults c.args.source.now))
-    (source_state (g.S.Source.given c.dispatch.new.source) (g.S.Source.left c.dispatch.new.source)
-    (g.S.Source.ended c.dispatch.new.source) (g.S.Source.faults c.dispatch.new.source))
-    (g.S.Source.is_last c.dispatch.new.source) out out_now (g.O.Sink.is_last c.dispatch.new.out) notes notes_now
-    (g.N.Sink.is_last c.dispatch.new.notes) in
+    let law = c.link_law.ensures in
     let decodes : command ≡ Decode → Ends ending (meaning_of Decode config) config.limit h.0 all =
     λ asks. subst (λ (k : Command). Ends ending (meaning_of k config) config.limit h.0 all) asks h.1.ends in
     let checks : command ≡ Check → Ends ending (meaning_of Check config) config.limit h.0 all =
     λ asks. subst (λ (k : Command). Ends ending (meaning_of k config) config.limit h.0 all) asks h.1.ends in
     let no_sink : HasNoFault call → ending ≡ SinkFault → ⊥ = λ none failed.
-    elim (sink-rose ending out out_now (g.O.Sink.is_last c.dispatch.new.out) notes notes_now
-    (g.N.Sink.is_last c.dispatch.new.notes) h.1.sinks failed) [
-      | inl p ↦ none.out p.0
-      | inr p ↦ none.notes p.0
-    ] in
+    elim (sink-rose ending call.out call.notes h.1.sinks failed) [ inl p ↦ none.out p.0 | inr p ↦ none.notes p.0 ] in
     let no_source : HasNoFault call → ending ≡ SourceFault → ⊥ = λ none failed.
     none.source ((h.1.course (source-reads ending command config h.0 all h.1.ends failed)).fault failed) in
-    let at_end : ending ≡ LeftOver → IsAtEnd (g.S.Source.left c.dispatch.new.source) = λ over.
+    let at_end : ending ≡ LeftOver → IsAtEnd call.source.now.left = λ over.
     ((h.1.course (left-reads ending command config h.0 all h.1.ends over)).ended (inr (inr over))).1 in
     let answer : Answers c.status.result command config call = record {
       octets = h.0;
@@ -74,29 +62,21 @@ returns-in-Ok-clause-answered g c = λ job asked _.
           (without-fault ending (no_source none) (no_sink none));
       whole_input = λ input said within whole none. subst (λ (s : ℕ). (s ≡ 0) ⊎ (s ≡ 1)) (sym is)
           (whole-input_known ending (meaning_of command config) config.limit h.0 input
-          (g.S.Source.left c.dispatch.new.source) all h.1.ends (sym said ∙ h.1.gave.consumed) at_end within whole
-          (no_source none) (no_sink none));
-      clean =
-          λ asks. c.link_law.ensures.clean ending c.status.result config h.0 taken now noted noted_now read.2 is
-          (decodes asks);
-      disturbed =
-          λ asks. c.link_law.ensures.disturbed ending c.status.result config h.0 taken now noted noted_now read.2 is
-          (decodes asks);
+          call.source.now.left all h.1.ends (sym said ∙ h.1.gave.consumed) at_end within whole (no_source none)
+          (no_sink none));
+      clean = λ asks. law.clean ending c.status.result config h.0 all read.2 is (decodes asks);
+      disturbed = λ asks. law.disturbed ending c.status.result config h.0 all read.2 is (decodes asks);
       complemented_input =
-          λ asks. c.link_law.ensures.complemented_input ending c.status.result config h.0 taken now noted noted_now
-          read.2 is (decodes asks);
+          λ asks. law.complemented_input ending c.status.result config h.0 all read.2 is (decodes asks);
       complemented_symbols =
-          λ asks. c.link_law.ensures.complemented_symbols ending c.status.result config h.0 taken now noted noted_now
-          read.2 is (decodes asks);
-      found =
-          λ asks. c.link_law.ensures.found ending c.status.result config h.0 taken now noted noted_now read.2 is
-          (decodes asks);
+          λ asks. law.complemented_symbols ending c.status.result config h.0 all read.2 is (decodes asks);
+      found = λ asks. law.found ending c.status.result config h.0 all read.2 is (decodes asks);
       shown =
-          λ asks. c.certificate_law.ensures.shown ending c.status.result config h.0 taken now noted noted_now is
-          (checks asks);
+          λ asks. c.certificate_law.ensures.shown ending c.status.result config h.0 all.out all.out_now all.notes
+          all.notes_now is (checks asks);
       passes =
-          λ asks. c.certificate_law.ensures.passes ending c.status.result config h.0 taken now noted noted_now read.2
-          is (checks asks);
+          λ asks. c.certificate_law.ensures.passes ending c.status.result config h.0 all.out all.out_now all.notes
+          all.notes_now read.2 is (checks asks);
     } in
     subst (λ (j : Job). Answers c.status.result (command_of j) (configuration_of j.raw) call) same
     (subst (λ (x : Configuration). Answers c.status.result command x call) (sym read.1) answer)

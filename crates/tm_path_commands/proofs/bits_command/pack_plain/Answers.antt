@@ -35,7 +35,8 @@ returns-then-is_packed g c =
     let now = c.add_octets.new in
     subst (λ (l : List Bool). Packs g.W.TextTaker.took c.args.packer.now c.args.texts.now l now.self now.texts)
     (ap (drop c.args.skip) (sym (plain-packed k octets (sym c.is_packed.ensures ∙ c.if-is_packed.true)))
-    ∙ plain k.inner k c.args.skip octets (sym c.has_inner_code.ensures ∙ c.if-has_inner_code.false)) c.add_octets.ensures
+    ∙ plain k.inner k c.args.skip octets (sym c.has_inner_code.ensures ∙ c.if-has_inner_code.false))
+    c.add_octets.ensures
 
 pub returns-else-is_packed : goal.returns-else-is_packed
 returns-else-is_packed g c =

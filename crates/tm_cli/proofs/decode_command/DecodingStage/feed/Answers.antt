@@ -1,5 +1,6 @@
 use Rattle.std.proofs.Common.{rules, ◌≡◌, subst}
 use Rattle.tm_base.specs.Takers.{HandedOver}
+use Rattle.tm_cli.specs.Taken.{texts_by}
 use Rattle.tm_cli.specs.declared.reporting.Reporting.{Reporting}
 use Rattle.tm_cli.proofs.GivenTexts.{reported}
 use Rattle.tm_cli.proofs.Received.{decodes-more}
@@ -15,8 +16,8 @@ returns-clause-goes_on g c = λ _.
     h.0 _ r.new.items h.1 in
     let loan : r.new.items.texts.ghost_name ≡ _ = given.0 in
     record {
-      texts = given.1.texts;
-      handed = subst (HandedOver took c.args.texts.now given.1.texts) (search rules) given.1.over;
+      texts = texts_by s.counts h.0;
+      handed = subst (HandedOver took c.args.texts.now (texts_by s.counts h.0)) (search rules) given.1.over;
       stands = λ new o done few d. decodes-more took s.receiver r.new.receiver s.counts r.new.items.counts _
           r.new.items.texts.now c.args.piece.now h.0 r.ensures.config h.2 given.1 new.receiver.config o done d;
     }

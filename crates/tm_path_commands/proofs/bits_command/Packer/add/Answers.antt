@@ -39,7 +39,8 @@ returns-then-self-eq-TURN g c =
         are_octets = subst AreOctets (sym (append-nil room)) e.octets;
         all = ap (λ l. bits_of l ++ low_bits left (bit_and value 255)) all
             ∙ add-whole p.room p.count p.last c.args.octet p.pending count value
-            (omega (arith, c.self.invariant.0, c.self.told)) c.requires (omega arith) is c.if-pending-lt8.false c.self.invariant.1
+            (omega (arith, c.self.invariant.0, c.self.told)) c.requires (omega arith) is c.if-pending-lt8.false
+            c.self.invariant.1
             ∙ ap (λ (l : List Bool). l ++ low) c.self.view_is;
       };
       silent = refl;
@@ -54,5 +55,6 @@ returns-else-self-eq-TURN g c =
     let is : value ≡ joined count p.last c.args.octet = λ i. joined count (c.from-2.ensures i) (c.from.ensures i) in
     packs-none g.W.TextTaker.took c.args.self.now low _ c.args.texts.now
     (add-whole p.room p.count p.last c.args.octet p.pending count value
-    (omega (arith, c.self.invariant.0, c.self.told)) c.requires (omega arith) is c.if-pending-lt8.false c.self.invariant.1
+    (omega (arith, c.self.invariant.0, c.self.told)) c.requires (omega arith) is c.if-pending-lt8.false
+    c.self.invariant.1
     ∙ ap (λ (l : List Bool). l ++ low) c.self.view_is)

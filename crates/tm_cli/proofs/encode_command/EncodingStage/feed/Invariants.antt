@@ -1,0 +1,14 @@
+use Rattle.std.proofs.Common.{◌<◌, ◌-◌, ◌≤◌, length, take}
+use Rattle.tm_driver.specs.Staged.{Takes}
+use Rattle.tm_cli.specs.Encoding.{Encodes}
+use Rattle.tm_cli.proofs.encode_command.EncodingStage.feed.Given as goal
+
+abbrev pub invariant-loop-at : goal.invariant-loop-at
+invariant-loop-at g l = record {
+  some : 0 < l.self.sender.config.frame_length;
+  within : l.at ≤ length l.piece;
+  takes : Takes g.W.TextTaker.took Encodes Encodes l.fn.self l.self l.fn.texts l.texts (take l.at l.piece);
+}
+
+abbrev pub decreases-loop-at : goal.decreases-loop-at
+decreases-loop-at g l = length l.piece - l.at
