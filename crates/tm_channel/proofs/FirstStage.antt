@@ -13,14 +13,15 @@ use Rattle.tm_windows.specs.declared.choosing.Chosen.{Chosen}
 use Rattle.tm_windows.specs.Queue.{Queueing}
 use Rattle.tm_inner.specs.Inner.{AreInnerBlocks, inner_bits, reported_slips, soft_octets, windows_of}
 use Rattle.tm_inner.specs.Phase.{IsChosen, IsChosenSoFar, phase_octets, skip_of}
-use Rattle.tm_inner.specs.InnerDecoding.{DecodesFor, HasFilled, InnerDecoderStandsFor, InnerDecoding, IsQueueOf, lost_in, origin_in}
+use Rattle.tm_inner.specs.InnerDecoding.{DecodesFor, HasFilled, InnerDecoderStandsFor, InnerDecoding, IsDrained, IsQueueOf, lost_in, origin_in}
 use Rattle.tm_inner.specs.Receiving.{FirstAt}
 use Rattle.tm_inner.specs.SymbolPlaces.{origin_by}
 use Rattle.tm_inner.proofs.Decoders.{IsOrWaits, stands-first}
 use Rattle.tm_inner.proofs.DecoderReads.{given-none}
 use Rattle.tm_inner.proofs.FollowedBits.{followed-few}
 use Rattle.tm_inner.proofs.ReceivedBits.{length-soft}
-use Rattle.tm_channel.specs.OctetReceiving.{BitReceiving, Notes, NotesOrigin, bits_of_blocks}
+use Rattle.tm_channel.specs.OctetReceiving.{Notes, NotesOrigin, bits_of_blocks}
+use Rattle.tm_channel.specs.declared.bit_receiver.BitReceiver.{BitReceiver}
 use Rattle.tm_channel.proofs.Searched.{RunOf}
 use Rattle.tm_channel.proofs.SymbolPlaces.{bits-kept}
 
@@ -105,7 +106,7 @@ phase-stays before now given longer done all config stays stood stands = go befo
         (ap (λ (k : Configuration). k.phase) config ∙ is) stands.choice)
 
 -- what is noted before the bits of a run
-abbrev pub NotesRun : InnerDecoding → BitReceiving → BitReceiving → ℕ → Type 0
+abbrev pub NotesRun : InnerDecoding → BitReceiver → BitReceiver → ℕ → Type 0
 NotesRun d r m origin = Notes r m × ((rate : Rate) → NotesOrigin r.batch.config r m rate origin)
     × (origin ≡ origin_in d) × (origin < 2 ^ 63 + 2 ^ 62)
 
@@ -142,7 +143,7 @@ origin-coded d rate lost is dropped =
 
 -- what is known of the run
 pub run-of : (c : Configuration) (d : InnerDecoding) (given : List ℕ) (done ready : List WindowBlock)
-    (r m : BitReceiving) (origin : ℕ) (rate : Rate) → d.config ≡ c → r.batch.config ≡ c → c.inner ≡ Some rate
+    (r m : BitReceiver) (origin : ℕ) (rate : Rate) → d.config ≡ c → r.batch.config ≡ c → c.inner ≡ Some rate
     → dropped_of (drop 1 ready) ≡ 0 → InnerDecoderStandsFor d given (done ++ ready) → NotesRun d r m origin
     → RunOf c rate (skip_of d.chosen) origin done ready r m
     × ((0 < length ready) → length (bits_of_blocks done) + c.keep ≤ length (bits_of_blocks (done ++ ready)))
@@ -208,6 +209,12 @@ filled-all : (c : Configuration) (queue : Option Queueing) (left : ℕ) → IsQu
     → HasFilled queue left → left ≡ 0
 filled-all c None left of plain filled = filled
 filled-all c (Some queue) left of plain filled = absurd (let is = ap is_some of.1 in cc)
+
+-- and there are no windows
+pub drained-plain : (c : Configuration) (queue : Option Queueing) → IsQueueOf c queue → is_some c.inner ≡ false
+    → IsDrained queue
+drained-plain c None of plain = tt
+drained-plain c (Some queue) of plain = absurd (let is = ap is_some of.1 in cc)
 
 -- all octets are taken
 pub plain-fills : (inner now : InnerDecoding) (octets : List ℕ) (count : ℕ) → is_some inner.config.inner ≡ false

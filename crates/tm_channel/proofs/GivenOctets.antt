@@ -25,8 +25,9 @@ use Rattle.tm_channel.specs.Due.{due}
 use Rattle.tm_channel.specs.Handing.{AreReceivedDue}
 use Rattle.tm_channel.specs.Origins.{place_symbol}
 use Rattle.tm_channel.specs.Receiving.{waiting_bits}
-use Rattle.tm_channel.specs.OctetReceiving.{AreKnown, AreSpare, BitReceiving, Decoded, Progress, ReceivedAt, Searched, Stages, StagesFor, StagesHand, StagesOn}
-use Rattle.tm_channel.proofs.FirstStage.{Fills, Stays, phase-stays}
+use Rattle.tm_channel.specs.OctetReceiving.{AreKnown, AreSpare, Decoded, Progress, ReceivedAt, Searched, Stages, StagesFor, StagesHand, StagesOn}
+use Rattle.tm_channel.specs.declared.bit_receiver.BitReceiver.{BitReceiver}
+use Rattle.tm_channel.proofs.FirstStage.{Fills, Stays, drained-plain, phase-stays}
 use Rattle.tm_channel.proofs.FurtherBits.{further-at, phased-items}
 use Rattle.tm_channel.proofs.PhasedItems.{prefix-nil, same-phase}
 use Rattle.tm_channel.proofs.Progress.{due-none-items, moved, plain-step, unread-none, unsettled-none}
@@ -209,6 +210,8 @@ pub record Filled {T : Type 0} (took : T → Handed ItemValue → T → Type 0) 
       → (stood : StagesFor start given done)
       → (next : List WindowBlock) × Progress start.inner.config now (given ++ octets) (given ++ octets)
       (stood.blocks ++ next) [] (done ++ more) × (unread now.inner ≡ None)
+      × (is_some start.inner.config.inner ≡ false
+      → IsChosenSoFar start.inner.config (given ++ octets) now.inner.chosen)
 
 pub filled-none : {T : Type 0} (took : T → Handed ItemValue → T → Type 0) (s : Stages) (taker : T)
     → Filled took s s taker taker []
@@ -224,6 +227,7 @@ filled-none took s taker = record {
         (sym (append-nil stood.blocks))
         (subst (Progress s.inner.config s given given stood.blocks []) (sym (append-nil done)) stood.progress)),
     stood.all,
+    λ _. subst (λ (l : List ℕ). IsChosenSoFar s.inner.config l s.inner.chosen) (sym (append-nil given)) stood.so_far,
   );
 }
 
@@ -273,6 +277,7 @@ filled-more took start s now taker taker_now octets piece coded fills h = record
         ap (λ (o : Option Chosen). if now.has_phase then None else o)
             (fills.coded (ap (λ (k : Configuration). is_some k.inner) p.of.0 ∙ coded))
             ∙ ap (λ (b : Bool). if b then None else s.inner.chosen) fills.on.phase ∙ was.2,
+        λ plain. absurd (let both = sym plain ∙ coded in cc),
       );
 }
 
@@ -295,6 +300,7 @@ filled-decoded took start s now taker middle taker_now octets h d = record {
             (subst (Progress c now all all ((stood.blocks ++ was.0) ++ dec.next) []) (append_assoc done h.more d.more)
             dec.progress),
         dec.all,
+        λ _. dec.so_far (h.ended ∙ stood.going),
       );
 }
 
@@ -335,87 +341,77 @@ filled-wait took start now taker taker_now octets spare h none most waits = reco
 -- ---- octets that hold the bits themselves
 
 -- the bits of a piece, of which the first are skipped
-abbrev pub found_in : InnerDecoding → List ℕ → List Bool
-found_in inner octets = drop (inner.config.skip - plain_count inner.config inner.count)
-    (plain_bits inner.config octets)
+abbrev pub found_in : Configuration → ℕ → List ℕ → List Bool
+found_in c count octets = drop (c.skip - plain_count c count) (plain_bits c octets)
 
-pub plain-hands : {T : Type 0} (took_phase : T → ℕ → ℕ → T → Type 0) (took : T → ItemValue → T → Type 0)
-    (s : Stages) (filled : InnerDecoding) (between : Stages) (bits : BitReceiving) (taker middle taker_now : T)
-    (octets : List ℕ) → is_some s.inner.config.inner ≡ false → Fills s.inner filled octets
-    → IsDrained between.inner.queue
-    → Decoded (on_handed took_phase took) (record { inner = filled; bits = s.bits }) between taker middle []
-    → ReceivedAt took between.bits bits middle taker_now (found_in s.inner octets)
-    → StagesHand (on_handed took_phase took) s (record { inner = between.inner; bits = bits }) taker taker_now octets
-plain-hands took_phase took s filled between bits taker middle taker_now octets plain fills drained d p =
-    let items = p.items in
+-- a piece more was put in, and its bits were given to the search
+pub filled-plain : {T : Type 0} (took_phase : T → ℕ → ℕ → T → Type 0) (took : T → ItemValue → T → Type 0)
+    (start s : Stages) (filled : InnerDecoding) (between : Stages) (bits : BitReceiver)
+    (taker first middle taker_now : T) (octets piece : List ℕ) → is_some start.inner.config.inner ≡ false
+    → Filled (on_handed took_phase took) start s taker first octets → Fills s.inner filled piece
+    → Decoded (on_handed took_phase took) (record { inner = filled; bits = s.bits }) between first middle []
+    → ReceivedAt took between.bits bits middle taker_now (found_in start.inner.config s.inner.count piece)
+    → Filled (on_handed took_phase took) start (record { inner = between.inner; bits = bits }) taker taker_now
+    (octets ++ piece)
+filled-plain took_phase took start s filled between bits taker first middle taker_now octets piece plain h fills d p =
+    let handed = on_handed took_phase took in
+    let items = map Item p.items in
+    let more = h.more ++ (d.more ++ items) in
     record {
-      more = d.more ++ map Item items;
-      handed = HandedOver-append (on_handed took_phase took) taker middle taker_now d.more (map Item items) d.handed
-          (HandedOver-items took_phase took middle taker_now items p.handed);
-      stands = λ given done few stood.
-          let c = s.inner.config in
-          let all = given ++ octets in
-          let none = no-rate c.inner plain in
+      ended = d.ended ∙ fills.ended ∙ h.ended;
+      stays = λ chosen is. d.stays chosen (fills.on.stays chosen (h.stays chosen is));
+      more = more;
+      handed = HandedOver-append handed taker first taker_now h.more (d.more ++ items) h.handed
+          (HandedOver-append handed first middle taker_now d.more items d.handed
+          (HandedOver-items took_phase took middle taker_now p.items p.handed));
+      on = λ given done few stood.
+          let c = start.inner.config in
           let now : Stages = record { inner = between.inner; bits = bits } in
-          let dec = d.decodes c all given stood.blocks done
-          (moved c s filled given all given stood.blocks [] [] done fills.on
-          (fills.stands given (stood.blocks ++ []) stood.going few stood.progress.inner) stood.progress) in
-          let blocks = stood.blocks ++ dec.next in
-          let so_far = dec.so_far (fills.ended ∙ stood.going) in
-          let is : inner_bits c all blocks ≡ inner_bits c given blocks ++ found_in s.inner octets =
+          let before = given ++ octets in
+          let all = before ++ piece in
+          let none = no-rate c.inner plain in
+          let going = h.ended ∙ stood.going in
+          let was = h.on given done (omega (arith, few, length-append octets piece)) stood in
+          let front = stood.blocks ++ was.0 in
+          let dec = d.decodes c all before front (done ++ h.more)
+          (moved c s filled before all before front [] [] (done ++ h.more) fills.on
+          (fills.stands before (front ++ []) going
+          (omega (arith, few, length-append octets piece, length-append given octets)) was.1.inner) was.1) in
+          let blocks = front ++ dec.next in
+          let so_far = dec.so_far (fills.ended ∙ going) in
+          let found = found_in c s.inner.count piece in
+          let is : inner_bits c all blocks ≡ inner_bits c before blocks ++ found =
           plain-bits c all blocks none
-          ∙ further-at None c given octets [] [] (c.skip - plain_count c s.inner.count)
-          (ap (λ n. c.skip - plain_count c n) (sym stood.progress.inner.count))
-          ∙ ap (λ l. l ++ found_in s.inner octets) (sym (plain-bits c given blocks none)) in
-          stages-due s now given all done (done ++ (d.more ++ map Item items)) dec.next stood
-          (λ chosen was. d.stays chosen (fills.on.stays chosen was))
-          (d.ended ∙ fills.ended ∙ stood.going) dec.all so_far
-          drained
-          (subst (Progress c now all all blocks []) (append_assoc done d.more (map Item items))
-          (plain-step took c between.inner between.bits bits middle taker_now all given blocks (found_in s.inner octets)
-          (done ++ d.more) none p is dec.all so_far dec.progress));
+          ∙ further-at None c before piece [] [] (c.skip - plain_count c s.inner.count)
+          (ap (λ n. c.skip - plain_count c n) (sym was.1.inner.count))
+          ∙ ap (λ l. l ++ found) (sym (plain-bits c before blocks none)) in (
+            was.0 ++ dec.next,
+            subst (λ (l : List ℕ). Progress c now l l (stood.blocks ++ (was.0 ++ dec.next)) [] (done ++ more))
+                (append_assoc given octets piece)
+                (subst (λ (l : List WindowBlock). Progress c now all all l [] (done ++ more))
+                (append_assoc stood.blocks was.0 dec.next)
+                (subst (Progress c now all all blocks [])
+                (append_assoc (done ++ h.more) d.more items ∙ append_assoc done h.more (d.more ++ items))
+                (plain-step took c between.inner between.bits bits middle taker_now all before blocks found
+                ((done ++ h.more) ++ d.more) none p is dec.all so_far dec.progress))),
+            dec.all,
+            λ _. subst (λ (l : List ℕ). IsChosenSoFar c l between.inner.chosen) (append_assoc given octets piece) so_far,
+          );
     }
 
--- ---- one piece after another
-
-pub stages-none : {T : Type 0} (took : T → Handed ItemValue → T → Type 0) (s : Stages) (taker : T)
-    → StagesHand took s s taker taker []
-stages-none took s taker = record {
-  more = [];
-  handed = refl;
+-- all that is due with the pieces is handed over
+pub plain-due : {T : Type 0} (took : T → Handed ItemValue → T → Type 0) (start now : Stages) (taker taker_now : T)
+    (octets : List ℕ) → is_some start.inner.config.inner ≡ false → Filled took start now taker taker_now octets
+    → StagesHand took start now taker taker_now octets
+plain-due took start now taker taker_now octets plain h = record {
+  more = h.more;
+  handed = h.handed;
   stands = λ given done few stood.
-      let handed = with_phase s.inner.chosen stood.blocks in
-      subst (λ (l : List ℕ). StagesOn s l (done ++ []) handed) (sym (append-nil given))
-      (subst (λ (l : List (Handed ItemValue)). StagesOn s given l handed) (sym (append-nil done))
-      (stood, [], sym (append-nil handed)));
-}
-
-joined : {A : Type 0} (prefix middle all more last : List A) → all ≡ middle ++ last → middle ≡ prefix ++ more
-    → all ≡ prefix ++ (more ++ last)
-joined prefix middle all more last is before = is ∙ ap (λ l. l ++ last) before ∙ append_assoc prefix more last
-
-pub stages-more : {T : Type 0} (took : T → Handed ItemValue → T → Type 0) (a b c : Stages) (taker middle now : T)
-    (first second : List ℕ)
-    → StagesHand took a b taker middle first → StagesHand took b c middle now second
-    → StagesHand took a c taker now (first ++ second)
-stages-more took a b c taker middle now first second p q = record {
-  more = p.more ++ q.more;
-  handed = HandedOver-append took taker middle now p.more q.more p.handed q.handed;
-  stands = λ given done few stood.
-      let there = p.stands given done (omega (arith, few, length-append first second)) stood in
-      let last = q.stands (given ++ first) (done ++ p.more)
-      (omega (arith, few, length-append first second, length-append given first)) there.0 in
-      let before = with_phase a.inner.chosen stood.blocks in
-      let on : StagesOn c ((given ++ first) ++ second) ((done ++ p.more) ++ q.more) before = (
-        last.0,
-        there.1 ++ last.1,
-        joined before (with_phase b.inner.chosen there.0.blocks)
-            (with_phase c.inner.chosen last.0.blocks) there.1 last.1
-            last.2 there.2,
-      ) in
-      subst (λ (l : List ℕ). StagesOn c l (done ++ (p.more ++ q.more)) before) (append_assoc given first second)
-      (subst (λ (l : List (Handed ItemValue)). StagesOn c ((given ++ first) ++ second) l before)
-      (append_assoc done p.more q.more) on);
+      let is = h.on given done few stood in
+      stages-due start now given (given ++ octets) done (done ++ h.more) is.0 stood h.stays (h.ended ∙ stood.going) is.2
+      (is.3 plain)
+      (drained-plain now.inner.config now.inner.queue is.1.inner.of
+      (ap (λ (k : Configuration). is_some k.inner) is.1.of.0 ∙ plain)) is.1;
 }
 
 -- ---- what both stages have handed over is due

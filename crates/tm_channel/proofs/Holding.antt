@@ -1,5 +1,5 @@
 -- What a receiver holds, as bits are given to it, are passed, and are places.
-use Rattle.std.proofs.Common.{◌≡◌, ℕ, ◌+◌, ◌-◌, ◌*◌, ◌^◌, ◌<◌, ◌≤◌, Bool, true, false, cond, List, [], ◌∷◌, ◌++◌, length, take, drop, map, refl, sym, ap, ◌∙◌, subst, arith, append_assoc, length-append, length-drop, Option, Some, None, IfSome}
+use Rattle.std.proofs.Common.{◌≡◌, ℕ, ◌+◌, ◌*◌, ◌^◌, ◌<◌, ◌≤◌, Bool, true, false, cond, List, [], ◌∷◌, ◌++◌, length, take, drop, map, refl, sym, ap, ◌∙◌, subst, arith, append_assoc, length-append, length-drop, Option, Some, None, IfSome}
 use Rattle.std.proofs.lemmas.List.{append-nil, drop-append-le, drop-drop, map-append}
 use Rattle.tm_config.specs.Configuration.{Configuration, codeblock_length, correctable}
 use Rattle.tm_sync.specs.declared.found.Columns.{Columns}
@@ -10,7 +10,8 @@ use Rattle.tm_sync.specs.Finding.{Ends, Finding, IsWhole, Passes, Recent, Tells,
 use Rattle.tm_sync.proofs.Steps.{settled-room}
 use Rattle.tm_codeblock.specs.ReceivedCodeblock.{rules_of, codeblock_in, columns_of, is_sound, places_in, sound_in}
 use Rattle.tm_codeblock.proofs.PlacesIn.{sound_in-more, sound_in-rest}
-use Rattle.tm_channel.specs.Receiving.{Agree, AreWritten, Batching, Holding, Holds, HoldsMore, IsReady, StoredCodeblock, run_size, stored_at, stored_of}
+use Rattle.tm_channel.specs.Due.{due_count}
+use Rattle.tm_channel.specs.Receiving.{Agree, AreWritten, Batching, Fills, Holding, Holds, HoldsFound, IsReady, Stands, StoredCodeblock, run_size, stored_at, stored_of}
 use Rattle.tm_channel.proofs.Streaming.{drop-all, found-end, stored-same}
 
 -- `recent` has as many bits as are not passed
@@ -20,22 +21,54 @@ pub recent-count : (c : Configuration) (s : Finding) (recent : List Bool) (store
 recent-count c s recent stored handed bits found h =
     let within = h.passed in omega (arith, within, ap length h.left, length-drop s.passed bits)
 
+-- all of the bits were searched
+pub stands-all : (s : Finding) (room : Recent) (b : Batching) (bits : List Bool)
+    → Holds s room b (due_count b.config bits) bits → Stands s room b bits
+stands-all s room b bits holds = record {
+  first = bits;
+  more = [];
+  are = sym (append-nil bits);
+  holds = subst (λ (l : List Bool). HoldsFound s room b (due_count b.config bits) l (places_in b.config bits))
+      (sym (append-nil bits)) holds;
+  same = refl;
+}
+
+-- how many bits were given
+pub stands-count : (s : Finding) (room : Recent) (b : Batching) (bits : List Bool) → Stands s room b bits
+    → s.passed + length room.bits ≡ length bits
+stands-count s room b bits stands =
+    recent-count b.config s room.bits b.stored (due_count b.config stands.first) (stands.first ++ stands.more)
+    (places_in b.config stands.first) stands.holds ∙ ap length (sym stands.are)
+
 -- ---- they agree
+
+-- no codeblocks are stored
+abbrev pub no_batch : Configuration → Batching
+no_batch c = record { config = c; stored = []; symbols = []; items = [] }
+
 -- no bits were given
-pub ready-new : (s : Finding) (room : Recent) (b : Batching)
-    → s ≡ record { rules = rules_of b.config; columns = columns_of b.config; passed = 0; last = None }
-    → room.bits ≡ [] → settled_by s.rules.verify s.rules.block_bits + 8 * run_size + 14 ≤ 8 * room.size
-    → b ≡ record { config = b.config; stored = []; symbols = []; items = [] } → 0 < b.config.batch → IsReady s room b
-ready-new s room b new none sized empty some = record {
+pub ready-new : (c : Configuration) (s : Finding) (room : Recent)
+    → s ≡ record { rules = rules_of c; columns = columns_of c; passed = 0; last = None } → room.bits ≡ []
+    → settled_by s.rules.verify s.rules.block_bits + 8 * run_size + 14 ≤ 8 * room.size → 0 < c.batch
+    → IsReady s room (no_batch c)
+ready-new c s room new none sized some = record {
   agree = record {
     rules = ap (λ (v : Finding). v.rules) new;
     columns = ap (λ (v : Finding). v.columns) new;
     whole = subst (λ (v : Finding). IsWhole v room.bits) (sym new) tt;
     sized = sized;
-    written = subst AreWritten (sym empty) (λ on. tt);
+    written = λ on. tt;
   };
   short = omega (arith, ap length none, settled-room s.rules);
-  few = omega (arith, ap (λ (v : Batching). length v.stored) empty, some);
+  few = omega (arith, some);
+}
+
+-- the search has passed all that it can, so that there is room
+pub ready-fills : (s : Finding) (room : Recent) (b : Batching) → IsReady s room b → Fills s room b
+ready-fills s room b ready = record {
+  agree = ready.agree;
+  free = omega (arith, ready.short, ready.agree.sized);
+  few = ready.few;
 }
 
 -- the same with another batch
@@ -94,14 +127,6 @@ holding-more c s recent stored handed bits piece found h =
       within = h.within;
       waiting = h.waiting ∙ sym (stored-same c bits piece waiting ends);
     }
-
-pub holds-more : (s : Finding) (room room' : Recent) (b : Batching) (piece : List Bool)
-    → room'.bits ≡ room.bits ++ piece → (handed : ℕ) (bits : List Bool) → Holds s room b handed bits
-    → HoldsMore s room' b handed bits piece
-holds-more s room room' b piece more handed bits h =
-    let c = b.config in
-    subst (λ (l : List Bool). Holding c s l b.stored handed (bits ++ piece) (places_in c bits)) (sym more)
-    (holding-more c s room.bits b.stored handed bits piece (places_in c bits) h)
 
 -- ---- bits are passed at which no place stands
 pub holding-passed : (c : Configuration) (s s' : Finding) (recent recent' : List Bool) (stored : List StoredCodeblock)

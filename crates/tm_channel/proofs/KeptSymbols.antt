@@ -7,11 +7,12 @@ use Rattle.tm_conv.specs.Path.{farthest_step}
 use Rattle.tm_sync.specs.Finding.{Finding}
 use Rattle.tm_channel.specs.Items.{ItemValue}
 use Rattle.tm_channel.specs.Origins.{AreAt, AreHandedSymbols, PlaceSymbol, origin_at, place_symbol, symbol_by}
-use Rattle.tm_channel.specs.OctetReceiving.{BitReceiverStandsFor, BitReceiving, HasSymbols, Notes}
+use Rattle.tm_channel.specs.OctetReceiving.{BitReceiverStandsFor, HasSymbols, Notes}
+use Rattle.tm_channel.specs.declared.bit_receiver.BitReceiver.{BitReceiver}
 use Rattle.tm_channel.proofs.Symbols.{at-append}
 
 -- bits were passed, or given, and the codeblocks that are stored are these
-pub symbols-stored : (r now : BitReceiving) (count : ℕ) (at : ℕ → ℕ) → r.finder.passed ≤ now.finder.passed
+pub symbols-stored : (r now : BitReceiver) (count : ℕ) (at : ℕ → ℕ) → r.finder.passed ≤ now.finder.passed
     → now.batch.config ≡ r.batch.config → now.origins ≡ r.origins → AreAt at count now.batch.symbols
     → HasSymbols r count at → HasSymbols now count at
 symbols-stored r now count at passed config origins stored h = record {
@@ -24,7 +25,7 @@ symbols-stored r now count at passed config origins stored h = record {
 }
 
 -- one more is kept, of a place that was not passed
-pub symbols-kept : (r now : BitReceiving) (count place origin symbol : ℕ) (at : ℕ → ℕ)
+pub symbols-kept : (r now : BitReceiver) (count place origin symbol : ℕ) (at : ℕ → ℕ)
     → r.finder.passed ≤ now.finder.passed → now.batch.config ≡ r.batch.config → now.origins ≡ r.origins
     → r.finder.passed ≤ place → place < count → origin ≡ origin_at r.origins.origins place
     → ((is_some r.batch.config.inner ≡ true → place ≤ farthest_step)
@@ -44,7 +45,7 @@ symbols-kept r now count place origin symbol at passed config origins left below
     (at-append at count r.batch.symbols (record { place = place; symbol = symbol } ∷ []) h.stored ((it, below), tt))) h
 
 -- those of a batch are handed over, or none
-pub symbols-handed : (r now : BitReceiving) (count : ℕ) (at : ℕ → ℕ) (items : List ItemValue)
+pub symbols-handed : (r now : BitReceiver) (count : ℕ) (at : ℕ → ℕ) (items : List ItemValue)
     → now.finder ≡ r.finder → now.batch.config ≡ r.batch.config → now.origins ≡ r.origins
     → AreHandedSymbols r.batch.symbols now.batch.symbols items → HasSymbols r count at
     → HasSymbols now count at × AreAt at count (map place_symbol items)
@@ -78,6 +79,6 @@ symbols-next symbols index items item are next =
     map-append place_symbol items (item ∷ []) ∙ ap (λ l. l ++ place_symbol item ∷ []) are ∙ sym next
 
 -- the same receiver but for its origins
-pub stands-noted : (r m : BitReceiving) (bits : List Bool) → Notes r m → BitReceiverStandsFor r bits
+pub stands-noted : (r m : BitReceiver) (bits : List Bool) → Notes r m → BitReceiverStandsFor r bits
     → BitReceiverStandsFor m bits
-stands-noted r m bits notes stood = subst (λ (v : BitReceiving). BitReceiverStandsFor v bits) (sym notes) stood
+stands-noted r m bits notes stood = subst (λ (v : BitReceiver). BitReceiverStandsFor v bits) (sym notes) stood

@@ -1,4 +1,3 @@
-pub mod Steps
 pub mod Sending
 pub mod SentCodeblocks
 pub mod Repairs
@@ -31,7 +30,7 @@ pub mod Until
 mod Told
 pub mod Ones
 pub mod Settling
-pub mod Between
+pub mod SkippedBits
 pub mod AllBits
 pub mod ReceivedPieces
 pub mod Searched

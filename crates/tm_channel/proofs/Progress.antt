@@ -1,5 +1,5 @@
 -- What each step of the stages keeps: octets are put in, windows decoded, the phase read, and bits searched.
-use Rattle.std.proofs.Common.{◌≡◌, ◌<◌, ◌≤◌, ◌+◌, ◌*◌, ◌⊎◌, ◌||◌, inl, inr, ℕ, Bool, true, false, if◌then◌else◌, List, [], ◌∷◌, ◌++◌, length, drop, map, refl, sym, ap, ◌∙◌, subst, arith, append_assoc, length-append, Option, Some, None}
+use Rattle.std.proofs.Common.{◌≡◌, ◌<◌, ◌≤◌, ◌*◌, ◌⊎◌, ◌||◌, inl, inr, ℕ, Bool, true, false, if◌then◌else◌, List, [], ◌∷◌, ◌++◌, length, drop, map, refl, sym, ap, ◌∙◌, subst, arith, append_assoc, length-append, Option, Some, None}
 use Rattle.std.specs.Option.{is_some}
 use Rattle.std.proofs.lemmas.List.{append-nil, length-map}
 use Rattle.tm_base.specs.Handed.{Handed, Item, on_handed}
@@ -25,7 +25,8 @@ use Rattle.tm_inner.proofs.PlainBits.{bits-nil}
 use Rattle.tm_sync.specs.declared.found.Found.{Found}
 use Rattle.tm_channel.specs.Items.{ItemValue, AreItemsOf}
 use Rattle.tm_channel.specs.Due.{due}
-use Rattle.tm_channel.specs.OctetReceiving.{AreKnown, BitReceiving, Decoded, Progress, ReceivedAt, Searched, Stages, bits_of_blocks}
+use Rattle.tm_channel.specs.OctetReceiving.{AreKnown, Decoded, Progress, ReceivedAt, Searched, Stages, bits_of_blocks}
+use Rattle.tm_channel.specs.declared.bit_receiver.BitReceiver.{BitReceiver}
 use Rattle.tm_channel.proofs.AllBits.{due-nil}
 use Rattle.tm_channel.proofs.FirstStage.{GoesOn, NotesRun, Runs, Stays, phase-stays, plain-none, run-of, stands-read}
 use Rattle.tm_channel.proofs.PhasedItems.{prefix-nil}
@@ -158,7 +159,7 @@ some-behind blocks ready some none =
     omega (arith, some, ap (λ (l : List WindowBlock). length l) (prefix-nil blocks ready none).1)
 
 pub run-step : {T : Type 0} (took : T → ItemValue → T → Type 0) (c : Configuration) (d : InnerDecoding)
-    (r m now : BitReceiving) (origin : ℕ) (taker taker_now : T) (given taken : List ℕ) (blocks ready : List WindowBlock)
+    (r m now : BitReceiver) (origin : ℕ) (taker taker_now : T) (given taken : List ℕ) (blocks ready : List WindowBlock)
     (done : List (Handed ItemValue)) → 0 < length ready → dropped_of (drop 1 ready) ≡ 0 → NotesRun d r m origin
     → (p : ReceivedAt took m now taker taker_now (bits_of_blocks ready)) → unread d ≡ None
     → Progress c (record { inner = d; bits = r }) given taken blocks ready done
@@ -178,7 +179,7 @@ run-step took c d r m now origin taker taker_now given taken blocks ready done s
     let it = searched-more took c at after r m now taker taker_now (bits_of_blocks blocks) (bits_of_blocks ready) both
     was.items was.of.1 notes.0 p (all_bits-append blocks ready) (omega (arith, run.0.few))
     (λ n below. symbols-more c phase taken blocks ready n (omega (arith, below, ap length is))) has.0 searched in
-    let config = p.config ∙ ap (λ (v : BitReceiving). v.batch.config) notes.0 ∙ was.of.1 in
+    let config = p.config ∙ ap (λ (v : BitReceiver). v.batch.config) notes.0 ∙ was.of.1 in
     record {
       of = (was.of.0, config);
       inner = subst (InnerDecoderStandsFor d given) (sym (append-nil (blocks ++ ready))) was.inner;
@@ -197,7 +198,7 @@ run-step took c d r m now origin taker taker_now given taken blocks ready done s
 
 -- the first run, after which the phase is read
 pub decoded-start : {T : Type 0} (took : T → Handed ItemValue → T → Type 0) (a b now : InnerDecoding)
-    (bits : BitReceiving)
+    (bits : BitReceiver)
     (taker taker_now : T) (ready : List WindowBlock) → Runs a b ready
     → now ≡ record b { has_phase = has_phase_now b } → HandedOver took taker (with_phase (unread b) []) taker_now
     → Decoded took (record { inner = a; bits = bits }) (record { inner = now; bits = bits }) taker taker_now ready
@@ -222,7 +223,7 @@ decoded-start took a b now bits taker taker_now ready run is phased = record {
 
 -- the bits of the run are searched, and a further one is decoded
 pub decoded-more : {T : Type 0} (took_phase : T → ℕ → ℕ → T → Type 0) (took : T → ItemValue → T → Type 0)
-    (s b : Stages) (now : InnerDecoding) (noted bits : BitReceiving) (origin : ℕ) (taker middle taker_now : T)
+    (s b : Stages) (now : InnerDecoding) (noted bits : BitReceiver) (origin : ℕ) (taker middle taker_now : T)
     (ready next : List WindowBlock) → Decoded (on_handed took_phase took) s b taker middle ready → 0 < length ready
     → dropped_of (drop 1 ready) ≡ 0 → NotesRun b.inner b.bits noted origin
     → ReceivedAt took noted bits middle taker_now (bits_of_blocks ready) → Runs b.inner now next
@@ -292,7 +293,7 @@ pub unsettled-none : (c : Configuration) (given : List ℕ) → (IsSettled c giv
 unsettled-none c given unsettled = unsettled-at c.inner c given (λ many. unsettled (inr many))
 
 pub plain-step : {T : Type 0} (took : T → ItemValue → T → Type 0) (c : Configuration) (d : InnerDecoding)
-    (r now : BitReceiving) (taker taker_now : T) (given taken : List ℕ) (blocks : List WindowBlock) (piece : List Bool)
+    (r now : BitReceiver) (taker taker_now : T) (given taken : List ℕ) (blocks : List WindowBlock) (piece : List Bool)
     (done : List (Handed ItemValue)) → c.inner ≡ None → (p : ReceivedAt took r now taker taker_now piece)
     → inner_bits c given blocks ≡ inner_bits c taken blocks ++ piece → unread d ≡ None → IsChosenSoFar c given d.chosen
     → Progress c (record { inner = d; bits = r }) given taken blocks [] done

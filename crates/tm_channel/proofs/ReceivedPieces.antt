@@ -1,31 +1,25 @@
--- The bits of one block after another are received.
-use Rattle.std.proofs.Common.{◌≡◌, ◌==◌, ◌<◌, ◌^◌, ℕ, Bool, List, [], ◌++◌, length, map, refl, sym, ap, ◌∙◌, subst, arith, append_assoc, length-append}
+-- Bits are received, one piece after another: they are put into the room, and searched.
+use Rattle.std.specs.Option.{is_some}
+use Rattle.std.proofs.Common.{◌≡◌, ◌==◌, ◌<◌, ◌≤◌, ◌-◌, ℕ, true, Bool, List, [], ◌++◌, length, map, refl, sym, ap, ◌∙◌, subst, arith, append_assoc, length-append}
 use Rattle.std.proofs.lemmas.List.{append-nil, map-append}
-use Rattle.tm_base.specs.Takers.{HandedOver}
 use Rattle.tm_base.proofs.Handing.{HandedOver-append}
 use Rattle.tm_config.specs.Configuration.{Configuration}
 use Rattle.tm_viterbi.specs.WindowBlock.{WindowBlock}
 use Rattle.tm_viterbi.specs.Clean.{kept_bits}
 use Rattle.tm_inner.proofs.DueBits.{kept-append}
+use Rattle.tm_sync.specs.declared.found.Found.{Found}
+use Rattle.tm_sync.specs.Bits.{bits_bound}
+use Rattle.tm_codeblock.specs.ReceivedCodeblock.{places_in, rules_of}
 use Rattle.tm_channel.specs.Items.{ItemValue, AreItemsOf}
 use Rattle.tm_channel.specs.Due.{due, due_count}
-use Rattle.tm_channel.specs.Receiving.{Holds, HoldsMore}
-use Rattle.tm_channel.specs.OctetReceiving.{BitReceiving, BitReceiverStandsFor, Gathers, GathersMore, HasSymbols, ReceivedAt, Searched, Settles, with_more}
+use Rattle.tm_channel.specs.Origins.{Noted, ReachesBack}
+use Rattle.tm_channel.specs.Receiving.{Fills, Holding, IsShort, waiting_bits}
+use Rattle.tm_channel.specs.OctetReceiving.{AwaitsBits, Gathered, IsSearched, Receives, with_more}
+use Rattle.tm_channel.specs.declared.bit_receiver.BitReceiver.{BitReceiver}
+use Rattle.tm_channel.proofs.Holding.{holding-more}
 use Rattle.tm_channel.proofs.KeptSymbols.{symbols-stored}
-use Rattle.tm_channel.proofs.Holding.{holds-more}
-
--- bits were given to a receiver, of which its search reported nothing
-abbrev pub Pushes : BitReceiving → BitReceiving → List Bool → Type 0
-Pushes a b piece =
-    (handed : ℕ) (bits : List Bool) → length (bits ++ piece) < 2 ^ 63 → Holds a.finder a.recent a.batch handed bits
-    → HoldsMore b.finder b.recent b.batch handed bits piece
-
-held-then : (a b : BitReceiving) (piece bits : List Bool) → b.batch.config ≡ a.batch.config → Pushes a b piece
-    → length (bits ++ piece) < 2 ^ 63 → BitReceiverStandsFor a bits
-    → HoldsMore b.finder b.recent b.batch (due_count b.batch.config bits) bits piece
-held-then a b piece bits config pushes few stood =
-    subst (λ (c : Configuration). HoldsMore b.finder b.recent b.batch (due_count c bits) bits piece) (sym config)
-    (pushes (due_count a.batch.config bits) bits few stood)
+use Rattle.tm_channel.proofs.Spare.{none-due}
+use Rattle.tm_channel.proofs.Streaming.{due-end, ends-longer, items-more}
 
 -- the bits that blocks keep
 abbrev pub all_bits : List WindowBlock → List Bool
@@ -34,148 +28,142 @@ all_bits blocks = map (λ bit. bit == 1) (kept_bits blocks)
 pub all_bits-append : (xs ys : List WindowBlock) → all_bits (xs ++ ys) ≡ all_bits xs ++ all_bits ys
 all_bits-append xs ys = ap (map (λ bit. bit == 1)) (kept-append xs ys) ∙ map-append _ (kept_bits xs) (kept_bits ys)
 
--- ---- the items that are due with bits
+-- ---- one piece after another
 
-pub received_at-none : {T : Type 0} (took : T → ItemValue → T → Type 0) (s : BitReceiving) (taker : T)
-    → ReceivedAt took s s taker taker []
-received_at-none took s taker = record {
-  config = refl;
-  origins = refl;
+-- no bits, and no items
+pub receives-step : {T : Type 0}
+    (Was Is : Configuration → (ℕ → ℕ) → ℕ → List Bool → BitReceiver → List ItemValue → Type 0)
+    (took : T → ItemValue → T → Type 0) (before now : BitReceiver) (taker : T) → now.batch.config ≡ before.batch.config
+    → now.origins ≡ before.origins
+    → ((all : List Bool) (done : List ItemValue) (count : ℕ) (at : ℕ → ℕ) → length all < bits_bound
+    → length all ≤ count → Was before.batch.config at count all before done
+    → Is before.batch.config at count all now done)
+    → Receives Was Is took before now taker taker []
+receives-step Was Is took before now taker config origins follows = record {
+  config = config;
+  origins = origins;
   items = [];
   handed = refl;
-  searched = λ given done count at few le was has. (
-    subst (λ (l : List Bool). Searched s.batch.config at count l s (done ++ [])) (sym (append-nil given))
-        (subst (Searched s.batch.config at count given s) (sym (append-nil done)) was),
-    has,
-  );
+  on = λ all done count at few le was.
+      let none = append-nil all in
+      subst (λ (l : List Bool). Is before.batch.config at count l now (done ++ [])) (sym none)
+      (subst (Is before.batch.config at count all now) (sym (append-nil done))
+      (follows all done count at (omega (arith, few, ap length none)) (omega (arith, le, ap length none)) was));
 }
 
--- the codeblocks that are whole with them were kept, and each batch that was full was handed over
-pub received_at-pushed : {T : Type 0} (took : T → ItemValue → T → Type 0) (a b c : BitReceiving) (taker now : T)
-    (piece : List Bool) (items : List ItemValue)
-    → b.batch.config ≡ a.batch.config → Pushes a b piece
-    → ((count : ℕ) (at : ℕ → ℕ) → HasSymbols a count at → HasSymbols b count at) → c.batch.config ≡ b.batch.config
-    → c.origins ≡ a.origins
-    → Settles b c items → HandedOver took taker items now → ReceivedAt took a c taker now piece
-received_at-pushed took a b c taker now piece items config pushes still same origins settles handed = record {
-  config = same ∙ config;
-  origins = origins;
-  items = items;
-  handed = handed;
-  searched = λ bits done count at few le was has.
-      subst (λ (k : Configuration). AreItemsOf k bits (due k bits) done
-      → Searched k at count (bits ++ piece) c (done ++ items) × HasSymbols c count at) config
-      (λ are. settles bits piece done count at few le
-      (held-then a b piece bits config pushes few was.stands) are was.said
-      (still count at has)) was.are_items;
-}
+pub receives-none : {T : Type 0}
+    (Is : Configuration → (ℕ → ℕ) → ℕ → List Bool → BitReceiver → List ItemValue → Type 0)
+    (took : T → ItemValue → T → Type 0) (r : BitReceiver) (taker : T) → Receives Is Is took r r taker taker []
+receives-none Is took r taker = receives-step Is Is took r r taker refl refl (λ all done count at few le was. was)
 
--- bits, and then others
-pub received_at-then : {T : Type 0} (took : T → ItemValue → T → Type 0) (a b c : BitReceiving) (taker middle now : T)
-    (bits more : List Bool)
-    → ReceivedAt took a b taker middle bits → ReceivedAt took b c middle now more
-    → ReceivedAt took a c taker now (bits ++ more)
-received_at-then took a b c taker middle now bits more p q = record {
+pub receives-then : {T : Type 0}
+    (Was Mid Is : Configuration → (ℕ → ℕ) → ℕ → List Bool → BitReceiver → List ItemValue → Type 0)
+    (took : T → ItemValue → T → Type 0) (a b c : BitReceiver) (taker middle now : T) (bits more : List Bool)
+    → Receives Was Mid took a b taker middle bits → Receives Mid Is took b c middle now more
+    → Receives Was Is took a c taker now (bits ++ more)
+receives-then Was Mid Is took a b c taker middle now bits more p q = record {
   config = q.config ∙ p.config;
   origins = q.origins ∙ p.origins;
   items = p.items ++ q.items;
   handed = HandedOver-append took taker middle now p.items q.items p.handed q.handed;
-  searched = λ given done count at few le was has.
+  on = λ given done count at few le was.
       let k = a.batch.config in
       let all = append_assoc given bits more in
       let sizes = length-append (given ++ bits) more in
-      let first = p.searched given done count at (omega (arith, few, ap length all, sizes))
-      (omega (arith, le, ap length all, sizes)) was has in
-      let second = subst (λ (v : Configuration). Searched v at count (given ++ bits) b (done ++ p.items)
-      → Searched v at count ((given ++ bits) ++ more) c ((done ++ p.items) ++ q.items) × HasSymbols c count at) p.config
-      (λ there. q.searched (given ++ bits) (done ++ p.items) count at (omega (arith, few, ap length all))
-      (omega (arith, le, ap length all)) there first.1) first.0 in (
-        subst (λ (l : List Bool). Searched k at count l c (done ++ (p.items ++ q.items))) all
-            (subst (Searched k at count ((given ++ bits) ++ more) c) (append_assoc done p.items q.items) second.0),
-        second.1,
-      );
+      let there = subst (λ (v : Configuration). Mid v at count (given ++ bits) b (done ++ p.items)
+      → Is v at count ((given ++ bits) ++ more) c ((done ++ p.items) ++ q.items)) p.config
+      (q.on (given ++ bits) (done ++ p.items) count at (omega (arith, few, ap length all))
+      (omega (arith, le, ap length all)))
+      (p.on given done count at (omega (arith, few, ap length all, sizes))
+      (omega (arith, le, ap length all, sizes)) was)
+      in
+      subst (λ (l : List Bool). Is k at count l c (done ++ (p.items ++ q.items))) all
+      (subst (Is k at count ((given ++ bits) ++ more) c) (append_assoc done p.items q.items) there);
 }
+
+pub receives-after : {T : Type 0}
+    (Was Mid Is : Configuration → (ℕ → ℕ) → ℕ → List Bool → BitReceiver → List ItemValue → Type 0)
+    (took : T → ItemValue → T → Type 0) (a b c : BitReceiver) (taker middle now : T) (bits : List Bool)
+    → Receives Was Mid took a b taker middle bits → Receives Mid Is took b c middle now []
+    → Receives Was Is took a c taker now bits
+receives-after Was Mid Is took a b c taker middle now bits p q =
+    subst (Receives Was Is took a c taker now) (append-nil bits)
+    (receives-then Was Mid Is took a b c taker middle now bits [] p q)
 
 -- ---- bits that are put into the room before they are searched
 
-pub gathers-none : {T : Type 0} (took : T → ItemValue → T → Type 0) (s : BitReceiving) (taker : T)
-    → Gathers took s s taker taker []
-gathers-none took s taker = record {
-  middle = s;
-  first = [];
-  more = [];
-  are = refl;
-  received = received_at-none took s taker;
-  now_is = λ i. record s { recent = record s.recent { bits = sym (append-nil s.recent.bits) i } };
-}
+pub gathered-of : (r : BitReceiver) (all : List Bool) (done : List ItemValue) (count : ℕ) (at : ℕ → ℕ)
+    → IsSearched r.batch.config at count all r done → Gathered r.batch.config at count all r done
+gathered-of r all done count at was =
+    let stands = was.0.stands in
+    record {
+      bits = stands.first;
+      more = stands.more;
+      are = stands.are;
+      holds = stands.holds;
+      are_items = subst (λ (fs : List Found). AreItemsOf r.batch.config all fs done) stands.same was.0.are_items;
+      said = was.0.said;
+      has = was.1;
+    }
 
--- more of them
-pub gathers-more : {T : Type 0} (took : T → ItemValue → T → Type 0) (start now next : BitReceiving)
-    (taker taker_now : T)
-    (bits more : List Bool) → next ≡ with_more now more → Gathers took start now taker taker_now bits
-    → Gathers took start next taker taker_now (bits ++ more)
-gathers-more took start now next taker taker_now bits more is g = record {
-  middle = g.middle;
-  first = g.first;
-  more = g.more ++ more;
-  are = ap (λ l. l ++ more) g.are ∙ append_assoc g.first g.more more;
-  received = g.received;
-  now_is = is ∙ ap (λ r. with_more r more) g.now_is ∙ (λ i. record g.middle {
-    recent = record g.middle.recent { bits = append_assoc g.middle.recent.bits g.more more i };
-  });
-}
+pub gathers-begun : {T : Type 0} (took : T → ItemValue → T → Type 0) (r : BitReceiver) (taker : T)
+    → Receives IsSearched Gathered took r r taker taker []
+gathers-begun took r taker = receives-step IsSearched Gathered took r r taker refl refl
+    (λ all done count at few le was. gathered-of r all done count at was)
 
--- all of them are searched
-pub gathers-all : {T : Type 0} (took : T → ItemValue → T → Type 0) (start now next : BitReceiving)
-    (taker middle taker_now : T) (bits : List Bool) (items : List ItemValue) → next.batch.config ≡ now.batch.config
-    → next.origins ≡ now.origins → Settles now next items → HandedOver took middle items taker_now
-    → Gathers took start now taker middle bits
-    → ReceivedAt took start next taker taker_now bits
-gathers-all took start now next taker middle taker_now bits items config origins settles handed g =
-    let m = g.middle in
-    let all = with_more m g.more in
-    subst (ReceivedAt took start next taker taker_now) (sym g.are)
-    (received_at-then took start m next taker middle taker_now g.first g.more g.received
-    (received_at-pushed took m all next middle taker_now g.more items refl
-    (λ handed bits few h. holds-more m.finder m.recent all.recent m.batch g.more refl handed bits h)
-    (λ count at h. symbols-stored m all count at (omega arith) refl refl h.stored h)
-    (config ∙ ap (λ (r : BitReceiving). r.batch.config) g.now_is)
-    (origins ∙ ap (λ (r : BitReceiving). r.origins) g.now_is)
-    (subst (λ (r : BitReceiving). Settles r next items) g.now_is settles) handed))
+pub gathers-pushed : {T : Type 0} (took : T → ItemValue → T → Type 0) (now next : BitReceiver) (taker : T)
+    (more : List Bool) → next ≡ with_more now more → Receives Gathered Gathered took now next taker taker more
+gathers-pushed took now next taker more is =
+    let c = now.batch.config in
+    let after = with_more now more in
+    subst (λ (r : BitReceiver). Receives Gathered Gathered took now r taker taker more) (sym is) (record {
+      config = refl;
+      origins = refl;
+      items = [];
+      handed = refl;
+      on = λ all done count at few le g.
+          subst (Gathered c at count (all ++ more) after) (sym (append-nil done)) (record {
+            bits = g.bits;
+            more = g.more ++ more;
+            are = ap (λ l. l ++ more) g.are ∙ append_assoc g.bits g.more more;
+            holds = subst (λ (l : List Bool). Holding c after.finder after.recent.bits after.batch.stored
+                (due_count c g.bits) l (places_in c g.bits)) (append_assoc g.bits g.more more)
+                (holding-more c now.finder now.recent.bits now.batch.stored (due_count c g.bits) (g.bits ++ g.more) more
+                (places_in c g.bits) g.holds);
+            are_items = items-more c all more (due c g.bits) done
+                (ends-longer (rules_of c) (length g.bits) (length all) (due c g.bits)
+                (omega (arith, ap length g.are, length-append g.bits g.more)) (due-end c g.bits))
+                g.are_items;
+            said = g.said;
+            has = symbols-stored now after count at (omega arith) refl refl g.has.stored g.has;
+          });
+    })
 
--- the same of what was given before
-pub more-none : {T : Type 0} (took : T → ItemValue → T → Type 0) (s : BitReceiving) (taker : T)
-    → GathersMore took s s taker taker []
-more-none took s taker = record {
-  gathers = λ start first given g. subst (Gathers took start s first taker) (sym (append-nil given)) g;
-}
+-- nothing is due with them, and they stay in the room
+pub waits-of : (r : BitReceiver) (all : List Bool) (items : List ItemValue) (count : ℕ) (at : ℕ → ℕ)
+    → Fills r.finder r.recent r.batch
+    → length r.recent.bits < waiting_bits r.batch.config (r.batch.config.batch - length r.batch.stored)
+    → Gathered r.batch.config at count all r items → IsSearched r.batch.config at count all r items
+waits-of r all items count at fills few g =
+    let c = r.batch.config in
+    let same : due c all ≡ due c g.bits = ap (due c) g.are
+    ∙ none-due r.finder r.recent r.batch g.bits g.more fills.agree fills.few g.holds few in (
+      record {
+        stands = record { first = g.bits; more = g.more; are = g.are; holds = g.holds; same = same };
+        are_items = subst (λ (fs : List Found). AreItemsOf c all fs items) (sym same) g.are_items;
+        stored = g.has.stored;
+        said = g.said;
+      },
+      g.has,
+    )
 
-pub more-then : {T : Type 0} (took : T → ItemValue → T → Type 0) (a b c : BitReceiving) (taker middle now : T)
-    (bits more : List Bool) → GathersMore took a b taker middle bits → GathersMore took b c middle now more
-    → GathersMore took a c taker now (bits ++ more)
-more-then took a b c taker middle now bits more p q = record {
-  gathers = λ start first given g. subst (Gathers took start c first now) (append_assoc given bits more)
-      (q.gathers start first (given ++ bits) (p.gathers start first given g));
-}
-
-pub more-pushed : {T : Type 0} (took : T → ItemValue → T → Type 0) (now next : BitReceiving) (taker : T)
-    (more : List Bool) → next ≡ with_more now more → GathersMore took now next taker taker more
-more-pushed took now next taker more is = record {
-  gathers = λ start first given g. gathers-more took start now next first taker given more is g;
-}
-
-pub more-all : {T : Type 0} (took : T → ItemValue → T → Type 0) (now next : BitReceiving) (taker taker_now : T)
-    (items : List ItemValue) → next.batch.config ≡ now.batch.config → next.origins ≡ now.origins
-    → Settles now next items → HandedOver took taker items taker_now
-    → GathersMore took now next taker taker_now []
-more-all took now next taker taker_now items config origins settles handed = record {
-  gathers = λ start first given g. record {
-    middle = next;
-    first = given ++ [];
-    more = [];
-    are = sym (append-nil (given ++ []));
-    received = subst (ReceivedAt took start next first taker_now) (sym (append-nil given))
-        (gathers-all took start now next first taker taker_now given items config origins settles handed g);
-    now_is = λ i. record next { recent = record next.recent { bits = sym (append-nil next.recent.bits) i } };
-  };
+-- bits may be given again, whatever was done but for the configuration and the origins
+pub awaits-on : (before now : BitReceiver) → AwaitsBits before → now.batch.config ≡ before.batch.config
+    → now.origins ≡ before.origins → Fills now.finder now.recent now.batch
+    → (is_some before.batch.config.inner ≡ true → IsShort now.finder now.recent) → AwaitsBits now
+awaits-on before now awaits config origins fills short = record {
+  fills = fills;
+  reaches = subst (λ (o : Noted). ReachesBack now.batch.config o.size) (sym origins)
+      (subst (λ (k : Configuration). ReachesBack k before.origins.size) (sym config) awaits.reaches);
+  short = λ coded. short (ap (λ (k : Configuration). is_some k.inner) (sym config) ∙ coded);
 }

@@ -1,9 +1,9 @@
 -- What came of the words of codeblocks.
-use Rattle.std.proofs.Common.{◌≢◌, ◌≡◌, ℕ, zero, suc, ◌+◌, ◌*◌, ◌<◌, ◌≤◌, ◌&&◌, Bool, if◌then◌else◌, List, [], ◌∷◌, ◌++◌, length, map, take, drop, get_or, set, refl, sym, ap, ◌∙◌, subst, arith, length-set, Option, unwrap_or, ◌⊎◌, inl, inr}
+use Rattle.std.proofs.Common.{◌≢◌, ◌≡◌, ℕ, zero, suc, ◌+◌, ◌*◌, ◌<◌, ◌≤◌, ◌&&◌, if◌then◌else◌, List, [], ◌∷◌, ◌++◌, length, map, take, drop, get_or, set, refl, sym, ap, ◌∙◌, subst, arith, Option, unwrap_or, ◌⊎◌, inl, inr}
 use Rattle.std.specs.List.{list_all}
 use Rattle.std.proofs.lemmas.Grind.{common_steps}
 use Rattle.std.proofs.lemmas.Bool.{cases_lt}
-use Rattle.std.proofs.lemmas.List.{take_all, take_at, take-set, take_more_set, drop_at, drop-take, map-append, get_or_default, get_or-set_other, get_or-set_same, length-map, length-take-le}
+use Rattle.std.proofs.lemmas.List.{take_all, take_at, drop_at, drop-take, get_or_default, get_or-set_other, get_or-set_same, length-map, length-take-le}
 use Rattle.std.proofs.lemmas.Slice.{take-put_mid_below}
 use borrow.Rule.Slice.PartMut.{put_mid, post_of}
 use Rattle.tm_sync.specs.declared.found.Found.{Found}
@@ -24,7 +24,7 @@ use Rattle.tm_codeblock.specs.ReceivedCodeblock.{column_count, received_columns,
 use Rattle.tm_channel.specs.ColumnWords.{symbols_of, all_symbols}
 use Rattle.tm_channel.specs.Items.{AreNearest, IsItem, ItemValue, are_fixed, is_given}
 use Rattle.tm_channel.specs.Origins.{PlaceSymbol}
-use Rattle.tm_channel.specs.Receiving.{AreItemsFor, Batching, IsItemAt, StoredCodeblock, stored_of}
+use Rattle.tm_channel.specs.Receiving.{AreItemsFor, Batching, IsItemAt}
 use Rattle.tm_channel.specs.Storing.{AreDecoded, AreRead, IsDecoded, IsRead, answers_of, codeblock_in_slot, item_in, place_in, stored_in, words_at}
 use Rattle.tm_channel.specs.declared.slot.Slot.{Slot}
 
@@ -249,61 +249,6 @@ pub item-sound : (c : Configuration) (f : Found) (codeblock : List ℕ) (item : 
 item-sound c f codeblock item is = columns-sound c (received_columns c codeblock) item.answers is.words is.nearest
 
 -- ---- one codeblock more
-
-pub items-then : (c : Configuration) (stored others : List StoredCodeblock) (items more : List ItemValue)
-    → AreItemsFor c stored items → AreItemsFor c others more → AreItemsFor c (stored ++ others) (items ++ more)
-items-then c [] others [] more are also = also
-items-then c [] others (item ∷ items) more are also = absurd are
-items-then c (k ∷ stored) others [] more are also = absurd are
-items-then c (k ∷ stored) others (item ∷ items) more are also =
-    (are.0, items-then c stored others items more are.1 also)
-
--- the first items are those of the first codeblocks
-pub items-first : (c : Configuration) (count : ℕ) (stored : List StoredCodeblock) (items : List ItemValue)
-    → AreItemsFor c stored items → AreItemsFor c (take count stored) (take count items)
-items-first c zero stored items are = tt
-items-first c (suc count) [] [] are = tt
-items-first c (suc count) [] (item ∷ items) are = absurd are
-items-first c (suc count) (k ∷ stored) [] are = absurd are
-items-first c (suc count) (k ∷ stored) (item ∷ items) are = (are.0, items-first c count stored items are.1)
-
--- what slots hold, where one more was written
-pub kept-more : {B : Type 0} (f : Slot → B) (count : ℕ) (slots : List Slot) (filled now : Slot) → count < length slots
-    → map f (take (count + 1) (set (set slots count filled) count now)) ≡ map f (take count slots) ++ f now ∷ []
-kept-more f count slots filled now below =
-    ap (map f) (take_more_set (set slots count filled) count now (omega (arith, below, length-set slots count filled))
-    ∙ ap (λ l. l ++ now ∷ []) (take-set slots count filled))
-    ∙ map-append f (take count slots) (now ∷ [])
-
--- the codeblock in the next slot, which was filled
-pub filled-is : (b : Batching) (c : Configuration) (f : Found) (rest : List Bool) (size : ℕ) (filled slot : Slot)
-    → size ≡ codeblock_length c → c ≡ b.config → stored_in size filled ≡ stored_of c f (take (8 * size) rest)
-    → slot ≡ filled
-    → stored_in (codeblock_length c) slot ≡ stored_of b.config f (take (8 * codeblock_length b.config) rest)
-filled-is b c f rest size filled slot same config fill is =
-    (λ i. stored_in (sym same i) (is i)) ∙ fill ∙ (λ i. stored_of c f (take (8 * same i) rest))
-    ∙ (λ i. stored_of (config i) f (take (8 * codeblock_length (config i)) rest))
-
--- and that was repaired
-pub items-more : (c : Configuration) (size count : ℕ) (slots : List Slot) (filled slot now : Slot)
-    → count < length slots → size ≡ codeblock_length c
-    → stored_in (codeblock_length c) now ≡ stored_in (codeblock_length c) slot
-    → IsItem c slot.found (take (codeblock_length c) slot.octets) (item_in c now)
-    → AreItemsFor c (map (stored_in size) (take count slots)) (map (item_in c) (take count slots))
-    → AreItemsFor c (map (stored_in size) (take (count + 1) (set (set slots count filled) count now)))
-    (map (item_in c) (take (count + 1) (set (set slots count filled) count now)))
-items-more c size count slots filled slot now below same again one are =
-    let here : IsItem c now.found (take size now.octets) (item_in c now) =
-    subst (λ (k : StoredCodeblock). IsItem c k.found k.codeblock (item_in c now))
-    (sym again ∙ (λ i. stored_in (sym same i) now)) one in
-    subst (λ (stored : List StoredCodeblock).
-    AreItemsFor c stored (map (item_in c) (take (count + 1) (set (set slots count filled) count now))))
-    (sym (kept-more (stored_in size) count slots filled now below))
-    (subst (λ (items : List ItemValue).
-    AreItemsFor c (map (stored_in size) (take count slots) ++ stored_in size now ∷ []) items)
-    (sym (kept-more (item_in c) count slots filled now below))
-    (items-then c (map (stored_in size) (take count slots)) (stored_in size now ∷ [])
-    (map (item_in c) (take count slots)) (item_in c now ∷ []) are (here, tt)))
 
 -- there is a slot for one more
 pub slot-left : (c : Configuration) (size count : ℕ) (slots : List Slot) (symbols : List PlaceSymbol)

@@ -17,7 +17,8 @@ use Rattle.tm_inner.proofs.PlainBits.{plain-few}
 use Rattle.tm_inner.proofs.SymbolPlaces.{symbol-stays}
 use Rattle.tm_channel.specs.Items.{ItemValue}
 use Rattle.tm_channel.specs.Origins.{AreAt, AreSpaced, Noted, origin_at, place_symbol, symbol_by}
-use Rattle.tm_channel.specs.OctetReceiving.{AreKnown, BitReceiving, HasSymbols, Notes, NotesOrigin, ReceivedAt, Searched, bits_of_blocks}
+use Rattle.tm_channel.specs.OctetReceiving.{AreKnown, HasSymbols, Notes, NotesOrigin, ReceivedAt, Searched, bits_of_blocks}
+use Rattle.tm_channel.specs.declared.bit_receiver.BitReceiver.{BitReceiver}
 use Rattle.tm_channel.proofs.KeptSymbols.{stands-noted}
 use Rattle.tm_channel.proofs.ReceivedPieces.{all_bits-append}
 use Rattle.tm_channel.proofs.SymbolPlaces.{at-coded, at-plain, bits-kept, dropped-after, dropped-first, dropped-most, dropped-of_append}
@@ -80,7 +81,7 @@ symbols-chosen c before now taken blocks (inr none) n below = elim (rate-cases c
       ))
     ]
 
-pub searched-same : (c : Configuration) (at then : ℕ → ℕ) (count : ℕ) (bits : List Bool) (r : BitReceiving)
+pub searched-same : (c : Configuration) (at then : ℕ → ℕ) (count : ℕ) (bits : List Bool) (r : BitReceiver)
     (items : List ItemValue) → ((n : ℕ) → n < count → then n ≡ at n) → Searched c at count bits r items
     → Searched c then count bits r items
 searched-same c at then count bits r items same s = record {
@@ -90,7 +91,7 @@ searched-same c at then count bits r items same s = record {
   said = at-longer at then count count (map place_symbol items) (omega arith) same s.said;
 }
 
-pub known-same : (rate : Option Rate) (c : Configuration) (at then : ℕ → ℕ) (count : ℕ) (r : BitReceiving)
+pub known-same : (rate : Option Rate) (c : Configuration) (at then : ℕ → ℕ) (count : ℕ) (r : BitReceiver)
     → ((n : ℕ) → n < count → then n ≡ at n) → AreKnown rate c at count r → AreKnown rate c then count r
 known-same None c at then count r same known = tt
 known-same (Some rate) c at then count r same known =
@@ -100,7 +101,7 @@ known-same (Some rate) c at then count r same known =
 
 -- an origin may have been noted before them; all symbols are known then
 pub searched-more : {T : Type 0} (took : T → ItemValue → T → Type 0) (c : Configuration) (at then : ℕ → ℕ)
-    (r m now : BitReceiving) (taker taker_now : T) (bits piece all : List Bool) (items : List ItemValue)
+    (r m now : BitReceiver) (taker taker_now : T) (bits piece all : List Bool) (items : List ItemValue)
     → r.batch.config ≡ c → Notes r m → (p : ReceivedAt took m now taker taker_now piece) → all ≡ bits ++ piece
     → length all < 2 ^ 63 → ((n : ℕ) → n < length bits → then n ≡ at n) → HasSymbols m (length all) then
     → Searched c at (length bits) bits r items
@@ -113,8 +114,8 @@ searched-more took c at then r m now taker taker_now bits piece all items of not
     (sym is)
     (subst (λ (k : Configuration). Searched k then count bits m items
     → Searched k then count both now (items ++ p.items) × HasSymbols now count then)
-    (ap (λ (v : BitReceiving). v.batch.config) notes ∙ of)
-    (λ was. p.searched bits items count then (omega (arith, few, ap length is)) (omega arith) was has_both) (record {
+    (ap (λ (v : BitReceiver). v.batch.config) notes ∙ of)
+    (λ was. p.on bits items count then (omega (arith, few, ap length is)) (omega arith) (was, has_both)) (record {
       stands = stands-noted r m bits notes s.stands;
       are_items = s.are_items;
       stored = has_both.stored;
@@ -127,7 +128,7 @@ searched-more took c at then r m now taker taker_now bits piece all items of not
 
 -- an origin was noted before them
 pub record RunOf (c : Configuration) (rate : Rate) (phase origin : ℕ) (done ready : List WindowBlock)
-    (r m : BitReceiving)
+    (r m : BitReceiver)
     : Type 0 where
   pub rate_is : c.inner ≡ Some rate
   pub notes : Notes r m
@@ -139,7 +140,7 @@ pub record RunOf (c : Configuration) (rate : Rate) (phase origin : ℕ) (done re
   pub few : length (bits_of_blocks (done ++ ready)) < 2 ^ 60
 
 -- they stand after the origin
-in-run : (c : Configuration) (rate : Rate) (phase origin : ℕ) (done ready : List WindowBlock) (r m : BitReceiving)
+in-run : (c : Configuration) (rate : Rate) (phase origin : ℕ) (done ready : List WindowBlock) (r m : BitReceiver)
     → RunOf c rate phase origin done ready r m → (n : ℕ) → length (bits_of_blocks done) ≤ n
     → symbol_at c phase (done ++ ready) n ≡ origin + steps_size rate 0 n
 in-run c rate phase origin done ready r m run n above =
@@ -150,7 +151,7 @@ in-run c rate phase origin done ready r m run n above =
     at-coded c rate phase (done ++ ready) n run.rate_is ∙ omega (arith, here, run.origin_is)
 
 -- no symbol is beyond what is counted
-fits-run : (c : Configuration) (rate : Rate) (phase origin : ℕ) (done ready : List WindowBlock) (r m : BitReceiving)
+fits-run : (c : Configuration) (rate : Rate) (phase origin : ℕ) (done ready : List WindowBlock) (r m : BitReceiver)
     → RunOf c rate phase origin done ready r m → (n : ℕ) → n < length (bits_of_blocks (done ++ ready))
     → symbol_at c phase (done ++ ready) n < 2 ^ 64
 fits-run c rate phase origin done ready r m run n below =
@@ -166,7 +167,7 @@ fits-run c rate phase origin done ready r m run n below =
     )
 
 -- the symbols of all bits are known, before those of the run are received
-pub run-has : (c : Configuration) (rate : Rate) (phase origin : ℕ) (done ready : List WindowBlock) (r m : BitReceiving)
+pub run-has : (c : Configuration) (rate : Rate) (phase origin : ℕ) (done ready : List WindowBlock) (r m : BitReceiver)
     (items : List ItemValue) → r.batch.config ≡ c → RunOf c rate phase origin done ready r m
     → Searched c (symbol_at c phase done) (length (bits_of_blocks done)) (bits_of_blocks done) r items
     → AreKnown c.inner c (symbol_at c phase done) (length (bits_of_blocks done)) r
@@ -184,10 +185,10 @@ run-has c rate phase origin done ready r m items of run s known =
     ) in
     let before : (n : ℕ) → n < count → then n ≡ at n =
     λ n below. symbol-stays c phase n done ready (omega (arith, below, run.kept)) in
-    let note = run.noted (bits_of_blocks done) at then (omega (arith, long, run.few)) s.stands
+    let note = run.noted run.rate_is (bits_of_blocks done) at then (omega (arith, long, run.few)) s.stands
     (subst (λ (o : Option Rate). AreKnown o c at count r) run.rate_is known) before
     (in-run c rate phase origin done ready r m run) in (
-      subst (λ (v : BitReceiving). HasSymbols v more then) (sym run.notes) (record {
+      subst (λ (v : BitReceiver). HasSymbols v more then) (sym run.notes) (record {
         stored = at-longer at then count more r.batch.symbols long before s.stored;
         left = λ n above.
             ap (λ (k : Configuration). symbol_by k.inner k (origin_at m.origins.origins n) n) of
@@ -199,7 +200,7 @@ run-has c rate phase origin done ready r m items of run s known =
     )
 
 -- where its windows are closed, so that they keep as many bits as they are to, symbols are known on
-pub run-known : (c : Configuration) (rate : Rate) (at : ℕ → ℕ) (count : ℕ) (m now : BitReceiving) → c.inner ≡ Some rate
+pub run-known : (c : Configuration) (rate : Rate) (at : ℕ → ℕ) (count : ℕ) (m now : BitReceiver) → c.inner ≡ Some rate
     → now.batch.config ≡ c → now.origins ≡ m.origins → AreSpaced c.keep count m.origins.origins
     → HasSymbols now count at → AreKnown c.inner c at count now
 run-known c rate at count m now is of origins spaced has =
@@ -216,13 +217,13 @@ run-known c rate at count m now is of origins spaced has =
 
 -- the symbols are told by nothing but the bit
 pub plain-has : (c : Configuration) (phase : ℕ) (all : List ℕ) (blocks : List WindowBlock) (bits : List Bool)
-    (r m : BitReceiving) → r.batch.config ≡ c → c.inner ≡ None → Notes r m → length all < 2 ^ 60
+    (r m : BitReceiver) → r.batch.config ≡ c → c.inner ≡ None → Notes r m → length all < 2 ^ 60
     → length bits ≤ length (inner_bits c all blocks) → AreAt (symbol_at c phase blocks) (length bits) r.batch.symbols
     → HasSymbols m (length (inner_bits c all blocks)) (symbol_at c phase blocks)
 plain-has c phase all blocks bits r m of none notes few within stored =
     let at = symbol_at c phase blocks in
     let count = length (inner_bits c all blocks) in
-    subst (λ (v : BitReceiving). HasSymbols v count at) (sym notes) (record {
+    subst (λ (v : BitReceiver). HasSymbols v count at) (sym notes) (record {
       stored = at-longer at at (length bits) count r.batch.symbols within (λ n below. refl) stored;
       left = λ n above.
           ap (λ (k : Configuration). symbol_by k.inner k (origin_at m.origins.origins n) n) of

@@ -1,20 +1,38 @@
 -- What is sent for a longer list, and a sender that is given one piece after another.
-use Rattle.std.proofs.Common.{◌≡◌, ℕ, ◌*◌, ◌<◌, arith, drop, List, [], ◌++◌, flat_map, Option, refl, sym, ◌∙◌, ap, subst}
+use Rattle.std.proofs.Common.{◌≡◌, ℕ, ◌+◌, ◌-◌, ◌*◌, ◌<◌, ◌≤◌, arith, drop, length, List, [], ◌∷◌, ◌++◌, flat_map, Option, Some, refl, sym, ◌∙◌, ap, subst, take}
 use Rattle.std.proofs.Math.Nat.{zero-div}
+use Rattle.std.proofs.Math.Seq.{take-add}
 use Rattle.std.proofs.lemmas.Grind.{flat_map-append}
+use Rattle.std.proofs.lemmas.List.{append-nil, take_rest}
+use Rattle.std.proofs.lemmas.Slice.{take-put_mid}
+use borrow.Rule.Slice.PartMut.{put_mid}
 use Rattle.tm_base.specs.Written.{Wrote, WrotePrefix}
-use Rattle.tm_base.specs.Pieces.{beyond, further, GoesOn, Fed, FedPrefix}
-use Rattle.tm_base.proofs.Pieces.{fed-none, fed-more, fed-prefix, further-from_nothing}
+use Rattle.tm_base.specs.Pieces.{beyond, further, GoesOn}
+use Rattle.tm_base.proofs.Pieces.{fed-none, fed-more, fed-prefix, fed-prefix_of_longer}
 use Rattle.tm_config.specs.Configuration.{Configuration}
 use Rattle.tm_inner.specs.Symbols.{symbols_of_octets}
-use Rattle.tm_inner.specs.Sending.{InnerSenderStandsFor}
-use Rattle.tm_inner.proofs.Symbols.{symbols-go_on, symbols-none}
+use Rattle.tm_inner.specs.Sending.{InnerMakes, InnerSending, InnerSenderStandsFor}
+use Rattle.tm_inner.proofs.Symbols.{further-is, symbols-go_on, symbols-none}
 use Rattle.tm_codeblock.specs.Frames.{Splits, first_frames, whole_frames, after_frames}
 use Rattle.tm_codeblock.specs.Cadu.{cadu}
-use Rattle.tm_codeblock.proofs.Frames.{splits, splits-more, frames-are, after-is, whole_frames-more, whole_frames-none}
+use Rattle.tm_codeblock.proofs.Frames.{splits, splits-more, frames-are, after-is, whole_frames-more}
 use Rattle.tm_channel.specs.Sent.{cadus, sent}
-use Rattle.tm_channel.specs.Sending.{Sending, SenderStandsFor, Sends, SendsPrefix}
-use Rattle.tm_channel.specs.Steps.{SendsFrames, SendsFramesPrefix}
+use Rattle.tm_channel.specs.Sending.{Makes, Sending, SenderStandsFor, Sends, SendsPrefix}
+
+-- ---- lists
+
+-- a piece was put after a prefix
+pub prefix-put : (count taken : ℕ) (frame piece new : List ℕ) → new ≡ piece → length piece ≡ taken → count ≤ length frame
+    → take (count + taken) (put_mid count ((count + taken) - count) frame new) ≡ take count frame ++ piece
+prefix-put count taken frame piece new is size within =
+    take-put_mid count ((count + taken) - count) frame new (count + taken)
+    (omega (arith, ap length is, size)) within ∙ ap (λ (l : List ℕ). take count frame ++ l) is
+
+-- the octets that were taken of the rest follow those before
+pub rest-taken : (done count : ℕ) (octets : List ℕ)
+    → take done octets ++ take count (take (length octets - done) (drop done octets)) ≡ take (done + count) octets
+rest-taken done count octets =
+    ap (λ (l : List ℕ). take done octets ++ take count l) (take_rest octets done) ∙ sym (take-add done count octets)
 
 -- ---- what is sent for a longer list
 
@@ -43,10 +61,8 @@ nothing-held size =
     let none : 0 * size ≡ 0 = omega arith in
     sym (ap (λ n. drop (n * size) []) (zero-div size) ∙ ap (λ n. drop n []) none)
 
-pub sent-none : (c : Configuration) → 0 < c.frame_length → sent c [] ≡ []
-sent-none c some =
-    ap (λ (fs : List (List ℕ)). symbols_of_octets c (flat_map (cadu c) fs)) (whole_frames-none c.frame_length some)
-    ∙ symbols-none c
+pub sent-none : (c : Configuration) → sent c [] ≡ []
+sent-none c = ap (symbols_of_octets c) (cadus-none c) ∙ symbols-none c
 
 -- ---- a sender
 
@@ -56,96 +72,98 @@ sends-none sender taken = record {
   fed = fed-none SenderStandsFor (sent sender.config) sender taken;
 }
 
-pub sends-more : (a b c : Sending) (taken_a taken_b taken_c : Option (List ℕ)) (first second : List ℕ)
-    → 0 < a.config.frame_length
-    → Sends a b taken_a taken_b first → Sends b c taken_b taken_c second → Sends a c taken_a taken_c (first ++ second)
-sends-more a b c taken_a taken_b taken_c first second some p q = record {
-  config = q.config ∙ p.config;
+-- it goes on, and what it made is written, or a prefix of it
+due-by : (a b c : Sending) (piece symbols : List ℕ) → b.config ≡ a.config → Makes b c piece symbols
+    → (given : List ℕ) → SenderStandsFor b given → symbols ≡ further (sent a.config) given piece
+due-by a b c piece symbols same m given stood =
+    sym (m.due given stood) ∙ ap (λ (k : Configuration). further (sent k) given piece) same
+
+pub sends-more : (a b c : Sending) (taken_a taken_b taken_c : Option (List ℕ)) (first piece symbols : List ℕ)
+    → 0 < a.config.frame_length → Sends a b taken_a taken_b first → Makes b c piece symbols
+    → Wrote taken_b taken_c symbols → Sends a c taken_a taken_c (first ++ piece)
+sends-more a b c taken_a taken_b taken_c first piece symbols some p m wrote = record {
+  config = m.config ∙ p.config;
   fed = fed-more SenderStandsFor (sent a.config) (sent-goes_on a.config some) a b c taken_a taken_b
-      taken_c first second p.fed
-      (subst (λ (x : Configuration). Fed SenderStandsFor (sent x) b c taken_b taken_c second) p.config q.fed);
+      taken_c first piece p.fed (record {
+        stands = m.stands;
+        written = λ given stood. subst (Wrote taken_b taken_c) (due-by a b c piece symbols p.config m given stood) wrote;
+      });
 }
 
-pub sends-prefix : (a b : Sending) (taken_a taken_b taken_c : Option (List ℕ)) (first second : List ℕ)
-    → 0 < a.config.frame_length
-    → Sends a b taken_a taken_b first → SendsPrefix b taken_b taken_c second
-    → SendsPrefix a taken_a taken_c (first ++ second)
-sends-prefix a b taken_a taken_b taken_c first second some p q =
-    fed-prefix SenderStandsFor (sent a.config) (sent-goes_on a.config some) a b taken_a taken_b
-    taken_c first second p.fed
-    (subst (λ (x : Configuration). FedPrefix SenderStandsFor (sent x) b taken_b taken_c second) p.config q)
+pub sends-prefix : (a b c : Sending) (taken_a taken_b taken_c : Option (List ℕ)) (first piece rest symbols : List ℕ)
+    → 0 < a.config.frame_length → Sends a b taken_a taken_b first → Makes b c piece symbols
+    → WrotePrefix taken_b taken_c symbols → SendsPrefix a taken_a taken_c ((first ++ piece) ++ rest)
+sends-prefix a b c taken_a taken_b taken_c first piece rest symbols some p m wrote =
+    let on = sent-goes_on a.config some in
+    fed-prefix_of_longer SenderStandsFor (sent a.config) on a taken_a taken_c (first ++ piece) rest
+    (fed-prefix SenderStandsFor (sent a.config) on a b taken_a taken_b taken_c first piece p.fed (record {
+      prefix = λ given stood.
+          subst (WrotePrefix taken_b taken_c) (due-by a b c piece symbols p.config m given stood) wrote;
+    }))
 
--- a sender that was given nothing before writes what is sent for the octets
-pub sends-all : (a b : Sending) (taken taken_now : Option (List ℕ)) (octets : List ℕ) → 0 < a.config.frame_length
-    → SenderStandsFor a [] → Sends a b taken taken_now octets
-    → Wrote taken taken_now (sent a.config octets)
-sends-all a b taken taken_now octets some new p =
-    subst (Wrote taken taken_now) (further-from_nothing (sent a.config) octets (sent-none a.config some))
-    (p.fed.written [] new)
-
-pub sends-all_prefix : (a : Sending) (taken taken_now : Option (List ℕ)) (octets : List ℕ) → 0 < a.config.frame_length
-    → SenderStandsFor a [] → SendsPrefix a taken taken_now octets
-    → WrotePrefix taken taken_now (sent a.config octets)
-sends-all_prefix a taken taken_now octets some new p =
-    subst (WrotePrefix taken taken_now) (further-from_nothing (sent a.config) octets (sent-none a.config some))
-    (p.prefix [] new)
-
--- ---- from what is kept to what was given
-
-from_held : (size : ℕ) (given octets held rest : List ℕ) (frames : List (List ℕ)) → 0 < size
-    → held ≡ after_frames size given → Splits size (held ++ octets) frames rest
-    → Splits size (given ++ octets) (whole_frames size given ++ frames) rest
-from_held size given octets held rest frames some stands s =
-    splits-more size given octets (after_frames size given) rest (whole_frames size given) frames
-    (splits size given some)
-    (subst (λ (l : List ℕ). Splits size (l ++ octets) frames rest) stands s)
-
--- what is due beyond is what the last stage owes for the units of the frames that are whole now
-due-is : (c : Configuration) (given octets held rest : List ℕ) (frames : List (List ℕ)) → 0 < c.frame_length
-    → held ≡ after_frames c.frame_length given → Splits c.frame_length (held ++ octets) frames rest
-    → (cadus c (given ++ octets) ≡ cadus c given ++ flat_map (cadu c) frames)
-    × (further (sent c) given octets ≡ further (symbols_of_octets c) (cadus c given) (flat_map (cadu c) frames))
-due-is c given octets held rest frames some stands s =
-    let longer : cadus c (given ++ octets) ≡ cadus c given ++ flat_map (cadu c) frames =
-    ap (flat_map (cadu c)) (frames-are c.frame_length (given ++ octets)
-    (whole_frames c.frame_length given ++ frames) rest
-    (from_held c.frame_length given octets held rest frames some stands s))
-    ∙ flat_map-append (cadu c) (whole_frames c.frame_length given) frames in
-    (longer, ap (λ (l : List ℕ). beyond (sent c given) (symbols_of_octets c l)) longer)
-
-pub sends-frames : (a b : Sending) (taken taken_now : Option (List ℕ)) (octets : List ℕ) → 0 < a.config.frame_length
-    → a.inner.config ≡ a.config → SendsFrames a b taken taken_now octets → Sends a b taken taken_now octets
-sends-frames a b taken taken_now octets some same p = record {
+-- what is written to a list is what it made
+pub makes-sent : (a b : Sending) (octets symbols : List ℕ) → Sends a b (Some []) (Some symbols) octets
+    → Makes a b octets symbols
+makes-sent a b octets symbols p = record {
   config = p.config;
-  fed = record {
-    stands = λ given stood.
-        let due = due-is a.config given octets a.held b.held p.frames some stood.held p.split in
-        record {
-          held = subst (λ (x : Configuration). b.held ≡ after_frames x.frame_length (given ++ octets)) (sym p.config)
-              (sym (after-is a.config.frame_length (given ++ octets)
-              (whole_frames a.config.frame_length given ++ p.frames) b.held
-              (from_held a.config.frame_length given octets a.held b.held p.frames some stood.held p.split)));
-          inner = subst (λ (x : Configuration). InnerSenderStandsFor b.inner (cadus x (given ++ octets))) (sym p.config)
-              (subst (InnerSenderStandsFor b.inner) (sym due.0)
-              (p.inner.fed.stands (cadus a.config given) stood.inner));
-        };
-    written = λ given stood.
-        let due = due-is a.config given octets a.held b.held p.frames some stood.held p.split in
-        subst (Wrote taken taken_now) (sym due.1)
-        (subst (λ (x : Configuration). Wrote taken taken_now
-        (further (symbols_of_octets x) (cadus a.config given) (flat_map (cadu a.config) p.frames))) same
-        (p.inner.fed.written (cadus a.config given) stood.inner));
-  };
+  stands = p.fed.stands;
+  due = λ given stood.
+      let same : Some symbols ≡ Some (further (sent a.config) given octets) = p.fed.written given stood in cc;
 }
 
-pub sends-frames_prefix : (a : Sending) (taken taken_now : Option (List ℕ)) (octets : List ℕ)
-    → 0 < a.config.frame_length → a.inner.config ≡ a.config → SendsFramesPrefix a taken taken_now octets
-    → SendsPrefix a taken taken_now octets
-sends-frames_prefix a taken taken_now octets some same p = record {
-  prefix = λ given stood.
-      let due = due-is a.config given octets a.held p.rest p.frames some stood.held p.split in
-      subst (WrotePrefix taken taken_now) (sym due.1)
-      (subst (λ (x : Configuration). WrotePrefix taken taken_now
-      (further (symbols_of_octets x) (cadus a.config given) (flat_map (cadu a.config) p.frames))) same
-      (p.inner.prefix (cadus a.config given) stood.inner));
+-- ---- what a sender makes of the next octets, by what it keeps
+
+-- a prefix of a frame, or a frame that is whole
+pub splits-none : (size : ℕ) (held : List ℕ) → length held < size → Splits size held [] held
+splits-none size held partial = record { whole = refl; sized = tt; partial = partial }
+
+pub splits-one : (size : ℕ) (frame : List ℕ) → length frame ≡ size → 0 < size → Splits size frame (frame ∷ []) []
+splits-one size frame sized some = record {
+  whole = sym (append-nil frame) ∙ sym (append-nil (frame ++ []));
+  sized = (sized, tt);
+  partial = some;
 }
+
+-- the last stage makes nothing of nothing
+pub inner-makes_none : (s : InnerSending) → InnerMakes s s [] []
+inner-makes_none s = record {
+  config = refl;
+  stands = λ given stood. subst (InnerSenderStandsFor s) (sym (append-nil given)) stood;
+  due = λ given stood.
+      further-is (symbols_of_octets s.config) given [] []
+      (ap (symbols_of_octets s.config) (append-nil given) ∙ sym (append-nil (symbols_of_octets s.config given)));
+}
+
+-- the last stage was given the units of the frames that are whole with the next octets
+pub makes-of : (c : Configuration) (before now : InnerSending) (held held_now octets symbols : List ℕ)
+    (frames : List (List ℕ)) → 0 < c.frame_length → Splits c.frame_length (held ++ octets) frames held_now
+    → before.config ≡ c → InnerMakes before now (flat_map (cadu c) frames) symbols
+    → Makes (record { config = c; held = held; inner = before }) (record { config = c; held = held_now; inner = now })
+    octets symbols
+makes-of c before now held held_now octets symbols frames some split same m = record {
+  config = refl;
+  stands = λ given stood. record {
+    held = sym (after-is c.frame_length (given ++ octets) (whole_frames c.frame_length given ++ frames) held_now
+        (all given stood.held));
+    inner = subst (InnerSenderStandsFor now) (sym (longer given stood.held))
+        (m.stands (cadus c given) stood.inner);
+  };
+  due = λ given stood.
+      ap (λ (l : List ℕ). beyond (sent c given) (symbols_of_octets c l)) (longer given stood.held)
+      ∙ ap (λ (k : Configuration). further (symbols_of_octets k) (cadus c given) (flat_map (cadu c) frames)) (sym same)
+      ∙ m.due (cadus c given) stood.inner;
+}
+  where
+    all : (given : List ℕ) → held ≡ after_frames c.frame_length given
+        → Splits c.frame_length (given ++ octets) (whole_frames c.frame_length given ++ frames) held_now
+    all given stood =
+        splits-more c.frame_length given octets (after_frames c.frame_length given) held_now
+        (whole_frames c.frame_length given) frames (splits c.frame_length given some)
+        (subst (λ (l : List ℕ). Splits c.frame_length (l ++ octets) frames held_now) stood split)
+
+    longer : (given : List ℕ) → held ≡ after_frames c.frame_length given
+        → cadus c (given ++ octets) ≡ cadus c given ++ flat_map (cadu c) frames
+    longer given stood =
+        ap (flat_map (cadu c)) (frames-are c.frame_length (given ++ octets)
+        (whole_frames c.frame_length given ++ frames) held_now (all given stood))
+        ∙ flat_map-append (cadu c) (whole_frames c.frame_length given) frames

@@ -5,15 +5,17 @@ use Rattle.tm_sync.specs.declared.found.Found.{Found}
 use Rattle.tm_sync.specs.Finding.{Finding, Recent}
 use Rattle.tm_codeblock.specs.ReceivedCodeblock.{places_in}
 use Rattle.tm_channel.specs.Items.{ItemValue, AreItemsOf}
-use Rattle.tm_channel.specs.Due.{due_count_of, due_of, due_count, due}
+use Rattle.tm_channel.specs.Due.{due_count, due_count_of, due_of}
 use Rattle.tm_channel.specs.Origins.{AreAt, AreHandedSymbols, place_symbol}
-use Rattle.tm_channel.specs.Receiving.{Holding, HoldsFound, HoldsMore, IsHanded}
-use Rattle.tm_channel.specs.OctetReceiving.{BitReceiving, HasSymbols, KeepsSymbols, Searched}
+use Rattle.tm_channel.specs.Receiving.{Holding, Holds, HoldsFound, IsHanded}
+use Rattle.tm_channel.specs.OctetReceiving.{Gathered, HasSymbols, IsSettled, KeepsSymbols}
+use Rattle.tm_channel.specs.declared.bit_receiver.BitReceiver.{BitReceiver}
 use Rattle.tm_channel.proofs.KeptSymbols.{symbols-handed, symbols-then}
-use Rattle.tm_channel.proofs.Streaming.{batch-items, batch-stands, due-end, items-more}
+use Rattle.tm_channel.proofs.Holding.{stands-all}
+use Rattle.tm_channel.proofs.Streaming.{batch-items, batch-stands}
 
 -- of these bits these places were found by now, and these items handed over
-pub record Settling (c : Configuration) (at : ℕ → ℕ) (count : ℕ) (bits : List Bool) (now : BitReceiving)
+pub record Settling (c : Configuration) (at : ℕ → ℕ) (count : ℕ) (bits : List Bool) (now : BitReceiver)
     (items : List ItemValue) : Type 0 where
   pub found : List Found
   pub holds : HoldsFound now.finder now.recent now.batch (due_count_of c found) bits found
@@ -22,28 +24,27 @@ pub record Settling (c : Configuration) (at : ℕ → ℕ) (count : ℕ) (bits :
   pub has : HasSymbols now count at
 
 -- nothing was found in the last bits yet
-pub settling-start : (r : BitReceiving) (bits more : List Bool) (done : List ItemValue) (count : ℕ) (at : ℕ → ℕ)
-    → HoldsMore r.finder r.recent r.batch (due_count r.batch.config bits) bits more
-    → AreItemsOf r.batch.config bits (due r.batch.config bits) done → AreAt at count (map place_symbol done)
-    → HasSymbols r count at → Settling r.batch.config at count (bits ++ more) r done
-settling-start r bits more done count at h are said has =
-    let c = r.batch.config in
+pub settling-start : (r : BitReceiver) (all : List Bool) (done : List ItemValue) (count : ℕ) (at : ℕ → ℕ)
+    → Gathered r.batch.config at count all r done → Settling r.batch.config at count all r done
+settling-start r all done count at g =
+    let found = places_in r.batch.config g.bits in
     record {
-      found = places_in c bits;
-      holds = h;
-      are_items = items-more c bits more (due c bits) done (due-end c bits) are;
-      said = said;
-      has = has;
+      found = found;
+      holds = subst (λ (l : List Bool). HoldsFound r.finder r.recent r.batch
+          (due_count_of r.batch.config found) l found) (sym g.are) g.holds;
+      are_items = g.are_items;
+      said = g.said;
+      has = g.has;
     }
 
 -- what a receiver does that keeps the codeblocks of these places more
-abbrev pub KeepsPlaces : BitReceiving → BitReceiving → List Found → Type 0
+abbrev pub KeepsPlaces : BitReceiver → BitReceiver → List Found → Type 0
 KeepsPlaces b m next = (handed : ℕ) (bits : List Bool) (found : List Found) → length bits < 2 ^ 63
     → HoldsFound b.finder b.recent b.batch handed bits found
     → HoldsFound m.finder m.recent m.batch handed bits (found ++ next)
 
 -- the same with another batch, of which other codeblocks are stored
-holds-same : (c : Configuration) (m n : BitReceiving) (handed : ℕ) (bits : List Bool) (found : List Found)
+holds-same : (c : Configuration) (m n : BitReceiver) (handed : ℕ) (bits : List Bool) (found : List Found)
     → n.finder ≡ m.finder → n.recent ≡ m.recent → n.batch.config ≡ c
     → Holding c m.finder m.recent.bits n.batch.stored handed bits found
     → HoldsFound n.finder n.recent n.batch handed bits found
@@ -53,18 +54,18 @@ holds-same c m n handed bits found finder recent config h =
     (subst (λ (k : Configuration). Holding k m.finder m.recent.bits n.batch.stored handed bits found) (sym config) h))
 
 -- some codeblocks more are stored, and the batch is handed over where it is full
-pub settling-handed : (c : Configuration) (at : ℕ → ℕ) (count : ℕ) (b m n : BitReceiving) (next : List Found)
-    (others : List ItemValue) → b.batch.config ≡ c → m.batch.config ≡ b.batch.config
-    → n.finder ≡ m.finder → n.recent ≡ m.recent → n.batch.config ≡ m.batch.config → n.origins ≡ m.origins
-    → KeepsPlaces b m next → KeepsSymbols b m → IsHanded m.batch.config m.batch.stored n.batch.stored others
+pub settling-handed : (b m n : BitReceiver) (next : List Found) (others : List ItemValue) (count : ℕ) (at : ℕ → ℕ)
+    → m.batch.config ≡ b.batch.config → n.finder ≡ m.finder → n.recent ≡ m.recent → n.batch.config ≡ m.batch.config
+    → n.origins ≡ m.origins → KeepsPlaces b m next → KeepsSymbols b m
+    → IsHanded m.batch.config m.batch.stored n.batch.stored others
     → AreHandedSymbols m.batch.symbols n.batch.symbols others
     → (bits : List Bool) (items : List ItemValue) → length bits < 2 ^ 63 → length bits ≤ count
-    → Settling c at count bits b items → Settling c at count bits n (items ++ others)
-settling-handed c at count b m n next others config_b config_m finder recent config_n origins keeps symbols handed parts
-    bits items few le s =
+    → Settling b.batch.config at count bits b items → Settling b.batch.config at count bits n (items ++ others)
+settling-handed b m n next others count at config finder recent config_n origins keeps symbols handed parts bits items
+    few le s =
+    let c = b.batch.config in
     let now : List Found = s.found ++ next in
     let before = due_count_of c s.found in
-    let config : m.batch.config ≡ c = config_m ∙ config_b in
     let held = subst (λ (k : Configuration). Holding k m.finder m.recent.bits m.batch.stored before bits now) config
     (keeps before bits s.found few s.holds) in
     let is = subst (λ (k : Configuration). IsHanded k m.batch.stored n.batch.stored others) config handed in
@@ -82,30 +83,32 @@ settling-handed c at count b m n next others config_b config_m finder recent con
     }
 
 -- all places were found
-pub settling-all : (c : Configuration) (at : ℕ → ℕ) (count : ℕ) (b n : BitReceiving) → b.batch.config ≡ c
-    → n.batch.config ≡ b.batch.config
+pub settling-all : (b n : BitReceiver) → n.batch.config ≡ b.batch.config
     → ((handed : ℕ) (bits : List Bool) (found : List Found) → length bits < 2 ^ 63
     → HoldsFound b.finder b.recent b.batch handed bits found
     → HoldsFound n.finder n.recent n.batch handed bits found × (places_in b.batch.config bits ≡ found))
-    → KeepsSymbols b n → (bits : List Bool) (items : List ItemValue) → length bits < 2 ^ 63 → length bits ≤ count
-    → Settling c at count bits b items → Searched c at count bits n items × HasSymbols n count at
-settling-all c at count b n config_b config_n none symbols bits items few le s =
+    → KeepsSymbols b n → (bits : List Bool) (items : List ItemValue) (count : ℕ) (at : ℕ → ℕ) → length bits < 2 ^ 63
+    → length bits ≤ count → Settling b.batch.config at count bits b items
+    → IsSettled b.batch.config at count bits n items
+settling-all b n config none symbols bits items count at few le s =
+    let c = b.batch.config in
     let before = due_count_of c s.found in
     let held = none before bits s.found few s.holds in
     let has = symbols before bits s.found count at few le s.holds s.has in
-    let here : places_in c bits ≡ s.found = ap (λ (k : Configuration). places_in k bits) (sym config_b) ∙ held.1 in
-    let config : n.batch.config ≡ c = config_n ∙ config_b in
     let there : s.found ≡ places_in n.batch.config bits =
-    sym (ap (λ (k : Configuration). places_in k bits) config ∙ here) in (
-      record {
-        stands =
-            subst (λ (fs : List Found). HoldsFound n.finder n.recent n.batch
-            (due_count_of n.batch.config fs) bits fs) there
-            (subst (λ (k : Configuration). HoldsFound n.finder n.recent n.batch (due_count_of k s.found) bits s.found)
-            (sym config) held.0);
-        are_items = subst (λ (fs : List Found). AreItemsOf c bits (due_of c fs) items) (sym here) s.are_items;
-        stored = has.stored;
-        said = s.said;
-      },
-      has,
+    sym (ap (λ (k : Configuration). places_in k bits) config ∙ held.1) in
+    let holds : Holds n.finder n.recent n.batch (due_count n.batch.config bits) bits =
+    subst (λ (fs : List Found). HoldsFound n.finder n.recent n.batch (due_count_of n.batch.config fs) bits fs) there
+    (subst (λ (k : Configuration). HoldsFound n.finder n.recent n.batch (due_count_of k s.found) bits s.found)
+    (sym config) held.0) in (
+      (
+        record {
+          stands = stands-all n.finder n.recent n.batch bits holds;
+          are_items = subst (λ (fs : List Found). AreItemsOf c bits (due_of c fs) items) (sym held.1) s.are_items;
+          stored = has.stored;
+          said = s.said;
+        },
+        has,
+      ),
+      holds,
     )

@@ -23,7 +23,8 @@ use Rattle.tm_channel.specs.Handing.{AreReceived}
 use Rattle.tm_channel.specs.Items.{ItemValue, AreItems}
 use Rattle.tm_channel.specs.Most.{AreFew}
 use Rattle.tm_channel.specs.Origins.{AreAt, place_symbol}
-use Rattle.tm_channel.specs.OctetReceiving.{AreKnown, BitReceiving, Decoded, HasSymbols, NotesOrigin, Progress, ReceivedAt, ReceivedLast, Searched, Stages, StagesFor, bits_of_blocks}
+use Rattle.tm_channel.specs.OctetReceiving.{AreKnown, Decoded, HasSymbols, IsSearched, NotesOrigin, Progress, ReceivedAt, ReceivedLast, Searched, Stages, StagesFor, bits_of_blocks}
+use Rattle.tm_channel.specs.declared.bit_receiver.BitReceiver.{BitReceiver}
 use Rattle.tm_channel.specs.declared.totals.Totals.{Totals}
 use Rattle.tm_channel.proofs.FewItems.{ends-few}
 use Rattle.tm_channel.proofs.FirstStage.{Ending, NotesRun, Settles, chosen-ended, first-kept, origin-coded}
@@ -70,7 +71,7 @@ at-end took s settled now taker middle settles d given done stood =
 -- ---- the last window
 
 -- what is said of it, once it was decoded
-pub record LastRun (now last : InnerDecoding) (ready : List WindowBlock) (bits noted : BitReceiving)
+pub record LastRun (now last : InnerDecoding) (ready : List WindowBlock) (bits noted : BitReceiver)
     (origin left count : ℕ)
     (slips : Option ℕ) : Type 0 where
   pub ending : Ending now last.queue ready left count slips
@@ -98,7 +99,7 @@ whole-bits c rate phase given blocks left is are few =
       few,
     )
 
-last-of : (c : Configuration) (now last : InnerDecoding) (ready front : List WindowBlock) (bits noted : BitReceiving)
+last-of : (c : Configuration) (now last : InnerDecoding) (ready front : List WindowBlock) (bits noted : BitReceiver)
     (origin left count : ℕ) (slips : Option ℕ) (given : List ℕ) (rate : Rate) → c.inner ≡ Some rate → now.config ≡ c
     → bits.batch.config ≡ c → LastRun now last ready bits noted origin left count slips
     → InnerDecoderStandsFor now given front → IsChosen now.config given now.chosen
@@ -123,7 +124,7 @@ last-of c now last ready front bits noted origin left count slips given rate is 
 
 -- the symbols of all bits are known, before those of the last window are received
 last-has : (c : Configuration) (now : Stages) (last : InnerDecoding) (ready front : List WindowBlock)
-    (noted : BitReceiving)
+    (noted : BitReceiver)
     (origin left count : ℕ) (slips : Option ℕ) (given : List ℕ) (done : List (Handed ItemValue))
     → LastRun now.inner last ready now.bits noted origin left count slips → InnerDecoderStandsFor now.inner given front
     → IsChosen now.inner.config given now.inner.chosen → length (inner_bits c given front)
@@ -155,7 +156,7 @@ last-has c now last ready front noted origin left count slips given done l stand
 
 pub ends : {T : Type 0} (took_phase : T → ℕ → ℕ → T → Type 0) (took : T → ItemValue → T → Type 0) (s : Stages)
     (settled : InnerDecoding) (now : Stages) (last : InnerDecoding) (ready : List WindowBlock)
-    (noted bits : BitReceiving)
+    (noted bits : BitReceiver)
     (origin left : ℕ) (totals : Totals) (taker middle third taker_now : T) → Settles s.inner settled
     → (d : Decoded (on_handed took_phase took) (record { inner = settled; bits = s.bits }) now taker middle [])
     → LastRun now.inner last ready now.bits noted origin left totals.bits totals.slips
@@ -183,21 +184,22 @@ ends took_phase took s settled now last ready noted bits origin left totals take
     let piece = last-at c.inner c phase given front ready left whole.0 in
     let long : length (inner_bits c given front) ≤ length (inner_bits c given all) =
     omega (arith, ap length piece, length-append (inner_bits c given front) (bits_of_blocks ready)) in
+    let few_bits : length (inner_bits c given all) < 2 ^ 63 =
+    omega (arith, whole-few c phase given all left whole.0, e.stands.few) in
     let it = searched-more took c at then now.bits noted bits middle third (inner_bits c given front)
-    (bits_of_blocks ready) (inner_bits c given all) was e.progress.of.1 l.notes.0 p piece
-    (omega (arith, whole-few c phase given all left whole.0, e.stands.few))
+    (bits_of_blocks ready) (inner_bits c given all) was e.progress.of.1 l.notes.0 p piece few_bits
     (symbols-more c phase given front ready)
     (last-has c now last ready front noted origin left totals.bits totals.slips given
     (done ++ d.more) l e.stands e.here long
     e.progress) e.progress.searched in
-    let config : bits.batch.config ≡ c = p.config ∙ ap (λ (v : BitReceiving). v.batch.config) l.notes.0
+    let config : bits.batch.config ≡ c = p.config ∙ ap (λ (v : BitReceiver). v.batch.config) l.notes.0
     ∙ e.progress.of.1 in
     let number = length (inner_bits c given all) in
     let done_all = was ++ p.items in
-    let last_all = subst (λ (k : Configuration). Searched k then number (inner_bits c given all) bits done_all
+    let last_all = subst (λ (k : Configuration). IsSearched k then number (inner_bits c given all) bits done_all
     → AreItems k (inner_bits c given all) (done_all ++ q.items)
     × AreAt then number (map place_symbol (done_all ++ q.items)))
-    config (q.all (inner_bits c given all) done_all number then) it.0 in
+    config (q.all (inner_bits c given all) done_all number then few_bits (omega arith)) it in
     let joined_items = append_assoc was p.items q.items in
     let items = subst (AreItems c (inner_bits c given all)) joined_items last_all.0 in
     let on = behind s now given given given done (done ++ d.more) e.next stood

@@ -9,6 +9,7 @@ use Rattle.tm_sync.specs.Finding.{Finding, places_left}
 use Rattle.tm_sync.proofs.Longer.{EndBefore}
 use Rattle.tm_sync.proofs.Rescanned.{places_after-nil}
 use Rattle.tm_config.specs.Configuration.{Configuration}
+use Rattle.tm_sync.specs.Places.{Rules}
 use Rattle.tm_codeblock.specs.ReceivedCodeblock.{rules_of, codeblock_at, columns_of, places_in, sound_in}
 use Rattle.tm_codeblock.proofs.PlacesIn.{places_in-end}
 use Rattle.tm_channel.specs.Items.{ItemValue, IsItem, AreItemsOf, AreFirstItemsOf}
@@ -45,11 +46,6 @@ items-of c bits [] [] are = tt
 items-of c bits [] (item ∷ items) are = absurd are
 items-of c bits (f ∷ fs) [] are = absurd are
 items-of c bits (f ∷ fs) (item ∷ items) are = (are.0, items-of c bits fs items are.1)
-
-pub take-map' : {A B : Type 0} (f : A → B) (count : ℕ) (xs : List A) → take count (map f xs) ≡ map f (take count xs)
-take-map' f zero xs = refl
-take-map' f (suc count) [] = refl
-take-map' f (suc count) (x ∷ xs) = ap (λ l. f x ∷ l) (take-map' f count xs)
 
 -- ---- the places that were found are the first ones
 
@@ -191,6 +187,12 @@ due-end c bits =
     take-all (λ f. f.place + 32 + (rules_of c).block_bits ≤ length bits) (due_count c bits) (places_in c bits)
     (places_in-end c bits)
 
+pub ends-longer : (rules : Rules) (count more : ℕ) (fs : List Found) → count ≤ more → EndBefore rules count fs
+    → EndBefore rules more fs
+ends-longer rules count more [] within ends = tt
+ends-longer rules count more (f ∷ fs) within ends =
+    (omega (arith, ends.0, within), ends-longer rules count more fs within ends.1)
+
 -- ---- the end
 pub items-last : (c : Configuration) (s : Finding) (recent : List Bool)
     (stored : List StoredCodeblock) (bits : List Bool) (items : List ItemValue)
@@ -202,20 +204,20 @@ items-last c s recent stored bits items h are =
     (items-of c bits waiting items (subst (λ (ks : List StoredCodeblock). AreItemsFor c ks items) h.waiting are))
 
 -- no bits
-pub stands-new : (c : Configuration) (s : Finding) (recent : List Bool) (stored : List StoredCodeblock)
-    → s ≡ record { rules = rules_of c; columns = columns_of c; passed = 0; last = None } → recent ≡ [] → stored ≡ []
-    → Holding c s recent stored (due_count c []) [] (places_in c [])
-stands-new c s recent stored new none nothing =
+pub stands-new : (c : Configuration) (s : Finding) (recent : List Bool)
+    → s ≡ record { rules = rules_of c; columns = columns_of c; passed = 0; last = None } → recent ≡ []
+    → Holding c s recent [] (due_count c []) [] (places_in c [])
+stands-new c s recent new none =
     let no : places_in c [] ≡ [] = places_after-nil (rules_of c) (columns_of c) (sound_in c []) 0 None in
-    subst (λ (s : Finding). Holding c s recent stored (due_count c []) [] (places_in c [])) (sym new)
+    subst (λ (s : Finding). Holding c s recent [] (due_count c []) [] (places_in c [])) (sym new)
     (subst (λ (recent : List Bool). Holding c
-    (record { rules = rules_of c; columns = columns_of c; passed = 0; last = None }) recent stored (due_count c []) []
+    (record { rules = rules_of c; columns = columns_of c; passed = 0; last = None }) recent [] (due_count c []) []
     (places_in c [])) (sym none)
     (record {
       passed = omega arith;
       left = refl;
       places = λ more. ap (λ fs. fs ++ places_in c more) (sym no);
       within = batches-le c.batch (length (places_in c []));
-      waiting = nothing ∙ ap (map (stored_at c [])) (sym (drop-nil (in_batches c.batch 0)))
+      waiting = ap (map (stored_at c [])) (sym (drop-nil (in_batches c.batch 0)))
           ∙ ap (λ (fs : List Found). map (stored_at c []) (drop (in_batches c.batch (length fs)) fs)) (sym no);
     }))

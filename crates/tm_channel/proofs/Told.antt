@@ -10,7 +10,8 @@ use Rattle.tm_channel.specs.declared.totals.Totals.{Totals}
 use Rattle.tm_channel.specs.declared.until_fault.UntilFault.{UntilFault}
 use Rattle.tm_channel.proofs.FirstItems.{handed-first, handed-prefix}
 use Rattle.tm_channel.proofs.PhasedItems.{part-some, prefix-nil}
-use Rattle.tm_channel.proofs.Until.{PassesAll, Took, TookPhase, passes-all}
+use Rattle.tm_inner.proofs.Until.{PassesAll}
+use Rattle.tm_channel.proofs.Until.{Took, TookPhase, passes-all}
 
 module _ {T : Type 0} (took_phase broke_phase : T → ℕ → ℕ → T → Type 0) (took broke : T → ItemValue → T → Type 0)
     (faults : T → ℕ) (is_last : T → Type 0) where
@@ -166,26 +167,5 @@ module _ {T : Type 0} (took_phase broke_phase : T → ℕ → ℕ → T → Type
           p.0,
           λ given done stood. handed-prefix before.config given (done ++ h.0) totals (h.2 given done stood),
         );
-        chosen = tells.chosen;
-      }
-
-  pub finishes-stopped : (before now : OctetReceiving) (a b : UntilFault T)
-      → TellsLast Told before now a b None
-      → Finishes Takes Breaks faults is_last before now a.taker.now b.taker.now (Err Stopped)
-  finishes-stopped before now a b tells =
-      let same = tells.unchanged refl in
-      let taker = ap (λ (u : UntilFault T). u.taker.now) same.1 in
-      record {
-        call = record {
-          stopped = (λ _. tells.stopped.0 refl, λ _. refl);
-          unchanged = λ _. (same.0, taker);
-          later = omega (arith, ap faults taker);
-          rose = λ e. absurd cc;
-          same = λ _. ap faults taker;
-        };
-        stops = tells.stops;
-        config = tells.config;
-        handed = tt;
-        prefix = λ e. absurd cc;
         chosen = tells.chosen;
       }

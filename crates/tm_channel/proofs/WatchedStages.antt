@@ -8,11 +8,10 @@ use Rattle.tm_config.specs.Configuration.{Configuration}
 use Rattle.tm_conv.specs.declared.rates.Rate.{Rate}
 use Rattle.tm_viterbi.specs.Clean.{kept_bits}
 use Rattle.tm_viterbi.specs.WindowBlock.{WindowBlock}
-use Rattle.tm_windows.specs.Queue.{Queueing}
 use Rattle.tm_windows.specs.Windows.{first_spot}
 use Rattle.tm_windows.proofs.KeptBits.{followed-later}
 use Rattle.tm_inner.specs.Inner.{AreInnerDue, DueAt, soft_octets, windows_of}
-use Rattle.tm_inner.specs.InnerDecoding.{InnerDecoderStandsFor, InnerDecoding, IsDrained, IsQueueOf, ready_in}
+use Rattle.tm_inner.specs.InnerDecoding.{InnerDecoderStandsFor, InnerDecoding, ready_in}
 use Rattle.tm_inner.specs.InnerWindows.{AreDecoded, AreTold, AreWindows, windows_after, windows_in}
 use Rattle.tm_inner.specs.Phase.{skip_of}
 use Rattle.tm_inner.specs.Receiving.{Hands}
@@ -20,7 +19,7 @@ use Rattle.tm_inner.specs.declared.window.Window.{Window}
 use Rattle.tm_inner.proofs.DecodedWindows.{decoded-drained, told-ended}
 use Rattle.tm_inner.proofs.GivenPieces.{hands-more}
 use Rattle.tm_inner.proofs.ToldWindows.{told-filled}
-use Rattle.tm_channel.proofs.FirstStage.{Ending, Fills, Settles}
+use Rattle.tm_channel.proofs.FirstStage.{Ending, Fills, Settles, drained-plain}
 use Rattle.tm_channel.proofs.GivenOctets.{IsWaiting}
 use Rattle.tm_channel.proofs.PhasedItems.{prefix-nil}
 
@@ -48,12 +47,6 @@ watched-then took a b c watch middle now octets p q =
     (hands-more took AreTold a b c watch middle now octets [] p q)
 
 -- ---- all that is due was decoded
-
--- with no inner code there are no windows
-drained-plain : (c : Configuration) (queue : Option Queueing) → IsQueueOf c queue → is_some c.inner ≡ false
-    → IsDrained queue
-drained-plain c None of plain = tt
-drained-plain c (Some queue) of plain = absurd (let is = ap is_some of.1 in cc)
 
 pub decoded-plain : (d : InnerDecoding) → is_some d.config.inner ≡ false → AreDecoded d
 decoded-plain d plain going given blocks stood so_far =

@@ -13,7 +13,5 @@ pub mod OctetReceiving
 pub mod ColumnWords
 pub mod Storing
 pub mod Sending
-pub mod Steps
 pub mod Calls
 pub mod Crew
-pub mod UntilFault

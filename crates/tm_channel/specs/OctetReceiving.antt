@@ -9,7 +9,6 @@ use Rattle.tm_config.specs.declared.values.Sought.TheVariants.{Given}
 use Rattle.tm_conv.specs.Path.{farthest_step}
 use Rattle.tm_conv.specs.declared.rates.Rate.{Rate}
 use Rattle.tm_sync.specs.declared.found.Found.{Found}
-use Rattle.tm_sync.specs.Finding.{Finding, Recent}
 use Rattle.tm_sync.specs.Bits.{bits_bound}
 use Rattle.tm_viterbi.specs.WindowBlock.{WindowBlock}
 use Rattle.tm_viterbi.specs.Clean.{kept_bits}
@@ -27,30 +26,23 @@ use Rattle.tm_channel.specs.declared.bit_receiver.BitReceiver.{BitReceiver}
 use Rattle.tm_channel.specs.declared.totals.Totals.{Totals}
 use Rattle.tm_channel.specs.Handing.{AreReceived, AreReceivedDue, AreReceivedFirst, AreReceivedPrefix}
 use Rattle.tm_channel.specs.Most.{AreFew}
-use Rattle.tm_channel.specs.Origins.{AreAt, AreSpaced, Noted, origin_at, place_symbol, symbol_by}
-use Rattle.tm_channel.specs.Receiving.{Batching, Stands, HoldsFound, HoldsMore, waiting_bits}
-
--- what contracts see of a receiver of bits
-pub record BitReceiving : Type 0 where
-  pub finder : Finding
-  -- the bits that are not passed yet
-  pub recent : Recent
-  pub batch : Batching
-  -- where the symbols of these bits stand
-  pub origins : Noted
-
--- the same of a receiver of bits that these origins are kept beside
-abbrev pub receiving : BitReceiver → Noted → BitReceiving
-receiving r origins =
-    record { finder = r.finder; recent = r.recent; batch = r.batch; origins = origins }
+use Rattle.tm_channel.specs.Origins.{AreAt, AreSpaced, ReachesBack, origin_at, place_symbol, symbol_by}
+use Rattle.tm_channel.specs.Receiving.{Fills, Holds, HoldsFound, HoldsMore, IsShort, Stands, waiting_bits}
 
 -- it was given these bits
-abbrev pub BitReceiverStandsFor : BitReceiving → List Bool → Type 0
+abbrev pub BitReceiverStandsFor : BitReceiver → List Bool → Type 0
 BitReceiverStandsFor r = Stands r.finder r.recent r.batch
+
+-- It may be given bits: its parts agree, there is room, and the batch is not full. With an inner
+-- code no bits wait, since the origins reach back no farther than a search keeps bits.
+pub record AwaitsBits (r : BitReceiver) : Type 0 where
+  pub fills : Fills r.finder r.recent r.batch
+  pub reaches : ReachesBack r.batch.config r.origins.size
+  pub short : is_some r.batch.config.inner ≡ true → IsShort r.finder r.recent
 
 -- Of a receiver of fewer than so many bits, these are the symbols of the codeblocks that are stored,
 -- and of all bits that are not passed.
-pub record HasSymbols (r : BitReceiving) (count : ℕ) (at : ℕ → ℕ) : Type 0 where
+pub record HasSymbols (r : BitReceiver) (count : ℕ) (at : ℕ → ℕ) : Type 0 where
   pub stored : AreAt at count r.batch.symbols
   pub left : (n : ℕ) → r.finder.passed ≤ n → symbol_by r.batch.config.inner r.batch.config
       (origin_at r.origins.origins n) n ≡ at n
@@ -59,7 +51,7 @@ pub record HasSymbols (r : BitReceiving) (count : ℕ) (at : ℕ → ℕ) : Type
 
 -- Of these bits, not passed yet, which were received with the inner code: each origin stands as far
 -- from the next as a window keeps bits.
-abbrev pub AreKnown : Option Rate → Configuration → (at : ℕ → ℕ) → (count : ℕ) → BitReceiving
+abbrev pub AreKnown : Option Rate → Configuration → (at : ℕ → ℕ) → (count : ℕ) → BitReceiver
     → Type 0
 AreKnown None c at count r = Unit {0}
 AreKnown (Some rate) c at count r = AreSpaced c.keep count r.origins.origins
@@ -69,7 +61,7 @@ AreKnown (Some rate) c at count r = AreSpaced c.keep count r.origins.origins
 -- A search was given these bits, among the first ones, so many, whose symbols are these: the items
 -- that are due of them, and the codeblocks that are stored, say theirs.
 pub record Searched (c : Configuration) (at : ℕ → ℕ) (count : ℕ) (bits : List Bool)
-    (r : BitReceiving) (items : List ItemValue) : Type 0 where
+    (r : BitReceiver) (items : List ItemValue) : Type 0 where
   pub stands : BitReceiverStandsFor r bits
   pub are_items : AreItemsOf c bits (due c bits) items
   pub stored : AreAt at count r.batch.symbols
@@ -79,12 +71,12 @@ pub record Searched (c : Configuration) (at : ℕ → ℕ) (count : ℕ) (bits :
 -- its bits
 pub record Stages : Type 0 where
   pub inner : InnerDecoding
-  pub bits : BitReceiving
+  pub bits : BitReceiver
 
 -- Stages of a configuration that were given these octets and no others, fewer than 2^60, and have
 -- handed over this: the first stage has decoded these blocks, and then the ready ones. The bits of
--- the blocks before those, or with no inner code of the octets that were taken, were searched, and
--- the items that are due of them handed over, after the phase, once it was read.
+-- the blocks before those, or with no inner code of the octets that were taken, were given to the
+-- search, and the items that are due of them handed over, after the phase, once it was read.
 pub record Progress (c : Configuration) (s : Stages) (given taken : List ℕ)
     (blocks ready : List WindowBlock) (done : List (Handed ItemValue)) : Type 0 where
   pub of : (s.inner.config ≡ c) × (s.bits.batch.config ≡ c)
@@ -100,8 +92,8 @@ pub record Progress (c : Configuration) (s : Stages) (given taken : List ℕ)
 
 -- Stages that were given these octets and no others, fewer than 2^60, before the end of the octets,
 -- and have handed over this: of the blocks that are due some may wait in the first stage, whose
--- bits make no item due; the bits of the others were searched, and the phase, where it is chosen,
--- and the items that are due went to the taker.
+-- bits make no item due; the bits of the others were given to the search, and the phase, where it is
+-- chosen, and the items that are due went to the taker.
 pub record StagesFor (s : Stages) (given : List ℕ) (done : List (Handed ItemValue)) : Type 0 where
   pub going : s.inner.has_ended ≡ false
   pub all : unread s.inner ≡ None
@@ -215,20 +207,31 @@ FinishChooses before now = (given : List ℕ) (done : List (Handed ItemValue))
 
 -- ---- codeblocks that are whole
 
--- Whatever bits were searched, and whichever given then, of which the search passed none: all are
--- searched now, and after the items that were due these are due too.
-abbrev pub Settles : BitReceiving → BitReceiving → List ItemValue → Type 0
-Settles before now items = (bits more : List Bool) (done : List ItemValue) (count : ℕ) (at : ℕ → ℕ)
-    → length (bits ++ more) < bits_bound → length (bits ++ more) ≤ count
-    → HoldsMore before.finder before.recent before.batch (due_count before.batch.config bits) bits
-    more
-    → AreItemsOf before.batch.config bits (due before.batch.config bits) done
-    → AreAt at count (map place_symbol done) → HasSymbols before count at
-    → Searched before.batch.config at count (bits ++ more) now (done ++ items)
-    × HasSymbols now count at
+-- a search was given these bits, and all symbols are known
+abbrev pub IsSearched : Configuration → (at : ℕ → ℕ) → (count : ℕ) → List Bool → BitReceiver
+    → List ItemValue → Type 0
+IsSearched c at count bits r items = Searched c at count bits r items × HasSymbols r count at
+
+-- all of them but the last ones were searched, which are in the room, and of which the search passed
+-- none
+pub record Gathered (c : Configuration) (at : ℕ → ℕ) (count : ℕ) (all : List Bool)
+    (r : BitReceiver) (items : List ItemValue) : Type 0 where
+  pub bits : List Bool
+  pub more : List Bool
+  pub are : all ≡ bits ++ more
+  pub holds : HoldsMore r.finder r.recent r.batch (due_count c bits) bits more
+  pub are_items : AreItemsOf c all (due c bits) items
+  pub said : AreAt at count (map place_symbol items)
+  pub has : HasSymbols r count at
+
+-- all were searched, and all their places found
+abbrev pub IsSettled : Configuration → (at : ℕ → ℕ) → (count : ℕ) → List Bool → BitReceiver
+    → List ItemValue → Type 0
+IsSettled c at count bits r items = IsSearched c at count bits r items
+    × Holds r.finder r.recent r.batch (due_count r.batch.config bits) bits
 
 -- whichever symbols they have, those of the codeblocks that are stored are known still
-abbrev pub KeepsSymbols : BitReceiving → BitReceiving → Type 0
+abbrev pub KeepsSymbols : BitReceiver → BitReceiver → Type 0
 KeepsSymbols before now = (handed : ℕ) (bits : List Bool) (found : List Found) (count : ℕ)
     (at : ℕ → ℕ) → length bits < bits_bound → length bits ≤ count
     → HoldsFound before.finder before.recent before.batch handed bits found
@@ -236,51 +239,40 @@ KeepsSymbols before now = (handed : ℕ) (bits : List Bool) (found : List Found)
 
 -- ---- bits that are received
 
--- whatever bits were given before: these were received too, the items that are due with them handed
--- over, and no origin noted
-pub record ReceivedAt {T : Type 0} (took : T → ItemValue → T → Type 0) (before now : BitReceiving)
-    (taker taker_now : T) (bits : List Bool) : Type 0 where
+-- As one was with whatever bits were given before, so the other is with these too; the items that
+-- are due with them were handed over, and no origin noted.
+pub record Receives {T : Type 0}
+    (Was Is : Configuration → (ℕ → ℕ) → ℕ → List Bool → BitReceiver → List ItemValue → Type 0)
+    (took : T → ItemValue → T → Type 0) (before now : BitReceiver) (taker taker_now : T)
+    (bits : List Bool) : Type 0 where
   pub config : now.batch.config ≡ before.batch.config
   pub origins : now.origins ≡ before.origins
   pub items : List ItemValue
   pub handed : HandedOver took taker items taker_now
-  pub searched : (given : List Bool) (done : List ItemValue) (count : ℕ) (at : ℕ → ℕ)
+  pub on : (given : List Bool) (done : List ItemValue) (count : ℕ) (at : ℕ → ℕ)
       → length (given ++ bits) < bits_bound → length (given ++ bits) ≤ count
-      → Searched before.batch.config at count given before done → HasSymbols before count at
-      → Searched before.batch.config at count (given ++ bits) now (done ++ items)
-      × HasSymbols now count at
+      → Was before.batch.config at count given before done
+      → Is before.batch.config at count (given ++ bits) now (done ++ items)
+
+-- these bits were given to the search
+abbrev pub ReceivedAt : {T : Type 0} → (T → ItemValue → T → Type 0) → BitReceiver → BitReceiver
+    → T → T → List Bool → Type 0
+ReceivedAt took before now taker taker_now bits =
+    Receives IsSearched IsSearched took before now taker taker_now bits
 
 -- the same receiver, with these bits in its room besides
-abbrev pub with_more : BitReceiving → List Bool → BitReceiving
+abbrev pub with_more : BitReceiver → List Bool → BitReceiver
 with_more r more = record r { recent = record r.recent { bits = r.recent.bits ++ more } }
 
--- Bits were given: the first of them were received, and the others are in the room, of which the
--- search passed none.
-pub record Gathers {T : Type 0} (took : T → ItemValue → T → Type 0) (before now : BitReceiving)
-    (taker taker_now : T) (bits : List Bool) : Type 0 where
-  pub middle : BitReceiving
-  pub first : List Bool
-  pub more : List Bool
-  pub are : bits ≡ first ++ more
-  pub received : ReceivedAt took before middle taker taker_now first
-  pub now_is : now ≡ with_more middle more
-
--- whatever was given before, these bits are given too
-pub record GathersMore {T : Type 0} (took : T → ItemValue → T → Type 0) (before now : BitReceiving)
-    (taker taker_now : T) (bits : List Bool) : Type 0 where
-  pub gathers : (start : BitReceiving) (first : T) (given : List Bool)
-      → Gathers took start before first taker given
-      → Gathers took start now first taker_now (given ++ bits)
-
 -- an origin was noted, and nothing else is changed
-abbrev pub Notes : BitReceiving → BitReceiving → Type 0
+abbrev pub Notes : BitReceiver → BitReceiver → Type 0
 Notes before now = now ≡ record before { origins = now.origins }
 
--- With this origin, that of the bits from the next on, the symbols of all bits are known that are not
--- passed, where they are so many bits before.
-abbrev pub NotesOrigin : Configuration → BitReceiving → BitReceiving → (rate : Rate) → (origin : ℕ)
+-- With this origin, that of the bits from the next on, which were received with the inner code, the
+-- symbols of all bits are known that are not passed, where they are so many bits before.
+abbrev pub NotesOrigin : Configuration → BitReceiver → BitReceiver → (rate : Rate) → (origin : ℕ)
     → Type 0
-NotesOrigin c before now rate origin = (bits : List Bool) (at after : ℕ → ℕ)
+NotesOrigin c before now rate origin = c.inner ≡ Some rate → (bits : List Bool) (at after : ℕ → ℕ)
     → length bits < bits_bound → BitReceiverStandsFor before bits
     → AreKnown (Some rate) c at (length bits) before
     → ((n : ℕ) → n < length bits → after n ≡ at n)
@@ -290,12 +282,13 @@ NotesOrigin c before now rate origin = (bits : List Bool) (at after : ℕ → �
     × ((to : ℕ) → length bits + c.keep ≤ to → AreSpaced c.keep to now.origins.origins)
 
 -- the items that were not due before the end of the bits was known were handed over
-pub record ReceivedLast {T : Type 0} (took : T → ItemValue → T → Type 0) (before : BitReceiving)
+pub record ReceivedLast {T : Type 0} (took : T → ItemValue → T → Type 0) (before : BitReceiver)
     (taker taker_now : T) : Type 0 where
   pub items : List ItemValue
   pub handed : HandedOver took taker items taker_now
   pub all : (bits : List Bool) (done : List ItemValue) (count : ℕ) (at : ℕ → ℕ)
-      → Searched before.batch.config at count bits before done
+      → length bits < bits_bound → length bits ≤ count
+      → IsSearched before.batch.config at count bits before done
       → AreItems before.batch.config bits (done ++ items)
       × AreAt at count (map place_symbol (done ++ items))
 
@@ -306,13 +299,13 @@ abbrev pub bits_of_blocks : List WindowBlock → List Bool
 bits_of_blocks blocks = map (λ bit. bit == 1) (kept_bits blocks)
 
 -- up to `count` further bits make no item due, whatever they are
-abbrev pub AreSpare : BitReceiving → ℕ → Type 0
+abbrev pub AreSpare : BitReceiver → ℕ → Type 0
 AreSpare r count = (bits more : List Bool) → BitReceiverStandsFor r bits → length more ≤ count
     → due r.batch.config (bits ++ more) ≡ due r.batch.config bits
 
 -- how many bits are spare: one fewer than the codeblocks that the batch lacks have at least with
 -- their markers, less those that are not passed; none with one worker
-abbrev pub spare_bits : BitReceiving → ℕ
+abbrev pub spare_bits : BitReceiver → ℕ
 spare_bits r = waiting_bits r.batch.config (r.batch.config.batch - length r.batch.stored)
     - (length r.recent.bits + 1)
 
@@ -327,7 +320,7 @@ MayNotWait before octets spare = (now : InnerDecoding) × (count : ℕ)
     × HasFilled now.queue (length octets - count)
     × ((count < length octets) ⊎ ClosesMore now.queue spare)
 
--- blocks were decoded, the bits of all but the ready ones searched, and this was handed over
+-- blocks were decoded, the bits of all but the ready ones given to the search, and this handed over
 pub record Decodes (c : Configuration) (before now : Stages) (given taken : List ℕ)
     (blocks ready : List WindowBlock) (done : List (Handed ItemValue)) : Type 0 where
   pub next : List WindowBlock

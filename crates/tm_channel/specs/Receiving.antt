@@ -1,6 +1,5 @@
 -- What a receiver keeps of the bits that it was given, and which items it has handed over of them.
 use Rattle.std.specs.Prelude.{◌≡◌, ℕ, ◌+◌, ◌-◌, ◌*◌, ◌/◌, ◌<◌, ◌≤◌, Bool, true, List, [], ◌∷◌, ◌++◌, length, take, drop, map, get_or, nat_lt, if◌then◌else◌, ◌⊎◌, Option, Some, None}
-use Rattle.tm_base.specs.Bits.{bits_of}
 use Rattle.tm_base.specs.Marker.{marker_size}
 use Rattle.tm_config.specs.Configuration.{Configuration, codeblock_length}
 use Rattle.tm_sync.specs.declared.found.Columns.{Columns}
@@ -10,7 +9,7 @@ use Rattle.tm_sync.specs.Rescan.{reach}
 use Rattle.tm_sync.specs.Finding.{Finding, Recent, IsWhole, places_left}
 use Rattle.tm_codeblock.specs.ReceivedCodeblock.{rules_of, codeblock_in, columns_of, places_in, sound_in}
 use Rattle.tm_channel.specs.Items.{ItemValue, IsItem}
-use Rattle.tm_channel.specs.Due.{due_count}
+use Rattle.tm_channel.specs.Due.{due, due_count}
 use Rattle.tm_channel.specs.Origins.{PlaceSymbol}
 
 -- ---- what is stored
@@ -90,9 +89,14 @@ abbrev pub HoldsMore : Finding → Recent → Batching → ℕ → List Bool →
 HoldsMore s room b handed bits more =
     HoldsFound s room b handed (bits ++ more) (places_in b.config bits)
 
--- these bits were given to a search and a batch, which was handed over whenever it was full
-abbrev pub Stands : Finding → Recent → Batching → List Bool → Type 0
-Stands s room b bits = Holds s room b (due_count b.config bits) bits
+-- These bits were given to a search and a batch, which was handed over whenever it was full. The
+-- search may not have passed the last ones, where these make nothing due.
+pub record Stands (s : Finding) (room : Recent) (b : Batching) (bits : List Bool) : Type 0 where
+  pub first : List Bool
+  pub more : List Bool
+  pub are : bits ≡ first ++ more
+  pub holds : HoldsMore s room b (due_count b.config first) first more
+  pub same : due b.config bits ≡ due b.config first
 
 -- the most octets that bits are packed to at a time
 abbrev pub run_size : ℕ
@@ -107,15 +111,21 @@ pub record Agree (s : Finding) (room : Recent) (b : Batching) : Type 0 where
   pub sized : settled_by s.rules.verify s.rules.block_bits + 8 * run_size + 14 ≤ 8 * room.size
   pub written : AreWritten b
 
+-- a search keeps fewer bits, once it has passed all that it can
+abbrev pub IsShort : Finding → Recent → Type 0
+IsShort s room = length room.bits < settled_by s.rules.verify s.rules.block_bits
+
 -- they agree, the search has passed all that it can, and the batch is not full
 pub record IsReady (s : Finding) (room : Recent) (b : Batching) : Type 0 where
   pub agree : Agree s room b
-  pub short : length room.bits < settled_by s.rules.verify s.rules.block_bits
+  pub short : IsShort s room
   pub few : length b.stored < b.config.batch
 
--- they agree, and the batch is not full; the search may have bits to pass
+-- they agree, there is room for as many octets as bits are packed to at a time, and the batch is
+-- not full; the search may have bits to pass
 pub record Fills (s : Finding) (room : Recent) (b : Batching) : Type 0 where
   pub agree : Agree s room b
+  pub free : length room.bits + 8 * run_size + 7 ≤ 8 * room.size
   pub few : length b.stored < b.config.batch
 
 -- the fewest bits that `count` codeblocks have with their markers: two may lie nearly in the room
@@ -134,10 +144,6 @@ abbrev pub waiting_bits : Configuration → ℕ → ℕ
 waiting_bits c count = if nat_lt 1 c.workers then least_bits c count else 0
 
 -- ---- bits that are taken
-
--- the bits of octets after the first `from` ones, up to bit `to`
-abbrev pub bits_between : ℕ → ℕ → List ℕ → List Bool
-bits_between from to octets = take (to - from) (drop from (bits_of octets))
 
 -- the most octets that go through both stages at a time
 abbrev pub piece_size : ℕ

@@ -1,15 +1,17 @@
 // Bits in, items out.
-ghost use Rattle.std.specs.Prelude.{◌≡◌, ◌<◌, ◌≤◌, ◌+◌, ◌*◌, ◌%◌, ◌==◌, ℕ, Bool, false, List, [], ◌++◌, length, map, drop, IsTrue};
+ghost use Rattle.std.specs.Prelude.{◌≡◌, ◌<◌, ◌≤◌, ◌+◌, ◌*◌, ◌%◌, ◌==◌, ℕ, nat_lt, if◌then◌else◌, Bool, false, List, [], ◌++◌, length, map, drop, IsTrue};
+ghost use Rattle.std.specs.Option.{is_some};
 ghost use Rattle.tm_base.specs.Bits.{bits_of};
 ghost use Rattle.tm_base.specs.Takers.{HandedOver};
+ghost use Rattle.tm_conv.specs.declared.rates.Rate.{Rate};
 ghost use Rattle.tm_sync.specs.declared.found.Found.{Found};
 ghost use Rattle.tm_sync.specs.Bits.{bits_bound};
 ghost use Rattle.tm_inner.specs.InnerDecoding.{ready_in};
 ghost use Rattle.tm_codeblock.specs.ReceivedCodeblock.{places_in};
 ghost use Rattle.tm_channel.specs.Items.{ItemValue};
 ghost use Rattle.tm_channel.specs.Origins.{AreHandedSymbols, place_symbol};
-ghost use Rattle.tm_channel.specs.Receiving.{Agree, AreItemsFor, AreWritten, Fills, HoldsFound, IsHanded, IsReady, Stands, run_size};
-ghost use Rattle.tm_channel.specs.OctetReceiving.{GathersMore, KeepsSymbols, ReceivedAt, bits_of_blocks, Settles, receiving};
+ghost use Rattle.tm_channel.specs.Receiving.{Agree, AreItemsFor, AreWritten, Fills, HoldsFound, IsHanded, IsReady, piece_size, run_size, waiting_bits};
+ghost use Rattle.tm_channel.specs.OctetReceiving.{AreSpare, AwaitsBits, Gathered, IsSearched, IsSettled, KeepsSymbols, Notes, NotesOrigin, ReceivedAt, ReceivedLast, Receives, bits_of_blocks, spare_bits};
 
 use crate::crew::ReceiverCrew;
 use crate::item::ItemWatch;
@@ -40,145 +42,195 @@ pub struct BitReceiver {
     // The bits that are not passed yet.
     pub recent: RecentBits,
     pub batch: Codeblocks,
+    // Of the bits that it was given last, and of all that are not passed.
+    pub origins: Origins,
 }
 
 impl BitReceiver {
-    /// Takes the bits of octets after the first `from` ones, has each batch that is full with them repaired, and hands
-    /// over its items.
+    /// Notes how many of the octets that were given are of no step before the next bit.
+    pub fn note(&mut self, origin: u64)
+        requires awaits { AwaitsBits self.old }
+        ensures awaits { AwaitsBits self.new }
+        ensures same { Notes self.old self.new }
+        ensures noted { (rate : Rate) → NotesOrigin self.old.batch.config self.old self.new rate origin }
+    {
+        let first = self
+            .finder
+            .passed()
+            .wrapping_add(self.recent.count() as u64);
+        self.origins.note(first, origin);
+    }
+
+    /// Takes the next bits, those of octets after the first `from` ones, and hands over the items that are due with
+    /// them. They wait in the room where no batch can be full with those that are not passed, to be searched together
+    /// with others. Each full batch is repaired by these workers.
     pub fn receive<C: ReceiverCrew, T: ItemWatch>(
         &mut self,
         crew: &C,
-        origins: &Origins,
+        octets: &[u8],
+        from: usize,
+        taker: &mut T,
+    )
+        requires crew { C.can_decode crew.now }
+        requires plain { is_some self.old.batch.config.inner ≡ false }
+        requires most { length octets.now ≤ piece_size }
+        requires awaits { AwaitsBits self.old }
+        ensures awaits { AwaitsBits self.new }
+        ensures handed { ReceivedAt T.took self.old self.new taker.old taker.new (drop from (bits_of octets.now)) }
+    {
+        let mut done = 0;
+        while done < octets.len() {
+            let end = done + self.recent.free().min(octets.len() - done);
+            let piece = &octets[done..end];
+            let skipped = from.saturating_sub(8 * done).min(8 * piece.len());
+            self.put(crew, piece, skipped, taker);
+            done = end;
+        }
+        self.search(crew, taker);
+    }
+
+    /// Does the same with bits, each 0 or 1.
+    pub fn receive_bits<C: ReceiverCrew, T: ItemWatch>(
+        &mut self,
+        crew: &C,
+        bits: &[u8],
+        taker: &mut T,
+    )
+        requires crew { C.can_decode crew.now }
+        requires plain { is_some self.old.batch.config.inner ≡ false }
+        requires awaits { AwaitsBits self.old }
+        ensures awaits { AwaitsBits self.new }
+        ensures handed { ReceivedAt T.took self.old self.new taker.old taker.new (map (λ bit. bit == 1) bits.now) }
+    {
+        self.gather(crew, bits, taker);
+        self.search(crew, taker);
+    }
+
+    /// Takes the bits of the blocks that are ready, and hands over the items that are due with them. As many as there
+    /// is room for are searched together, so that several codeblocks are whole in the room.
+    pub fn receive_ready<C: ReceiverCrew, T: ItemWatch>(
+        &mut self,
+        crew: &C,
+        inner: &InnerDecoder,
+        taker: &mut T,
+    )
+        requires crew { C.can_decode crew.now }
+        requires awaits { AwaitsBits self.old }
+        ensures awaits { AwaitsBits self.new }
+        ensures handed { ReceivedAt T.took self.old self.new taker.old taker.new
+            (bits_of_blocks (ready_in inner.now.queue)) }
+    {
+        for index in 0..inner.ready() {
+            self.gather(crew, inner.kept_bits(index), taker);
+        }
+        self.keep_all(crew, taker);
+    }
+
+    /// How many further bits make no item due, whatever they are: one fewer than the codeblocks that the batch lacks
+    /// have at least with their markers, less those that are not passed; none with one worker, or where the caller is
+    /// alone, since none has to wait.
+    pub fn spare<C: ReceiverCrew>(&self, crew: &C) -> u64
+        requires awaits { AwaitsBits self.now }
+        ensures value { AreSpare self.now result }
+        ensures most { result ≤ waiting_bits self.now.batch.config self.now.batch.config.batch }
+        ensures exact { result ≡ (if nat_lt 1 (C.share crew.now 2) then spare_bits self.now else 0) }
+    {
+        if crew.share(2) < 2 {
+            return 0;
+        }
+        let lacking = self.batch.bits_lacking();
+        lacking.saturating_sub(self.recent.count() as u64 + 1)
+    }
+
+    /// Hands over the items that were not due before the end of the bits was known.
+    pub fn hand_last<C: ReceiverCrew, T: ItemWatch>(&mut self, crew: &C, taker: &mut T)
+        requires crew { C.can_decode crew.now }
+        requires awaits { AwaitsBits self.old }
+        ensures config { self.new.batch.config ≡ self.old.batch.config }
+        ensures handed { ReceivedLast T.took self.old taker.old taker.new }
+    {
+        self.keep_all(crew, taker);
+        self.hand_all(crew, taker);
+    }
+
+    // Searches the bits in the room, or lets them wait where no item is due with them, whatever they are: with more of
+    // them several codeblocks are whole, which several workers decode at once.
+    fn search<C: ReceiverCrew, T: ItemWatch>(&mut self, crew: &C, taker: &mut T)
+        requires crew { C.can_decode crew.now }
+        requires fills { Fills self.old.finder self.old.recent self.old.batch }
+        ensures fills { Fills self.new.finder self.new.recent self.new.batch }
+        ensures searched { Receives Gathered IsSearched T.took self.old self.new taker.old taker.new [] }
+    {
+        if (self.recent.count() as u64) < self.batch.bits_lacking() {
+            return;
+        }
+        self.keep_all(crew, taker);
+    }
+
+    // Puts bits, each 0 or 1, into the room.
+    fn gather<C: ReceiverCrew, T: ItemWatch>(&mut self, crew: &C, bits: &[u8], taker: &mut T)
+        requires crew { C.can_decode crew.now }
+        requires fills { Fills self.old.finder self.old.recent self.old.batch }
+        ensures fills { Fills self.new.finder self.new.recent self.new.batch }
+        ensures gathers { Receives Gathered Gathered T.took self.old self.new taker.old taker.new
+            (map (λ bit. bit == 1) bits.now) }
+    {
+        let mut done = 0;
+        while done < bits.len() {
+            let count = run_length(bits.len() - done, RUN);
+            let mut room = [0; RUN];
+            let (octets, from) = pack_run(&bits[done..done + count], &mut room);
+            self.put(crew, &room[..octets], from, taker);
+            done += count;
+        }
+    }
+
+    // Puts the bits of octets after the first `from` ones into the room, and searches all that are there where `RUN`
+    // octets more might not fit.
+    fn put<C: ReceiverCrew, T: ItemWatch>(
+        &mut self,
+        crew: &C,
         octets: &[u8],
         from: usize,
         taker: &mut T,
     )
         requires crew { C.can_decode crew.now }
         requires from { from ≤ 8 * length octets.now }
-        requires ready { IsReady self.old.finder self.old.recent self.old.batch }
-        ensures ready { IsReady self.new.finder self.new.recent self.new.batch }
-        ensures config { self.new.batch.config ≡ self.old.batch.config }
-        ensures handed { ReceivedAt T.took (receiving self.old origins.now)
-            (receiving self.new origins.now) taker.old taker.new (drop from (bits_of octets.now)) }
-    {
-        let mut first = from / 8;
-        let mut begun = from % 8;
-        while first < octets.len() {
-            let end = first + self.recent.free().min(octets.len() - first);
-            self.recent.push(&octets[first..end], begun);
-            self.keep_all(crew, origins, taker);
-            first = end;
-            begun = 0;
-        }
-    }
-
-    /// Takes the bits of the blocks that are ready, as many as there is room for before it searches them, so that
-    /// several codeblocks are whole in the room. Hands over each batch that is full with them.
-    pub fn receive_ready<C: ReceiverCrew, T: ItemWatch>(
-        &mut self,
-        crew: &C,
-        origins: &Origins,
-        inner: &InnerDecoder,
-        taker: &mut T,
-    )
-        requires crew { C.can_decode crew.now }
-        requires ready { IsReady self.old.finder self.old.recent self.old.batch }
-        ensures ready { IsReady self.new.finder self.new.recent self.new.batch }
-        ensures config { self.new.batch.config ≡ self.old.batch.config }
-        ensures handed { ReceivedAt T.took (receiving self.old origins.now)
-            (receiving self.new origins.now) taker.old taker.new (bits_of_blocks (ready_in inner.now.queue)) }
-    {
-        for index in 0..inner.ready() {
-            self.gather(crew, origins, inner.kept_bits(index), taker);
-        }
-        self.keep_all(crew, origins, taker);
-    }
-
-    // Takes bits, each 0 or 1, and searches those before them where there is no room.
-    fn gather<C: ReceiverCrew, T: ItemWatch>(
-        &mut self,
-        crew: &C,
-        origins: &Origins,
-        bits: &[u8],
-        taker: &mut T,
-    )
-        requires crew { C.can_decode crew.now }
+        requires room { length self.old.recent.bits + 8 * length octets.now + 7 ≤ 8 * self.old.recent.size }
         requires fills { Fills self.old.finder self.old.recent self.old.batch }
         ensures fills { Fills self.new.finder self.new.recent self.new.batch }
-        ensures config { self.new.batch.config ≡ self.old.batch.config }
-        ensures gathers { GathersMore T.took (receiving self.old origins.now) (receiving self.new origins.now)
-            taker.old taker.new (map (λ bit. bit == 1) bits.now) }
+        ensures gathers { Receives Gathered Gathered T.took self.old self.new taker.old taker.new
+            (drop from (bits_of octets.now)) }
     {
-        let mut done = 0;
-        while done < bits.len() {
-            let count = run_length(bits.len() - done, RUN);
-            self.make_room(crew, origins, taker);
-            let mut room = [0; RUN];
-            let (octets, from) = pack_run(&bits[done..done + count], &mut room);
-            self.recent.push(&room[..octets], from);
-            done += count;
-        }
-    }
-
-    // Searches the bits that were taken where there is no room for `RUN` octets more.
-    fn make_room<C: ReceiverCrew, T: ItemWatch>(
-        &mut self,
-        crew: &C,
-        origins: &Origins,
-        taker: &mut T,
-    )
-        requires crew { C.can_decode crew.now }
-        requires fills { Fills self.old.finder self.old.recent self.old.batch }
-        ensures fills { Fills self.new.finder self.new.recent self.new.batch }
-        ensures room { length self.new.recent.bits + 8 * run_size + 7 ≤ 8 * self.new.recent.size }
-        ensures config { self.new.batch.config ≡ self.old.batch.config }
-        ensures gathers { GathersMore T.took (receiving self.old origins.now) (receiving self.new origins.now)
-            taker.old taker.new [] }
-    {
+        self.recent.push(octets, from);
         if self.recent.free() >= RUN {
             return;
         }
-        self.keep_all(crew, origins, taker);
-    }
-
-    /// How many bits it was given.
-    pub fn count(&self) -> u64
-        ensures { (bits : List Bool) → length bits < bits_bound
-            → Stands self.now.finder self.now.recent self.now.batch bits → result ≡ length bits }
-    {
-        self.finder
-            .passed()
-            .wrapping_add(self.recent.count() as u64)
+        self.keep_all(crew, taker);
     }
 
     // Keeps the codeblocks that are whole with the last bits, and hands over each batch that is full with them.
-    fn keep_all<C: ReceiverCrew, T: ItemWatch>(
-        &mut self,
-        crew: &C,
-        origins: &Origins,
-        taker: &mut T,
-    )
+    fn keep_all<C: ReceiverCrew, T: ItemWatch>(&mut self, crew: &C, taker: &mut T)
         requires crew { C.can_decode crew.now }
         requires agree { Agree self.old.finder self.old.recent self.old.batch }
         requires few { length self.old.batch.stored < self.old.batch.config.batch }
         ensures ready { IsReady self.new.finder self.new.recent self.new.batch }
-        ensures config { self.new.batch.config ≡ self.old.batch.config }
-        ensures all { (items : List ItemValue) × HandedOver T.took taker.old items taker.new
-            × Settles (receiving self.old origins.now) (receiving self.new origins.now) items }
+        ensures settles { Receives Gathered IsSettled T.took self.old self.new taker.old taker.new [] }
     {
-        while self.keep_next(crew, origins) {
+        while self.keep_next(crew) {
             self.hand_full(crew, taker);
         }
     }
 
     // Keeps the next codeblock that is whole with the last bits, or passes it where it does not count. Returns whether
     // there was one.
-    fn keep_next<C: ReceiverCrew>(&mut self, crew: &C, origins: &Origins) -> bool
+    fn keep_next<C: ReceiverCrew>(&mut self, crew: &C) -> bool
         requires crew { C.can_decode crew.now }
         requires agree { Agree self.old.finder self.old.recent self.old.batch }
         requires few { length self.old.batch.stored < self.old.batch.config.batch }
         ensures agree { Agree self.new.finder self.new.recent self.new.batch }
         ensures config { self.new.batch.config ≡ self.old.batch.config }
+        ensures origins { self.new.origins ≡ self.old.origins }
         ensures most { length self.new.batch.stored ≤ self.new.batch.config.batch }
         ensures left { IsTrue result → length self.new.recent.bits < length self.old.recent.bits }
         ensures ready { result ≡ false → IsReady self.new.finder self.new.recent self.new.batch }
@@ -189,7 +241,7 @@ impl BitReceiver {
         ensures kept { IsTrue result → (next : List Found) × ((handed : ℕ) (bits : List Bool) (found : List Found)
             → length bits < bits_bound → HoldsFound self.old.finder self.old.recent self.old.batch handed bits found
             → HoldsFound self.new.finder self.new.recent self.new.batch handed bits (found ++ next)) }
-        ensures symbols { KeepsSymbols (receiving self.old origins.now) (receiving self.new origins.now) }
+        ensures symbols { KeepsSymbols self.old self.new }
     {
         match self.finder.next(&mut self.recent) {
             None => false,
@@ -199,7 +251,7 @@ impl BitReceiver {
                     self.finder.take(&mut self.recent, found, false);
                     return true;
                 }
-                let origin = origins.at(found.place);
+                let origin = self.origins.at(found.place);
                 let symbol = self.batch.symbol(origin, found.place);
                 let sound = self.batch.keep(crew, found, symbol, &self.recent);
                 self.finder.take(&mut self.recent, found, sound);
@@ -216,6 +268,7 @@ impl BitReceiver {
         ensures finder { self.new.finder ≡ self.old.finder }
         ensures recent { self.new.recent ≡ self.old.recent }
         ensures config { self.new.batch.config ≡ self.old.batch.config }
+        ensures origins { self.new.origins ≡ self.old.origins }
         ensures written { AreWritten self.new.batch }
         ensures few { length self.new.batch.stored < self.new.batch.config.batch }
         ensures all { (items : List ItemValue)
@@ -229,13 +282,14 @@ impl BitReceiver {
         self.hand_all(crew, taker);
     }
 
-    /// Hands over the items of all codeblocks that are stored, and keeps none.
-    pub fn hand_all<C: ReceiverCrew, T: ItemWatch>(&mut self, crew: &C, taker: &mut T)
+    // Hands over the items of all codeblocks that are stored, and keeps none.
+    fn hand_all<C: ReceiverCrew, T: ItemWatch>(&mut self, crew: &C, taker: &mut T)
         requires crew { C.can_decode crew.now }
         requires written { AreWritten self.old.batch }
         ensures finder { self.new.finder ≡ self.old.finder }
         ensures recent { self.new.recent ≡ self.old.recent }
         ensures config { self.new.batch.config ≡ self.old.batch.config }
+        ensures origins { self.new.origins ≡ self.old.origins }
         ensures written { AreWritten self.new.batch }
         ensures stored { self.new.batch.stored ≡ [] }
         ensures symbols { self.new.batch.symbols ≡ [] }

@@ -4,7 +4,6 @@
 #![tactic(auto)]
 
 mod bit_receiver;
-mod bit_stream;
 mod column_words;
 mod crew;
 mod expected;
@@ -28,7 +27,7 @@ pub use laws::{
     items_law, polarity_law, received_law,
 };
 pub use receiver::{Receiver, RecvError, receive_all};
-pub use sender::Sender;
+pub use sender::{ROOM, Sender};
 pub use store::waiting_bits;
 pub use tm_codeblock::{basis_of, cadu};
 pub use tm_config::{Config, ConfigError, Raw};

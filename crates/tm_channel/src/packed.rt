@@ -1,37 +1,12 @@
 // Bits that are octets 0 and 1, packed to octets for the search.
 ghost use Rattle.std.specs.Prelude.{◌≡◌, ◌<◌, ◌≤◌, ◌⊎◌, ◌*◌, ◌%◌, ◌==◌, drop, length, map, take};
 ghost use Rattle.tm_base.specs.Bits.{bits_of};
-ghost use Rattle.tm_channel.specs.OctetReceiving.{ReceivedAt};
 ghost use Rattle.tm_channel.specs.Receiving.{run_size};
 
-use crate::bit_stream::BitStream;
-use crate::crew::ReceiverCrew;
-use crate::item::ItemWatch;
-use tm_codeblock::{pack, run_length};
+use tm_codeblock::pack;
 
 /// How many octets bits are packed to at a time.
 pub const RUN: usize = 256;
-
-/// Gives bits, each 0 or 1, to the second stage, and hands over the items that are due with them.
-pub fn take_bits<C: ReceiverCrew, T: ItemWatch>(
-    stream: &mut BitStream,
-    crew: &C,
-    bits: &[u8],
-    taker: &mut T,
-)
-    requires crew { C.can_decode crew.now }
-    ensures config { stream.new.batch.config ≡ stream.old.batch.config }
-    ensures handed { ReceivedAt T.took stream.old stream.new taker.old taker.new (map (λ bit. bit == 1) bits.now) }
-{
-    let mut done = 0;
-    while done < bits.len() {
-        let count = run_length(bits.len() - done, RUN);
-        let mut room = [0; RUN];
-        let (octets, from) = pack_run(&bits[done..done + count], &mut room);
-        stream.receive(crew, &room[..octets], from, taker);
-        done += count;
-    }
-}
 
 /// Packs fewer than eight bits, each 0 or 1, or those of up to `RUN` octets. Returns how many octets these are, and
 /// after how many bits of the first one they begin.

@@ -13,13 +13,12 @@ ghost use Rattle.tm_inner.specs.declared.window.Window.{Window};
 ghost use Rattle.tm_channel.specs.Items.{ItemValue};
 ghost use Rattle.tm_channel.specs.Handing.{AreReceived};
 ghost use Rattle.tm_channel.specs.Most.{AreFew};
-ghost use Rattle.tm_channel.specs.Receiving.{piece_size, waiting_bits};
-ghost use Rattle.tm_channel.specs.OctetReceiving.{AreSpare, Decoded, MayNotWait, ReceivedAt, StagesFor, StagesHand, spare_bits};
+ghost use Rattle.tm_channel.specs.Receiving.{piece_size};
+ghost use Rattle.tm_channel.specs.OctetReceiving.{AwaitsBits, Decoded, MayNotWait, ReceivedAt, StagesFor, StagesHand, spare_bits};
 
-use crate::bit_stream::BitStream;
+use crate::bit_receiver::BitReceiver;
 use crate::crew::ReceiverCrew;
 use crate::item::ItemWatch;
-use crate::packed::take_bits;
 use crate::totals::Totals;
 use tm_inner::{InnerDecoder, WindowWatch, inner_law, watch_ready};
 use tm_windows::due_windows_law;
@@ -32,7 +31,7 @@ pub const PIECE: usize = 4096;
 /// decoded side by side; what is due does not depend on the crew.
 pub fn take<C: ReceiverCrew, W: WindowWatch, T: ItemWatch>(
     inner: &mut InnerDecoder,
-    stream: &mut BitStream,
+    stream: &mut BitReceiver,
     crew: &C,
     octets: &[u8],
     watch: &mut W,
@@ -40,6 +39,9 @@ pub fn take<C: ReceiverCrew, W: WindowWatch, T: ItemWatch>(
 )
     requires crew { C.is_ready crew.now × C.can_decode crew.now }
     requires accepted { IsAccepted inner.old.config }
+    requires of { stream.old.batch.config ≡ inner.old.config }
+    requires awaits { AwaitsBits stream.old }
+    ensures awaits { AwaitsBits stream.new }
     ensures inner { inner.new.config ≡ inner.old.config }
     ensures stream { stream.new.batch.config ≡ stream.old.batch.config }
     ensures handed { StagesHand (on_handed T.took_phase T.took) (record { inner = inner.old; bits = stream.old })
@@ -60,19 +62,10 @@ pub fn take<C: ReceiverCrew, W: WindowWatch, T: ItemWatch>(
         take_decoded(inner, stream, crew, watch, taker);
         done += inner.fill(&octets[done..]);
     }
-    if inner.may_wait(spare_bits(stream, crew)) {
+    if inner.may_wait(stream.spare(crew)) {
         return;
     }
     take_decoded(inner, stream, crew, watch, taker);
-}
-
-// How many bits may wait: none where the caller is alone, since none has to.
-fn spare_bits<C: ReceiverCrew>(stream: &BitStream, crew: &C) -> u64
-    ensures value { AreSpare stream.now result }
-    ensures most { result ≤ waiting_bits stream.now.batch.config stream.now.batch.config.batch }
-    ensures exact { result ≡ (if nat_lt 1 (C.share crew.now 2) then spare_bits stream.now else 0) }
-{
-    if crew.share(2) > 1 { stream.spare() } else { 0 }
 }
 
 // Hands over the symbol phase, where it was chosen since.
@@ -89,12 +82,14 @@ fn hand_phase<T: ItemWatch>(inner: &mut InnerDecoder, taker: &mut T)
 // Decodes what is due in the first stage, and gives its bits to the second.
 fn take_decoded<C: ReceiverCrew, W: WindowWatch, T: ItemWatch>(
     inner: &mut InnerDecoder,
-    stream: &mut BitStream,
+    stream: &mut BitReceiver,
     crew: &C,
     watch: &mut W,
     taker: &mut T,
 )
     requires crew { C.is_ready crew.now × C.can_decode crew.now }
+    requires awaits { AwaitsBits stream.old }
+    ensures awaits { AwaitsBits stream.new }
     ensures of { (inner.new.config ≡ inner.old.config) × (stream.new.batch.config ≡ stream.old.batch.config) }
     ensures settled { IsSettledQueue inner.old.queue → IsSettledQueue inner.new.queue }
     ensures drained { IsDrained inner.new.queue }
@@ -115,13 +110,14 @@ fn take_decoded<C: ReceiverCrew, W: WindowWatch, T: ItemWatch>(
 /// Ends both stages, hands over what is left, and returns what all octets came to.
 pub fn end<C: ReceiverCrew, W: WindowWatch, T: ItemWatch>(
     inner: &mut InnerDecoder,
-    stream: &mut BitStream,
+    stream: &mut BitReceiver,
     crew: &C,
     watch: &mut W,
     taker: &mut T,
 ) -> Totals
     requires crew { C.is_ready crew.now × C.can_decode crew.now }
     requires accepted { IsAccepted inner.old.config }
+    requires awaits { AwaitsBits stream.old }
     ensures of { (inner.new.config ≡ inner.old.config) × (stream.new.batch.config ≡ stream.old.batch.config) }
     ensures handed { (last : List (Handed ItemValue))
         × HandedOver (on_handed T.took_phase T.took) taker.old last taker.new
@@ -151,10 +147,10 @@ pub fn end<C: ReceiverCrew, W: WindowWatch, T: ItemWatch>(
     }
 }
 
-// Takes octets that hold the bits themselves.
+// Takes octets that hold the bits themselves, and gives these to the second stage, those of `PIECE` octets at a time.
 fn take_plain<C: ReceiverCrew, W: WindowWatch, T: ItemWatch>(
     inner: &mut InnerDecoder,
-    stream: &mut BitStream,
+    stream: &mut BitReceiver,
     crew: &C,
     octets: &[u8],
     watch: &mut W,
@@ -162,6 +158,9 @@ fn take_plain<C: ReceiverCrew, W: WindowWatch, T: ItemWatch>(
 )
     requires crew { C.is_ready crew.now × C.can_decode crew.now }
     requires plain { is_some inner.old.config.inner ≡ false }
+    requires of { stream.old.batch.config ≡ inner.old.config }
+    requires awaits { AwaitsBits stream.old }
+    ensures awaits { AwaitsBits stream.new }
     ensures inner { inner.new.config ≡ inner.old.config }
     ensures stream { stream.new.batch.config ≡ stream.old.batch.config }
     ensures handed { StagesHand (on_handed T.took_phase T.took) (record { inner = inner.old; bits = stream.old })
@@ -172,49 +171,29 @@ fn take_plain<C: ReceiverCrew, W: WindowWatch, T: ItemWatch>(
     let mut done = 0;
     while done < octets.len() {
         let end = done + PIECE.min(octets.len() - done);
-        take_piece(inner, stream, crew, &octets[done..end], watch, taker);
+        let piece = &octets[done..end];
+        let skip = inner.bits_to_skip();
+        inner.fill(piece);
+        take_decoded(inner, stream, crew, watch, taker);
+        take_after(inner, stream, skip, crew, piece, taker);
         done = end;
     }
-}
-
-// Takes a piece of them, at most `PIECE` octets, and gives its bits to the second stage.
-fn take_piece<C: ReceiverCrew, W: WindowWatch, T: ItemWatch>(
-    inner: &mut InnerDecoder,
-    stream: &mut BitStream,
-    crew: &C,
-    octets: &[u8],
-    watch: &mut W,
-    taker: &mut T,
-)
-    requires crew { C.is_ready crew.now × C.can_decode crew.now }
-    requires plain { is_some inner.old.config.inner ≡ false }
-    requires most { length octets.now ≤ piece_size }
-    ensures inner { inner.new.config ≡ inner.old.config }
-    ensures stream { stream.new.batch.config ≡ stream.old.batch.config }
-    ensures handed { StagesHand (on_handed T.took_phase T.took) (record { inner = inner.old; bits = stream.old })
-        (record { inner = inner.new; bits = stream.new }) taker.old taker.new octets.now }
-    ensures ended { inner.new.has_ended ≡ inner.old.has_ended }
-    ensures watched { inner.old.has_ended ≡ false
-        → Hands W.took AreTold inner.old inner.new watch.old watch.new octets.now }
-{
-    let skip = inner.bits_to_skip();
-    inner.fill(octets);
-    take_decoded(inner, stream, crew, watch, taker);
-    take_after(inner, stream, skip, crew, octets, taker);
 }
 
 // Gives the bits that octets hold to the second stage, after the first `skip` ones.
 fn take_after<C: ReceiverCrew, T: ItemWatch>(
     inner: &InnerDecoder,
-    stream: &mut BitStream,
+    stream: &mut BitReceiver,
     skip: u64,
     crew: &C,
     octets: &[u8],
     taker: &mut T,
 )
     requires crew { C.is_ready crew.now × C.can_decode crew.now }
+    requires plain { is_some stream.old.batch.config.inner ≡ false }
+    requires awaits { AwaitsBits stream.old }
     requires most { length octets.now ≤ piece_size }
-    ensures config { stream.new.batch.config ≡ stream.old.batch.config }
+    ensures awaits { AwaitsBits stream.new }
     ensures handed { ReceivedAt T.took stream.old stream.new taker.old taker.new
         (drop skip (plain_bits inner.now.config octets.now)) }
 {
@@ -229,15 +208,17 @@ fn take_after<C: ReceiverCrew, T: ItemWatch>(
 // Gives the bits that octets are nearest to to the second stage, after the first `skip` ones.
 fn take_nearest<C: ReceiverCrew, T: ItemWatch>(
     inner: &InnerDecoder,
-    stream: &mut BitStream,
+    stream: &mut BitReceiver,
     skip: u64,
     crew: &C,
     octets: &[u8],
     taker: &mut T,
 )
     requires crew { C.is_ready crew.now × C.can_decode crew.now }
+    requires plain { is_some stream.old.batch.config.inner ≡ false }
+    requires awaits { AwaitsBits stream.old }
     requires most { length octets.now ≤ piece_size }
-    ensures config { stream.new.batch.config ≡ stream.old.batch.config }
+    ensures awaits { AwaitsBits stream.new }
     ensures handed { ReceivedAt T.took stream.old stream.new taker.old taker.new
         (drop skip (map (nearest_bit inner.now.config) octets.now)) }
 {
@@ -245,5 +226,5 @@ fn take_nearest<C: ReceiverCrew, T: ItemWatch>(
     let mut room = [0; PIECE];
     let bits = &mut room[..octets.len() - from];
     inner.nearest_bits(&octets[from..], bits);
-    take_bits(stream, crew, bits, taker);
+    stream.receive_bits(crew, bits, taker);
 }

@@ -22,7 +22,7 @@ ghost use Rattle.tm_channel.specs.Calls.{Feeds, Finishes, Tells, TellsLast};
 ghost use Rattle.tm_channel.specs.OctetReceiving.{AreSlipsSoFar, ReceiverStandsFor};
 ghost use Rattle.tm_channel.specs.Receiving.{run_size, waiting_bits};
 
-use crate::bit_stream::BitStream;
+use crate::bit_receiver::BitReceiver;
 use crate::crew::ReceiverCrew;
 use crate::item::{ItemTaker, ItemWatch};
 use crate::origins::Origins;
@@ -37,7 +37,7 @@ use thiserror::Error;
 use tm_base::NoMemory;
 use tm_codeblock::{codeblock_size, columns_of, finds_polarity, has_code};
 use tm_config::Config;
-use tm_inner::{InnerDecoder, NoWatch, WindowWatch, rate_of};
+use tm_inner::{InnerDecoder, NoWatch, WindowWatch};
 use tm_rs_code::Params;
 use tm_sync::{Finder, RecentBits};
 use tm_windows::{AllError, Chosen, Threaded};
@@ -62,16 +62,16 @@ pub enum RecvError {
 pub struct Receiver {
     config: Config,
     inner: InnerDecoder,
-    stream: BitStream,
+    stream: BitReceiver,
     has_stopped: bool,
     // For how many workers it was opened, and by how many the last call decoded at most: what clauses alone read.
     by: usize,
 }
 
 impl Model for Receiver {
-    ghost use Rattle.std.specs.Prelude.{◌≡◌};
+    ghost use Rattle.std.specs.Prelude.{◌≡◌, false};
     ghost use Rattle.tm_config.specs.Accepted.{IsAccepted};
-    ghost use Rattle.tm_channel.specs.OctetReceiving.{OctetReceiving};
+    ghost use Rattle.tm_channel.specs.OctetReceiving.{AwaitsBits, OctetReceiving};
 
     ghost Value = { OctetReceiving };
 
@@ -83,7 +83,7 @@ impl Model for Receiver {
     } };
 
     ghost invariant = { λ r. (r.inner.config ≡ r.config) × (r.stream.batch.config ≡ r.config)
-        × IsAccepted r.config };
+        × IsAccepted r.config × (r.has_stopped ≡ false → AwaitsBits r.stream) };
 }
 
 impl Receiver {
@@ -118,7 +118,7 @@ impl Receiver {
         let Ok(batch) = Codeblocks::open(alloc, config) else {
             return Err(NoMemory);
         };
-        let Ok((search, recent)) = open_search(alloc, &config) else {
+        let Ok((finder, recent)) = open_search(alloc, &config) else {
             return Err(NoMemory);
         };
         let Ok(origins) = Origins::open(alloc, &config) else {
@@ -127,7 +127,12 @@ impl Receiver {
         Ok(Receiver {
             config,
             inner,
-            stream: BitStream::new(search, recent, batch, origins),
+            stream: BitReceiver {
+                finder,
+                recent,
+                batch,
+                origins,
+            },
             has_stopped: false,
             by: usize::from(workers),
         })
@@ -331,9 +336,6 @@ fn expected_octets(config: &Config) -> usize
     ensures { result < 2 ^ 31 }
 {
     if !config.values().rescan || !has_code(config) || config.workers() < 2 {
-        return 0;
-    }
-    if rate_of(config).is_none() {
         return 0;
     }
     (waiting_bits(config, config.batch()) + config.keep()) as usize / 8

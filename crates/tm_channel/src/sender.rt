@@ -1,17 +1,19 @@
 // The sender: whole frames to symbols, from octets that are given in pieces.
-ghost use Rattle.std.specs.Prelude.{◌≡◌, ◌≢◌, ◌↔◌, ℕ, ◌+◌, ◌/◌, ◌<◌, ◌≤◌, List, [], length, IsTrue, OnOk, OnErr, IsErrOf, false};
-ghost use Rattle.tm_base.specs.Outside.{Rose, HasCause};
-ghost use Rattle.tm_inner.specs.Sending.{InnerSends, InnerSendsPrefix};
+ghost use Rattle.std.specs.Prelude.{◌≡◌, ◌≢◌, ◌↔◌, ℕ, ◌*◌, ◌<◌, ◌≤◌, List, [], length, take, IsTrue, OnOk, IsErrOf, false};
+ghost use Rattle.tm_base.specs.Outside.{Rose};
+ghost use Rattle.tm_codeblock.specs.Cadu.{cadu, unit_size};
 ghost use Rattle.tm_codeblock.specs.Frames.{after_frames};
-ghost use Rattle.tm_codeblock.specs.Cadu.{cadu};
-ghost use Rattle.tm_channel.specs.Sending.{SenderStandsFor, Sends, SendsPrefix};
-ghost use Rattle.tm_channel.specs.Steps.{SendsFrames, SendsFramesPrefix};
+ghost use Rattle.tm_inner.specs.Sending.{InnerMakes, most_symbols};
+ghost use Rattle.tm_channel.specs.Sending.{Makes, MakesAtMost, SenderStandsFor, Sends, SendsPrefix};
 
 use std::marker::Model;
-use tm_base::{Failed, Sink};
+use tm_base::{Failed, Sink, put_all};
 use tm_codeblock::{LONGEST_CADU, cadu, codeblock_size};
 use tm_config::{Config, LONGEST_CODEBLOCK};
 use tm_inner::{InnerSender, SendError};
+
+/// Room for the symbols of a unit, at most 16 for each of its octets.
+pub const ROOM: usize = 16 * LONGEST_CADU;
 
 /// Takes the octets of transfer frames in pieces, and writes the symbols of the unit of each frame once the frame is
 /// whole. It keeps a prefix of one frame, and no history.
@@ -20,7 +22,7 @@ pub struct Sender {
     config: Config,
     frame: [u8; LONGEST_CODEBLOCK],
     count: usize,
-    // Room for the unit of a frame, which is written anew for each.
+    // Room for the unit of a frame.
     unit: [u8; LONGEST_CADU],
     inner: InnerSender,
 }
@@ -54,13 +56,40 @@ impl Sender {
         }
     }
 
-    // How many octets the frame lacks.
-    fn room(&self) -> usize
-        ensures some { 0 < result }
-        ensures frame { length self.now.held + result ≡ self.now.config.frame_length }
+    /// The configuration.
+    pub fn config(&self) -> &Config
+        ensures { result.now ≡ self.now.config }
     {
-        let held = &self.frame[..self.count];
-        self.config.length() as usize - held.len()
+        &self.config
+    }
+
+    /// Takes octets from the start of `octets`, up to the end of the frame. Where the frame is whole then, puts the
+    /// symbols of its unit at the start of `room`. Returns how many octets were taken, and how many were put there.
+    pub fn symbols(&mut self, octets: &[u8], room: &mut [u8; ROOM]) -> (usize, usize)
+        ensures some { 0 < length octets.now → 0 < result.0 }
+        ensures most { result.0 ≤ length octets.now }
+        ensures fits { result.1 ≤ ROOM }
+        ensures failed { self.new.inner.has_failed ≡ self.old.inner.has_failed }
+        ensures made { Makes self.old self.new (take result.0 octets.now) (take result.1 room.new) }
+        ensures few { MakesAtMost self.old self.new result.0 result.1 }
+    {
+        let length = self.config.length() as usize;
+        let taken = octets.len().min(length - self.count);
+        let end = self.count + taken;
+        self.frame[self.count..end].copy_from_slice(&octets[..taken]);
+        if end < length {
+            self.count = end;
+            return (taken, 0);
+        }
+        self.count = 0;
+        let count = put_symbols(
+            &self.config,
+            &self.frame[..end],
+            &mut self.unit,
+            &mut self.inner,
+            room,
+        );
+        (taken, count)
     }
 
     /// Takes the next octets of the frames, and writes the symbols of each frame that is whole now.
@@ -82,10 +111,20 @@ impl Sender {
         if self.inner.has_failed() {
             return Err(SendError::Stopped);
         }
-        match self.send(octets, out) {
-            Ok(()) => Ok(()),
-            Err(Failed) => Err(SendError::Sink),
+        let mut room = [0; ROOM];
+        let mut done = 0;
+        while done < octets.len() {
+            let (taken, count) = self.symbols(&octets[done..], &mut room);
+            match put_all(out, &room[..count]) {
+                Ok(()) => {}
+                Err(Failed) => {
+                    self.inner.stop();
+                    return Err(SendError::Sink);
+                }
+            }
+            done += taken;
         }
+        Ok(())
     }
 
     /// How many octets follow the last whole frame of those given so far, where no push returned `Sink`.
@@ -104,79 +143,24 @@ impl Sender {
     {
         self.left_over()
     }
-
-    // Takes the octets frame by frame.
-    fn send<O: Sink>(&mut self, octets: &[u8], out: &mut O) -> Result<(), Failed>
-        requires { self.old.inner.has_failed ≡ false }
-        ensures config { self.new.config ≡ self.old.config }
-        ensures failed { IsTrue self.new.inner.has_failed ↔ OnOk result ⊥ }
-        ensures sent { OnOk result (SendsFrames self.old self.new (O.taken out.old) (O.taken out.new) octets.now) }
-        ensures prefix { OnErr result (SendsFramesPrefix self.old (O.taken out.old) (O.taken out.new) octets.now) }
-        ensures cause { HasCause (O.faults out.old) (O.faults out.new) (O.is_last out.new) result }
-    {
-        // So that the proof has the invariant of the sender.
-        let _count = self.count;
-        let mut done = 0;
-        while done < octets.len() {
-            let end = done + self.room().min(octets.len() - done);
-            match self.send_piece(&octets[done..end], out) {
-                Ok(()) => {}
-                Err(Failed) => return Err(Failed),
-            }
-            done = end;
-        }
-        Ok(())
-    }
-
-    // Takes octets that do not go past the end of the frame, and sends the frame where it is whole now.
-    fn send_piece<O: Sink>(&mut self, piece: &[u8], out: &mut O) -> Result<(), Failed>
-        requires ready { self.old.inner.has_failed ≡ false }
-        requires fits { length self.old.held + length piece.now ≤ self.old.config.frame_length }
-        ensures config { self.new.config ≡ self.old.config }
-        ensures failed { IsTrue self.new.inner.has_failed ↔ OnOk result ⊥ }
-        ensures sent { OnOk result (SendsFrames self.old self.new (O.taken out.old) (O.taken out.new) piece.now) }
-        ensures prefix { OnErr result (SendsFramesPrefix self.old (O.taken out.old) (O.taken out.new) piece.now) }
-        ensures cause { HasCause (O.faults out.old) (O.faults out.new) (O.is_last out.new) result }
-    {
-        let end = self.count + piece.len();
-        self.frame[self.count..end].copy_from_slice(piece);
-        if end < self.config.length() as usize {
-            self.count = end;
-            return Ok(());
-        }
-        self.count = 0;
-        send_frame(
-            &self.config,
-            &self.frame[..end],
-            &mut self.unit,
-            &mut self.inner,
-            out,
-        )
-    }
 }
 
-// Gives the unit of a frame, for which there is room, to the last stage.
-fn send_frame<O: Sink>(
+// Puts the symbols of a frame's unit, which is made in the room for it, at the start of `symbols`. Returns how many these
+// are.
+fn put_symbols(
     config: &Config,
     frame: &[u8],
     room: &mut [u8; LONGEST_CADU],
     inner: &mut InnerSender,
-    out: &mut O,
-) -> Result<(), Failed>
-    requires ready { inner.old.has_failed ≡ false }
-    requires frame { length frame.now ≡ config.now.frame_length }
-    ensures config { inner.new.config ≡ inner.old.config }
-    ensures failed { IsTrue inner.new.has_failed ↔ OnOk result ⊥ }
-    ensures sent { OnOk result (InnerSends inner.old inner.new (O.taken out.old) (O.taken out.new)
-        (cadu config.now frame.now)) }
-    ensures prefix { OnErr result (InnerSendsPrefix inner.old (O.taken out.old) (O.taken out.new)
-        (cadu config.now frame.now)) }
-    ensures cause { HasCause (O.faults out.old) (O.faults out.new) (O.is_last out.new) result }
+    symbols: &mut [u8; ROOM],
+) -> usize
+    requires { length frame.now ≡ config.now.frame_length }
+    ensures fits { result ≤ ROOM }
+    ensures few { result ≤ most_symbols inner.old.config * unit_size config.now }
+    ensures failed { inner.new.has_failed ≡ inner.old.has_failed }
+    ensures made { InnerMakes inner.old inner.new (cadu config.now frame.now) (take result symbols.new) }
 {
     let unit = &mut room[..codeblock_size(config) + 4];
     cadu(config, frame, unit);
-    match inner.push(unit, out) {
-        Ok(()) => Ok(()),
-        Err(_) => Err(Failed),
-    }
+    inner.symbols(unit, symbols)
 }

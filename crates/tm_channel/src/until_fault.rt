@@ -11,7 +11,7 @@ pub struct UntilFault<'a, T> {
 
 impl<'a, T: ItemTaker> ItemWatch for UntilFault<'a, T> {
     ghost use Rattle.std.specs.Prelude.{◌≡◌};
-    ghost use Rattle.tm_channel.specs.UntilFault.{Passes};
+    ghost use Rattle.tm_inner.specs.UntilFault.{Passes};
 
     ghost took = { λ a item b. (b.taker.ghost_name ≡ a.taker.ghost_name)
         × Passes (λ before now. T.took before item now) (λ before now. T.broke before item now) T.faults T.is_last

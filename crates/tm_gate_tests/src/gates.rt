@@ -199,3 +199,32 @@ fn expected_codeblocks_are_decoded_by_all_workers(rt: HostRuntime) -> Result<(),
     assert!(rt; counting.count == 64);
     Ok(())
 }
+
+// Those that come one at a time are searched together too. Their bits wait until so many are there that a batch of 256
+// might be whole, its codeblocks standing as near as they can: the bits of 74 that stand one right behind another.
+#[test]
+fn codeblocks_that_come_one_by_one_are_decoded_by_all_workers(rt: HostRuntime) -> Result<(), Fail> {
+    let link = Raw {
+        length: Some(1),
+        inner: 0,
+        randomize: 0,
+        workers: 2,
+        batch: 256,
+        rescan: 1,
+        ..Raw::default()
+    };
+    let Ok(config) = Config::check(&link) else {
+        panic!(rt; "refused")
+    };
+    let Ok(mut receiver) = Receiver::open(rt.alloc(), config) else {
+        panic!(rt; "no memory")
+    };
+    let gate = gate_that_holds(0, 73);
+    let mut counting = Counting { count: 0 };
+    for number in 1..257u64 {
+        assert!(rt; receiver.feed(&rt, &MARKED, &mut counting, &gate) == Ok(()));
+        assert!(rt; (gate.freed.load(Ordering::SeqCst) == 1) == (number >= 74));
+        assert!(rt; (counting.count == 256) == (number == 256));
+    }
+    Ok(())
+}

@@ -64,4 +64,4 @@ returns-clause-watched g c =
     watched-last g.W.WindowWatch.took c.args.inner.now c.settle.new.self c.take_decoded.new.inner l.new.self
     c.args.watch.now c.take_decoded.new.watch c.watch_ready.new.watch l.result.leftover l.result.bits l.result.slips
     (settled-by g (goal.at.returns-clause-watched g c).After-last-end) d.watched d.of.0 d.decoded.ended l.ensures.config
-    l.ensures.phase.0 l.ensures.ends l.ensures.windows c.watch_ready.ensures
+    l.ensures.phase.0 l.ensures.ends l.ensures.windows c.watch_ready.ensures.windows

@@ -1,4 +1,4 @@
-use Rattle.std.proofs.Common.{◌≡◌, ◌⊎◌, ◌<◌, ◌-◌, ◌∙◌, ℕ, nat_lt, if◌then◌else◌, inl, inr, List, [], length, take, drop, true, false, arith, refl, ap, sym, subst}
+use Rattle.std.proofs.Common.{◌≡◌, ◌⊎◌, ◌<◌, ◌-◌, ◌∙◌, ℕ, nat_lt, if◌then◌else◌, inl, inr, List, [], length, take, drop, false, arith, refl, ap, sym, subst}
 use Rattle.std.proofs.lemmas.List.{take_all, take_rest}
 use Rattle.std.proofs.Math.Seq.{take-add}
 use Rattle.std.specs.Option.{is_some}
@@ -10,7 +10,8 @@ use Rattle.tm_inner.specs.InnerWindows.{AreTold}
 use Rattle.tm_inner.specs.Receiving.{Hands}
 use Rattle.tm_inner.proofs.DecodedWindows.{decoded-drained}
 use Rattle.tm_inner.proofs.GivenPieces.{hands-more}
-use Rattle.tm_channel.specs.OctetReceiving.{BitReceiving, MayNotWait, Stages, StagesHand, spare_bits}
+use Rattle.tm_channel.specs.OctetReceiving.{MayNotWait, Stages, StagesHand, spare_bits}
+use Rattle.tm_channel.specs.declared.bit_receiver.BitReceiver.{BitReceiver}
 use Rattle.tm_channel.proofs.FirstStage.{Fills, fills-of}
 use Rattle.tm_channel.proofs.GivenOctets.{Filled, filled-decoded, filled-due, filled-more, filled-none, filled-wait}
 use Rattle.tm_channel.proofs.WatchedStages.{decoded-plain, decoded-waits, watched-filled, watched-then}
@@ -31,6 +32,7 @@ loop-done-init g c =
       within = e.most;
       inner = e.config;
       stream = refl;
+      awaits = c.requires.awaits;
       filled = filled-more took start start c.fill-done.new.self c.args.taker.now c.args.taker.now []
           (take c.fill-done.result octets) (sym c.has_inner_code.ensures ∙ c.if-not-has_inner_code.false) fills
           (filled-none took start c.args.taker.now);
@@ -64,6 +66,7 @@ loop-done-preserved g c =
       within = omega (arith, e.most, i.within);
       inner = e.config ∙ d.ensures.of.0 ∙ i.inner;
       stream = d.ensures.of.1 ∙ i.stream;
+      awaits = d.ensures.awaits;
       filled = subst (Filled took start (record { inner = f.new.self; bits = d.new.stream }) c.args.taker.now
           d.new.taker) all
           (filled-more took start next f.new.self c.args.taker.now d.new.taker (take done octets)
@@ -87,7 +90,7 @@ returns-then-may_wait-clause-handed g c =
     subst (StagesHand took start now c.args.taker.now c.loop-done.taker)
     (take_all c.loop-done.done c.args.octets.now c.loop-done-test.false)
     (filled-wait took start now c.args.taker.now c.loop-done.taker (take c.loop-done.done c.args.octets.now)
-    c.spare_bits.result c.loop-done.invariant.filled c.spare_bits.ensures.value c.spare_bits.ensures.most
+    c.spare.result c.loop-done.invariant.filled c.spare.ensures.value c.spare.ensures.most
     (c.may_wait.ensures.waits c.if-may_wait.true))
 
 -- nothing was decoded, or not all octets were put in at first
@@ -115,8 +118,8 @@ returns-clause-waits g c = λ _.
           (λ _. (f.result < length c.args.octets.now) ⊎ HoldsMore f.new.self.queue spare) [
             | inl less ↦ inl less
             | inr same ↦ inr (subst (λ (d : InnerDecoding). HoldsMore d.queue spare) same.0
-                (subst (HoldsMore c.loop-done.inner.queue) (c.spare_bits.ensures.exact
-                ∙ ap (λ (r : BitReceiving). if nat_lt 1 (g.C.Crew.share c.args.crew.now 2) then spare_bits r else 0)
+                (subst (HoldsMore c.loop-done.inner.queue) (c.spare.ensures.exact
+                ∙ ap (λ (r : BitReceiver). if nat_lt 1 (g.C.Crew.share c.args.crew.now 2) then spare_bits r else 0)
                 same.1) more))
           ],
     )
@@ -162,13 +165,13 @@ pub returns-then-may_wait-clause-all : goal.returns-then-may_wait-clause-all
 returns-then-may_wait-clause-all g c = λ alone.
     let share : ℕ = g.C.Crew.share c.args.crew.now 2 in
     let one : nat_lt 1 share ≡ false = grind (arith, nat_tests) in
-    decoded-waits c.loop-done.inner c.spare_bits.result
+    decoded-waits c.loop-done.inner c.spare.result
     (omega (
       arith,
       c.requires.accepted.some_keep,
       ap (λ (k : Configuration). k.keep) c.loop-done.invariant.inner,
     ))
-    (c.spare_bits.ensures.exact ∙ ap (λ b. if b then spare_bits c.loop-done.stream else 0) one)
+    (c.spare.ensures.exact ∙ ap (λ b. if b then spare_bits c.loop-done.stream else 0) one)
     (c.may_wait.ensures.waits c.if-may_wait.true)
 
 pub returns-clause-all : goal.returns-clause-all

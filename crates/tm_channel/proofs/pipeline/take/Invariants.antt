@@ -3,6 +3,7 @@ use Rattle.tm_base.specs.Handed.{on_handed}
 use Rattle.tm_inner.specs.InnerWindows.{AreTold}
 use Rattle.tm_inner.specs.Receiving.{Hands}
 use Rattle.tm_channel.proofs.GivenOctets.{Filled}
+use Rattle.tm_channel.specs.OctetReceiving.{AwaitsBits}
 use Rattle.tm_channel.proofs.pipeline.take.Given as goal
 
 abbrev pub invariant-loop-done : goal.invariant-loop-done
@@ -13,6 +14,7 @@ invariant-loop-done g l = record {
   within : l.done ≤ length l.octets;
   inner : l.inner.config ≡ l.fn.inner.config;
   stream : l.stream.batch.config ≡ l.fn.stream.batch.config;
+  awaits : AwaitsBits l.stream;
   filled : Filled (on_handed g.T.ItemWatch.took_phase g.T.ItemWatch.took)
       (record { inner = l.fn.inner; bits = l.fn.stream }) (record { inner = l.inner; bits = l.stream })
       l.fn.taker l.taker (take l.done l.octets);

@@ -2,7 +2,7 @@ use Rattle.std.proofs.Common.{◌∙◌, drop, sym, ap, subst}
 use Rattle.tm_base.specs.Bits.{bits_of}
 use Rattle.tm_channel.specs.OctetReceiving.{ReceivedAt}
 use Rattle.tm_inner.proofs.PlainBits.{plain-nearest, plain-packed}
-use Rattle.tm_channel.proofs.Between.{drop-most}
+use Rattle.tm_channel.proofs.SkippedBits.{drop-most}
 use Rattle.tm_channel.proofs.pipeline.take_after.Goals as goal
 
 pub returns-then-not-is_packed-clause-handed : goal.returns-then-not-is_packed-clause-handed

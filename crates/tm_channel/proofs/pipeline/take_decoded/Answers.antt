@@ -5,7 +5,8 @@ use Rattle.tm_windows.specs.Windows.{dropped_of}
 use Rattle.tm_inner.specs.InnerDecoding.{InnerDecoding, IsDrained, IsSettledQueue, held_in, ready_in}
 use Rattle.tm_inner.specs.InnerWindows.{AreThere, windows_in}
 use Rattle.tm_inner.proofs.ToldWindows.{ToldBut, told-all, told-next, told-read, told-run}
-use Rattle.tm_channel.specs.OctetReceiving.{BitReceiving, Decoded}
+use Rattle.tm_channel.specs.OctetReceiving.{Decoded}
+use Rattle.tm_channel.specs.declared.bit_receiver.BitReceiver.{BitReceiver}
 use Rattle.tm_channel.proofs.FirstStage.{Runs, left-falls}
 use Rattle.tm_channel.proofs.Progress.{decoded-more, decoded-start}
 use Rattle.tm_channel.proofs.pipeline.take_decoded.Goals as goal
@@ -27,6 +28,7 @@ loop-count-init g c =
     record {
       config = ap (λ (k : InnerDecoding). k.config) read ∙ e.config;
       stream = refl;
+      awaits = c.requires.awaits;
       settled =
           λ settled. subst (λ (k : InnerDecoding). IsSettledQueue k.queue) (sym read) (e.still settled);
       count = e.count ∙ ap (λ (k : InnerDecoding). length (ready_in k.queue)) (sym read);
@@ -74,14 +76,15 @@ loop-count-preserved g c =
     } in
     record {
       config = e.config ∙ i.config;
-      stream = c.receive_ready.ensures.config ∙ ap (λ (v : BitReceiving). v.batch.config) c.note.ensures.same
+      stream = c.receive_ready.ensures.handed.config ∙ ap (λ (v : BitReceiver). v.batch.config) c.note.ensures.same
           ∙ i.stream;
+      awaits = c.receive_ready.ensures.awaits;
       settled = λ settled. e.still (i.settled settled);
       count = e.count;
       drained = e.drained;
       there = e.there;
       told = told-next g.W.WindowWatch.took c.args.inner.now before d.new.self c.args.watch.now c.loop-count.watch
-          c.watch_ready.new.watch i.told c.watch_ready.ensures
+          c.watch_ready.new.watch i.told c.watch_ready.ensures.windows
           (told-run before d.new.self e.config e.settled (λ given blocks s. (e.stands given blocks s).0) e.windows);
       later = e.later;
       decoded = decoded-more t.took_phase t.took (record { inner = c.args.inner.now; bits = c.args.stream.now })

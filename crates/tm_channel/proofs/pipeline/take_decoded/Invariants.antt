@@ -4,7 +4,7 @@ use Rattle.tm_windows.specs.Windows.{dropped_of}
 use Rattle.tm_inner.specs.InnerDecoding.{IsDrained, IsSettledQueue, held_in, ready_in}
 use Rattle.tm_inner.specs.InnerWindows.{AreThere}
 use Rattle.tm_inner.proofs.ToldWindows.{ToldBut}
-use Rattle.tm_channel.specs.OctetReceiving.{Decoded}
+use Rattle.tm_channel.specs.OctetReceiving.{AwaitsBits, Decoded}
 use Rattle.tm_channel.proofs.FirstStage.{left_for}
 use Rattle.tm_channel.proofs.pipeline.take_decoded.Given as goal
 
@@ -12,6 +12,7 @@ abbrev pub invariant-loop-count : goal.invariant-loop-count
 invariant-loop-count g l = record {
   config : l.inner.config ≡ l.fn.inner.config;
   stream : l.stream.batch.config ≡ l.fn.stream.batch.config;
+  awaits : AwaitsBits l.stream;
   settled : IsSettledQueue l.fn.inner.queue → IsSettledQueue l.inner.queue;
   count : l.count ≡ length (ready_in l.inner.queue);
   drained : l.count ≡ 0 → IsDrained l.inner.queue;

@@ -5,7 +5,7 @@ use Rattle.tm_channel.proofs.pipeline.take_nearest.Goals as goal
 
 pub returns-clause-handed : goal.returns-clause-handed
 returns-clause-handed g c =
-    let now = c.take_bits.new in
-    subst (ReceivedAt g.T.ItemWatch.took c.args.stream.now now.stream c.args.taker.now now.taker)
+    let now = c.receive_bits.new in
+    subst (ReceivedAt g.T.ItemWatch.took c.args.stream.now now.self c.args.taker.now now.taker)
     (nearest-after c.args.inner.now.config c.args.skip c.min-from.result c.args.octets.now c.nearest_bits.new.bits
-    c.min-from.ensures c.nearest_bits.ensures.bits) c.take_bits.ensures.handed
+    c.min-from.ensures c.nearest_bits.ensures.bits) c.receive_bits.ensures.handed

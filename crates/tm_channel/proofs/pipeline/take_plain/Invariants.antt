@@ -2,7 +2,8 @@ use Rattle.std.proofs.Common.{◌≡◌, ◌≤◌, ◌-◌, false, take, length
 use Rattle.tm_base.specs.Handed.{on_handed}
 use Rattle.tm_inner.specs.InnerWindows.{AreTold}
 use Rattle.tm_inner.specs.Receiving.{Hands}
-use Rattle.tm_channel.specs.OctetReceiving.{StagesHand}
+use Rattle.tm_channel.specs.OctetReceiving.{AwaitsBits}
+use Rattle.tm_channel.proofs.GivenOctets.{Filled}
 use Rattle.tm_channel.proofs.pipeline.take_plain.Given as goal
 
 abbrev pub invariant-loop-done : goal.invariant-loop-done
@@ -10,10 +11,10 @@ invariant-loop-done g l = record {
   within : l.done ≤ length l.octets;
   inner : l.inner.config ≡ l.initial.inner.config;
   stream : l.stream.batch.config ≡ l.initial.stream.batch.config;
-  handed : StagesHand (on_handed g.T.ItemWatch.took_phase g.T.ItemWatch.took)
+  awaits : AwaitsBits l.stream;
+  filled : Filled (on_handed g.T.ItemWatch.took_phase g.T.ItemWatch.took)
       (record { inner = l.initial.inner; bits = l.initial.stream }) (record { inner = l.inner; bits = l.stream })
       l.initial.taker l.taker (take l.done l.octets);
-  ended : l.inner.has_ended ≡ l.initial.inner.has_ended;
   told : l.initial.inner.has_ended ≡ false
       → Hands g.W.WindowWatch.took AreTold l.initial.inner l.inner l.initial.watch l.watch (take l.done l.octets);
 }

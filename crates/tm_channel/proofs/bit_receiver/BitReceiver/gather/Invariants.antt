@@ -1,5 +1,5 @@
-use Rattle.std.proofs.Common.{◌≡◌, ◌==◌, ◌-◌, ◌≤◌, take, map, length}
-use Rattle.tm_channel.specs.OctetReceiving.{GathersMore, receiving}
+use Rattle.std.proofs.Common.{◌==◌, ◌-◌, ◌≤◌, take, map, length}
+use Rattle.tm_channel.specs.OctetReceiving.{Gathered, Receives}
 use Rattle.tm_channel.specs.Receiving.{Fills}
 use Rattle.tm_channel.proofs.bit_receiver.BitReceiver.gather.Given as goal
 
@@ -7,8 +7,7 @@ abbrev pub invariant-loop-done : goal.invariant-loop-done
 invariant-loop-done g l = record {
   within : l.done ≤ length l.bits;
   fills : Fills l.self.finder l.self.recent l.self.batch;
-  config : l.self.batch.config ≡ l.initial.self.batch.config;
-  gathers : GathersMore g.T.ItemWatch.took (receiving l.initial.self l.origins) (receiving l.self l.origins)
+  gathers : Receives Gathered Gathered g.T.ItemWatch.took l.initial.self l.self
       l.initial.taker l.taker (map (λ bit. bit == 1) (take l.done l.bits));
 }
 

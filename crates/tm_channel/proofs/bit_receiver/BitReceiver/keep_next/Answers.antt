@@ -7,7 +7,6 @@ use Rattle.tm_codeblock.specs.ReceivedCodeblock.{codeblock_in, is_sound}
 use Rattle.tm_channel.specs.Origins.{AreAt, symbol_by}
 use Rattle.tm_channel.specs.Receiving.{Batching, stored_of}
 use Rattle.tm_channel.proofs.KeptSymbols.{symbols-kept, symbols-stored}
-use Rattle.tm_channel.specs.OctetReceiving.{receiving}
 use Rattle.tm_channel.proofs.Holding.{IsTold, Takes, next_block, recent-count, holding-all, holding-left, holding-passed, holding-taken, holds-config}
 use Rattle.tm_channel.proofs.bit_receiver.BitReceiver.keep_next.Goals as goal
 
@@ -135,8 +134,8 @@ returns-in-None-clause-symbols g c = λ handed bits found count at few le h s.
     let on = passes-on was.finder c.next.new.self was.recent.bits c.next.new.recent.bits (length bits)
     c.next.ensures.passes
     (recent-count b.config was.finder was.recent.bits b.stored handed bits found h) few in
-    symbols-stored (receiving was c.args.origins.now)
-    (record { finder = c.next.new.self; recent = c.next.new.recent; batch = b; origins = c.args.origins.now }) count at
+    symbols-stored was
+    (record { finder = c.next.new.self; recent = c.next.new.recent; batch = b; origins = was.origins }) count at
     on.0 refl refl s.stored s
 
 pub returns-else-not-may_keep-clause-symbols : goal.returns-else-not-may_keep-clause-symbols
@@ -152,11 +151,11 @@ returns-else-not-may_keep-clause-symbols g c = λ handed bits found count at few
     let taken : c.take-in-Some.new.self.passed ≡ c.next.new.self.passed + 1 =
     c.take-in-Some.ensures.passed (omega (arith, on.1, few)) in
     let here : f.place ≡ c.next.new.self.passed = some.at in
-    symbols-kept (receiving was c.args.origins.now) (record {
+    symbols-kept was (record {
       finder = c.take-in-Some.new.self;
       recent = c.take-in-Some.new.recent;
       batch = c.keep-sound.new.self;
-      origins = c.args.origins.now;
+      origins = was.origins;
     }) count f.place c.at-origin.result c.symbol-symbol.result at (omega (arith, on.0, taken))
     (c.keep-sound.ensures.config ∙ ap (λ (v : Batching). v.config) same) refl
     (omega (arith, here, on.0)) (omega (arith, here, on.1, some.room, le))
@@ -177,10 +176,10 @@ returns-then-not-may_keep-clause-symbols g c = λ handed bits found count at few
     (recent-count b.config was.finder was.recent.bits b.stored handed bits found h) few in
     let taken : c.take.new.self.passed ≡ c.next.new.self.passed + 1 =
     c.take.ensures.passed (omega (arith, on.1, few)) in
-    symbols-stored (receiving was c.args.origins.now) (record {
+    symbols-stored was (record {
       finder = c.take.new.self;
       recent = c.take.new.recent;
       batch = c.may_keep.new.self;
-      origins = c.args.origins.now;
+      origins = was.origins;
     }) count at (omega (arith, on.0, taken)) (ap (λ (v : Batching). v.config) same) refl
     (subst (AreAt at count) (sym (ap (λ (v : Batching). v.symbols) same)) s.stored) s

@@ -14,18 +14,22 @@ use Rattle.tm_inner.proofs.HandedBits.{handed-due-none}
 use Rattle.tm_inner.proofs.PhasePieces.{items_of-with_phase}
 use Rattle.tm_inner.proofs.PlainBits.{bits-nil}
 use Rattle.tm_sync.specs.declared.found.Found.{Found}
+use Rattle.tm_sync.specs.Finding.{Finding, Recent}
 use Rattle.tm_channel.specs.Items.{ItemValue, AreItemsOf}
 use Rattle.tm_channel.specs.Due.{due}
-use Rattle.tm_channel.specs.OctetReceiving.{AreKnown, BitReceiverStandsFor, BitReceiving, Stages, StagesFor}
-use Rattle.tm_channel.specs.Origins.{AreAt, AreSpaced}
+use Rattle.tm_channel.specs.OctetReceiving.{AreKnown, AwaitsBits, BitReceiverStandsFor, Stages, StagesFor}
+use Rattle.tm_channel.specs.declared.bit_receiver.BitReceiver.{BitReceiver}
+use Rattle.tm_channel.specs.Origins.{AreAt, AreSpaced, Noted}
 use Rattle.tm_channel.specs.Receiving.{Batching}
 use Rattle.tm_channel.proofs.AllBits.{due-nil}
 use Rattle.tm_channel.proofs.GivenOctets.{read-now}
+use Rattle.tm_channel.proofs.Holding.{no_batch, ready-fills, ready-new, stands-all}
 use Rattle.tm_channel.proofs.PhasedItems.{same-phase}
+use Rattle.tm_channel.proofs.Streaming.{stands-new}
 use Rattle.tm_channel.proofs.receiver.Receiver.open_for.Goals as goal
 
 -- of no bits
-fresh-known : (rate : Option Rate) (c : Configuration) (at : ℕ → ℕ) (count : ℕ) (r : BitReceiving) → count ≡ 0
+fresh-known : (rate : Option Rate) (c : Configuration) (at : ℕ → ℕ) (count : ℕ) (r : BitReceiver) → count ≡ 0
     → r.origins.origins ≡ [] → AreKnown rate c at count r
 fresh-known None c at count r none unnoted = tt
 fresh-known (Some rate) c at count r none unnoted = (
@@ -70,16 +74,44 @@ stands-fresh s some of going inner bits nothing unnoted =
       none_due = refl;
     }
 
+-- what receives its bits, with this batch
+abbrev receives : Finding → Recent → Noted → Batching → BitReceiver
+receives finder recent origins batch =
+    record { finder = finder; recent = recent; batch = batch; origins = origins }
+
+pub invariant_of-result : goal.invariant_of-result
+invariant_of-result c =
+    let k = c.args.config in
+    let finder = c.in-Ok-open_search.finder in
+    let recent = c.in-Ok-open_search.recent in
+    let e = c.in-Ok-open_search.ensures in
+    let ready = ready-new k finder recent e.finder e.recent e.sized (omega (arith, e.accepted.some_batch)) in (
+      c.in-Ok.ensures.config,
+      ap (λ (b : Batching). b.config) c.in-Ok-open.ensures,
+      e.accepted,
+      λ _. subst (λ (b : Batching). AwaitsBits (receives finder recent c.in-Ok-open-2.origins b))
+          (sym c.in-Ok-open.ensures) (record {
+            fills = ready-fills finder recent (no_batch k) ready;
+            reaches = c.in-Ok-open-2.ensures.reaches;
+            short = λ _. ready.short;
+          }),
+    )
+
 pub returns-clause-stands : goal.returns-clause-stands
 returns-clause-stands c =
-    stands-fresh (record { inner = c.in-Ok.inner; bits = c.new.result })
-    (omega (
-      arith,
-      c.open_search.ensures.accepted.some_keep,
-      ap (λ (k : Configuration). k.keep) c.in-Ok.ensures.config,
-    ))
-    (c.new.ensures.config ∙ ap (λ (b : Batching). b.config) c.in-Ok-open.ensures ∙ sym c.in-Ok.ensures.config)
-    c.in-Ok.ensures.going c.in-Ok.ensures.stands c.new.ensures.stands c.new.ensures.symbols.0 c.new.ensures.symbols.1
+    let k = c.args.config in
+    let inner = c.in-Ok.inner in
+    let finder = c.in-Ok-open_search.finder in
+    let recent = c.in-Ok-open_search.recent in
+    let origins = c.in-Ok-open-2.origins in
+    let e = c.in-Ok-open_search.ensures in
+    subst (λ (b : Batching). StagesFor (record { inner = inner; bits = receives finder recent origins b }) [] [])
+    (sym c.in-Ok-open.ensures)
+    (stands-fresh (record { inner = inner; bits = receives finder recent origins (no_batch k) })
+    (omega (arith, e.accepted.some_keep, ap (λ (k : Configuration). k.keep) c.in-Ok.ensures.config))
+    (sym c.in-Ok.ensures.config) c.in-Ok.ensures.going c.in-Ok.ensures.stands
+    (stands-all finder recent (no_batch k) [] (stands-new k finder recent.bits e.finder e.recent)) refl
+    c.in-Ok-open-2.ensures.none)
 
 pub returns-clause-decoded : goal.returns-clause-decoded
 returns-clause-decoded c = decoded-drained c.in-Ok.inner c.in-Ok.ensures.stands.drained
