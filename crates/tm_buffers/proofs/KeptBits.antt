@@ -1,65 +1,65 @@
 -- Bits of one block after another, in a buffer.
-use Rattle.std.proofs.Common.{◌≡◌, ◌≤◌, ◌+◌, ℕ, List, [], ◌∷◌, ◌++◌, length, take, refl, sym, ap, ◌∙◌, arith, append_assoc, length-append, length-take, Option, Some, None}
-use Rattle.std.proofs.lemmas.List.{append-nil}
-use Rattle.tm_base.specs.Handed.{Handed, Phase, Item, items_of}
+use Rattle.std.proofs.Common.{◌≡◌, ◌∙◌, ◌≤◌, ℕ, List, [], ◌∷◌, ◌++◌, length, refl, sym, ap, arith, length-take, Some}
+use Rattle.std.proofs.lemmas.Fn.{chained_keeps}
+use Rattle.std.proofs.lemmas.Grind.{common_steps}
+use Rattle.tm_base.specs.Handed.{Handed, Item, Phase, items_of}
 use Rattle.tm_base.specs.Takers.{HandedOver}
-use Rattle.tm_inner.specs.Phase.{with_phase}
+use Rattle.tm_inner.proofs.DueBits.{kept-append}
 use Rattle.tm_viterbi.specs.Clean.{kept_bits}
 use Rattle.tm_viterbi.specs.WindowBlock.{WindowBlock}
-use Rattle.tm_windows.specs.declared.choosing.Chosen.{Chosen}
+use Rattle.tm_inner.specs.declared.window.Window.{Window}
 use Rattle.tm_buffers.specs.Buffer.{Fills}
-use Rattle.tm_buffers.specs.Decoding.{BitsAt, bits_at, keeps_handed}
+use Rattle.tm_buffers.specs.Decoding.{BitsAt, HoldsBits, bits_at, keeps_bits, keeps_handed, watches, writes}
+use Rattle.tm_buffers.specs.declared.bits.BufferBits.{BufferBits}
+use Rattle.tm_buffers.proofs.Over.{handed-items}
 
--- what is known of the buffer after all that was handed over
-pub record Kept (a b : BitsAt) (more : List (Handed WindowBlock)) : Type 0 where
-  pub same : length b.buffer ≡ length a.buffer
-  pub kept : length (take a.count a.buffer) + length (kept_bits (items_of more)) ≤ length a.buffer
-      → take b.count b.buffer ≡ take a.count a.buffer ++ kept_bits (items_of more)
+kept-more : (size : ℕ) (blocks : List WindowBlock) (a : BitsAt) (x : WindowBlock) (b : BitsAt)
+    → HoldsBits size (kept_bits blocks) a → keeps_bits a x b → HoldsBits size (kept_bits (blocks ++ x ∷ [])) b
+kept-more size blocks a x b h keeps =
+    let k = keeps size (kept_bits blocks) h in grind (arith, common_steps, kept-append, k)
 
-pub kept-all : (a b : BitsAt) (more : List (Handed WindowBlock)) → HandedOver keeps_handed a more b
-    → Kept a b more
-kept-all a b [] same = record {
-  same = sym (ap (λ (t : BitsAt). length t.buffer) same);
-  kept = λ fits. sym (ap (λ (t : BitsAt). take t.count t.buffer) same) ∙ sym (append-nil (take a.count a.buffer));
-}
-kept-all a b (Phase skip cost ∷ more) handed =
-    let rest = kept-all handed.0 b more handed.2 in
-    let bits : BitsAt → List ℕ = λ t. take t.count t.buffer in
-    let size : BitsAt → ℕ = λ t. length t.buffer in record {
-      same = rest.same ∙ ap size handed.1;
-      kept =
-          λ fits. rest.kept (omega (arith, fits, ap (λ t. length (bits t)) handed.1, ap size handed.1))
-          ∙ ap (λ t. bits t ++ kept_bits (items_of more)) handed.1;
-    }
-kept-all a b (Item x ∷ more) handed =
-    let rest = kept-all handed.0 b more handed.2 in
-    let prefix : List ℕ = take x.kept x.bits in
-    let before : List ℕ = take a.count a.buffer in
-    let back : List ℕ = kept_bits (items_of more) in record {
-      same = rest.same ∙ handed.1.same;
-      kept = λ fits.
-          let one = handed.1.kept (omega (arith, fits, length-append prefix back)) in
-          rest.kept (omega (
-            arith,
-            fits,
-            handed.1.same,
-            ap length one,
-            length-append before prefix,
-            length-append prefix back,
-          ))
-          ∙ ap (λ l. l ++ back) one ∙ append_assoc before prefix back;
-    }
+kept-holds : (buffer buffer' : List ℕ) (count : ℕ) (more : List (Handed WindowBlock))
+    → HandedOver keeps_handed (bits_at 0 buffer) more (bits_at count buffer')
+    → HoldsBits (length buffer) (kept_bits (items_of more)) (bits_at count buffer')
+kept-holds buffer buffer' count more handed =
+    chained_keeps keeps_bits (λ blocks. HoldsBits (length buffer) (kept_bits blocks)) (kept-more (length buffer))
+    (items_of more) (bits_at 0 buffer) (bits_at count buffer') (record { long = refl; hold = λ _. refl })
+    (handed-items keeps_bits (bits_at 0 buffer) (bits_at count buffer') more handed)
 
--- a phase that is read writes nothing
-pub phase-unwritten : (at : BitsAt) (chosen : Option Chosen) → HandedOver keeps_handed at (with_phase chosen []) at
-phase-unwritten at None = refl
-phase-unwritten at (Some chosen) = (at, refl, refl)
+pub kept-long : (buffer buffer' : List ℕ) (count : ℕ) (more : List (Handed WindowBlock))
+    → HandedOver keeps_handed (bits_at 0 buffer) more (bits_at count buffer') → length buffer' ≡ length buffer
+kept-long buffer buffer' count more handed = (kept-holds buffer buffer' count more handed).long
 
 -- what was kept fills the start of the buffer, where that had no bits before
 pub kept-fills : (buffer buffer' : List ℕ) (count : ℕ) (more : List (Handed WindowBlock))
-    → Kept (bits_at 0 buffer) (bits_at count buffer') more → count ≤ length buffer'
+    → HandedOver keeps_handed (bits_at 0 buffer) more (bits_at count buffer') → count ≤ length buffer'
     → length (kept_bits (items_of more)) ≤ length buffer
     → Fills (Some count) buffer' (kept_bits (items_of more))
-kept-fills buffer buffer' count more k within fits =
-    let is = k.kept (omega (arith, fits)) in
+kept-fills buffer buffer' count more handed within fits =
+    let is = (kept-holds buffer buffer' count more handed).hold fits in
     (omega (arith, ap length is, length-take count buffer', within), is)
+
+-- ---- by what is lent
+
+pub written-bits : {W : Type 0} (more : List (Handed WindowBlock)) (a b : BufferBits W) → HandedOver writes a more b
+    → (b.bits.ghost_name ≡ a.bits.ghost_name)
+    × HandedOver keeps_handed (bits_at a.count a.bits.now) more (bits_at b.count b.bits.now)
+written-bits [] a b same = (ap (λ w. w.bits.ghost_name) (sym same), ap (λ w. bits_at w.count w.bits.now) same)
+written-bits (Phase skip cost ∷ more) a b h =
+    let m = h.0 in
+    let rest = written-bits more m b h.2 in (
+      rest.0 ∙ ap (λ w. w.bits.ghost_name) h.1,
+      (bits_at m.count m.bits.now, ap (λ w. bits_at w.count w.bits.now) h.1, rest.1),
+    )
+written-bits (Item block ∷ more) a b h =
+    let m = h.0 in
+    let rest = written-bits more m b h.2 in
+    (rest.0 ∙ h.1.0, (bits_at m.count m.bits.now, h.1.1, rest.1))
+
+pub watched-windows : {W : Type 0} (took : W → Window → W → Type 0) (windows : List Window) (a b : BufferBits W)
+    → HandedOver (watches took) a windows b → (b.watch.ghost_name ≡ a.watch.ghost_name)
+    × HandedOver took a.watch.now windows b.watch.now
+watched-windows took [] a b same = (ap (λ w. w.watch.ghost_name) (sym same), ap (λ w. w.watch.now) same)
+watched-windows took (window ∷ windows) a b h =
+    let m = h.0 in
+    let rest = watched-windows took windows m b h.2 in (rest.0 ∙ h.1.0, (m.watch.now, h.1.1, rest.1))

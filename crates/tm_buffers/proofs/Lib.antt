@@ -1,11 +1,9 @@
 pub mod Needed
 pub mod SymbolRoom
-pub mod Sinks
 pub mod KeptBits
 pub mod DecodedCalls
 pub mod FewWindows
 pub mod WrittenWindows
 pub mod Spans
-pub mod ItemsWithPhase
-pub mod Filled
-pub mod Behind
+pub mod WrittenItems
+pub mod Over

@@ -1,24 +1,27 @@
 -- Bits of a list from one index on up to another.
-use Rattle.std.proofs.Common.{◌≡◌, ◌==◌, ◌<◌, ◌≤◌, ◌+◌, ◌-◌, ◌*◌, ◌/◌, ◌%◌, ℕ, zero, suc, Bool, not, get_or, List, [], ◌∷◌, ◌++◌, length, take, drop, unwrap_or, refl, sym, ap, ◌∙◌, subst, arith, append_assoc, Option, Some, None, IsSome, length-take, length-drop, inl, inr, mul-le-mul_right}
+use Rattle.std.proofs.Common.{◌≡◌, ◌==◌, ◌<◌, ◌≤◌, ◌+◌, ◌-◌, ◌*◌, ◌/◌, ◌%◌, ◌^◌, ℕ, zero, suc, Bool, false, not, get_or, List, [], ◌∷◌, ◌++◌, length, take, drop, unwrap_or, refl, sym, ap, ◌∙◌, subst, arith, Option, Some, None, IsSome, length-append, length-take, inl, inr, mul-le-mul_right}
 use Rattle.std.specs.Option.{option_map_or}
 use Rattle.std.proofs.lemmas.Bool.{cases_lt}
-use Rattle.std.proofs.lemmas.List.{append-nil, drop-append-le, drop-drop, get_or-drop, take_all}
+use Rattle.std.proofs.lemmas.List.{append-nil, drop-drop, get_or-map, length-map, take_all}
+use Rattle.std.proofs.lemmas.Grind.{common_steps}
+use Rattle.std.proofs.lemmas.Slice.{between_is}
 use Rattle.std.proofs.Math.Seq.{take-add}
-use Rattle.tm_base.specs.Bits.{bits_of, bits_of_octet, low_bits}
-use Rattle.tm_base.proofs.Packing.{bits_of-drop, bits_of-take, length-low_bits}
+use Rattle.tm_base.specs.Bits.{bits_of, low_bits}
+use Rattle.tm_base.proofs.Packing.{bits_of-drop, bits_of-take, length-bits_of}
 use Rattle.tm_sync.specs.declared.found.Found.{Found}
 use Rattle.tm_sync.specs.Places.{Rules, places, verify_bits}
-use Rattle.tm_sync.specs.Searching.{Searching, SearchStandsFor, inside_of}
+use Rattle.tm_sync.specs.Searching.{Searching, SearchStandsFor, inside_of, is_pending}
 use Rattle.tm_sync.proofs.Ends.{first-stays}
-use Rattle.tm_sync.proofs.Given.{reported-few}
+use Rattle.tm_sync.proofs.Given.{reported_all, reported-few}
 use Rattle.tm_sync.proofs.Sliding.{bit_of}
-use Rattle.tm_buffers.specs.Searching.{NoneSooner, bits_in, span}
+use Rattle.tm_buffers.specs.Searching.{NoneSooner, Takes, bits_in, span}
 
-span-none : {T : Type 0} (at : ℕ) (items : List T) → span at at items ≡ []
-span-none at items = ap (λ n. take n (drop at items)) (let none : at - at ≡ 0 = omega arith in none)
+span-none : {T : Type 0} (at to : ℕ) (items : List T) → to ≤ at → span at to items ≡ []
+span-none at to items before =
+    ap (λ n. take n (drop at items)) (let none : to - at ≡ 0 = omega (arith, before) in none)
 
 -- a span goes on
-pub span-more : {T : Type 0} (from at to : ℕ) (items : List T) → from ≤ at → at ≤ to
+span-more : {T : Type 0} (from at to : ℕ) (items : List T) → from ≤ at → at ≤ to
     → span from to items ≡ span from at items ++ span at to items
 span-more from at to items first second =
     let size : to - from ≡ (at - from) + (to - at) = omega (arith, first, second) in
@@ -27,109 +30,92 @@ span-more from at to items first second =
     ∙ ap (λ l. take (at - from) (drop from items) ++ take (to - at) l)
     (drop-drop (at - from) from items ∙ ap (λ n. drop n items) there)
 
-pub length-span : {T : Type 0} (from to : ℕ) (items : List T) → from ≤ to → to ≤ length items
-    → length (span from to items) ≡ to - from
-length-span from to items order within =
-    omega (arith, order, within, length-take (to - from) (drop from items), length-drop from items)
+one-of : {T : Type 0} (at : ℕ) (items : List T) (item : T) → at ≤ length items
+    → take (at + 1) items ≡ take at items ++ item ∷ [] → span at (at + 1) items ≡ item ∷ []
+one-of at items item within is = grind (arith, common_steps, between_is)
 
-one-of : {T : Type 0} (at : ℕ) (items : List T) (item : T) → take 1 (drop at items) ≡ item ∷ []
-    → span at (at + 1) items ≡ item ∷ []
-one-of at items item is = ap (λ n. take n (drop at items)) (let one : at + 1 - at ≡ 1 = omega arith in one) ∙ is
-
--- ---- numbers for bits
-
-prefix : (at : ℕ) (numbers : List ℕ) → at < length numbers → take 1 (drop at (bits_in numbers))
-    ≡ not (get_or numbers at 0 == 0) ∷ []
-prefix at [] below = absurd (omega arith)
-prefix zero (n ∷ numbers) below = refl
-prefix (suc at) (n ∷ numbers) below = prefix at numbers (omega (arith, below))
-
+-- a number for a bit
 pub span-number : (at : ℕ) (numbers : List ℕ) → at < length numbers
     → span at (at + 1) (bits_in numbers) ≡ not (get_or numbers at 0 == 0) ∷ []
-span-number at numbers below = one-of at (bits_in numbers) (not (get_or numbers at 0 == 0)) (prefix at numbers below)
+span-number at numbers below =
+    let size = length-map numbers (λ number. not (number == 0)) in
+    let bit = get_or-map (λ number. not (number == 0)) numbers at 0 false below in
+    grind (arith, common_steps, one-of, size, bit)
 
--- ---- bits of octets
-
-in-octet : (odd x : ℕ) (rest : List Bool) → odd < 8 → take 1 (drop odd (bits_of_octet x) ++ rest) ≡ bit_of (7 - odd) x
-    ∷ []
+-- a bit of an octet
+bit-at : (octets : List ℕ) (at : ℕ) → at < 8 * length octets
+    → get_or (bits_of octets) at false ≡ bit_of (7 - at % 8) (get_or octets (at / 8) 0)
 unfolding low_bits
-in-octet zero x rest below = refl
-in-octet (suc zero) x rest below = refl
-in-octet (suc (suc zero)) x rest below = refl
-in-octet (suc (suc (suc zero))) x rest below = refl
-in-octet (suc (suc (suc (suc zero)))) x rest below = refl
-in-octet (suc (suc (suc (suc (suc zero))))) x rest below = refl
-in-octet (suc (suc (suc (suc (suc (suc zero)))))) x rest below = refl
-in-octet (suc (suc (suc (suc (suc (suc (suc zero))))))) x rest below = refl
-in-octet (suc (suc (suc (suc (suc (suc (suc (suc odd)))))))) x rest below = absurd (omega (arith, below))
-
--- the bits after the first ones of an octet
-rest-of : (odd x : ℕ) (octets : List ℕ) → odd ≤ 8 → 0 < length octets
-    → drop odd (bits_of_octet (get_or octets 0 x)) ++ bits_of (drop 1 octets) ≡ drop odd (bits_of octets)
-rest-of odd x [] few some = absurd (omega arith)
-rest-of odd x (octet ∷ octets) few some =
-    sym (drop-append-le odd (bits_of_octet octet) (bits_of octets) (omega (arith, few, length-low_bits 8 octet)))
+bit-at [] at below = absurd (omega arith)
+bit-at (x ∷ octets) zero below = refl
+bit-at (x ∷ octets) (suc zero) below = refl
+bit-at (x ∷ octets) (suc (suc zero)) below = refl
+bit-at (x ∷ octets) (suc (suc (suc zero))) below = refl
+bit-at (x ∷ octets) (suc (suc (suc (suc zero)))) below = refl
+bit-at (x ∷ octets) (suc (suc (suc (suc (suc zero))))) below = refl
+bit-at (x ∷ octets) (suc (suc (suc (suc (suc (suc zero)))))) below = refl
+bit-at (x ∷ octets) (suc (suc (suc (suc (suc (suc (suc zero))))))) below = refl
+bit-at (x ∷ octets) (suc (suc (suc (suc (suc (suc (suc (suc at)))))))) below =
+    let place : suc (at / 8) ≡ suc (suc (suc (suc (suc (suc (suc (suc at))))))) / 8 = omega arith in
+    let digit : at % 8 ≡ suc (suc (suc (suc (suc (suc (suc (suc at))))))) % 8 = omega arith in
+    bit-at octets at (omega arith) ∙ (λ i. bit_of (7 - digit i) (get_or (x ∷ octets) (place i) 0))
 
 pub span-bit : (at : ℕ) (octets : List ℕ) → at < 8 * length octets
     → span at (at + 1) (bits_of octets) ≡ bit_of (7 - at % 8) (get_or octets (at / 8) 0) ∷ []
-span-bit at octets below =
-    let i : ℕ = at / 8 in
-    let odd : ℕ = at % 8 in
-    let parts : 8 * i + odd ≡ at = omega arith in
-    let here = drop i octets in
-    let first : get_or here 0 0 ≡ get_or octets i 0 = get_or-drop i octets 0 0
-    ∙ ap (λ n. get_or octets n 0) (let same : i + 0 ≡ i = omega arith in same) in
-    let split : drop at (bits_of octets) ≡ drop odd (bits_of_octet (get_or here 0 0)) ++ bits_of (drop 1 here) =
-    ap (λ n. drop n (bits_of octets)) (sym parts) ∙ sym (drop-drop odd (8 * i) (bits_of octets))
-    ∙ ap (drop odd) (sym (bits_of-drop i octets))
-    ∙ sym (rest-of odd 0 here (omega arith) (omega (arith, below, length-drop i octets))) in
-    one-of at (bits_of octets) (bit_of (7 - odd) (get_or octets i 0))
-    (ap (take 1) split ∙ in-octet odd (get_or here 0 0) (bits_of (drop 1 here)) (omega arith)
-    ∙ ap (λ x. bit_of (7 - odd) x ∷ []) first)
+span-bit at octets below = grind (arith, common_steps, one-of, length-bits_of octets, bit-at octets at below)
 
 -- the bits of whole octets
 pub span-octets : (at first whole : ℕ) (octets : List ℕ) → at ≡ 8 * first
     → span at (at + 8 * whole) (bits_of octets) ≡ bits_of (take whole (drop first octets))
 span-octets at first whole octets is =
-    ap (λ n. take n (drop at (bits_of octets))) (let size : at + 8 * whole - at ≡ 8 * whole = omega arith in size)
-    ∙ ap (λ n. take (8 * whole) (drop n (bits_of octets))) is
-    ∙ ap (take (8 * whole)) (sym (bits_of-drop first octets)) ∙ sym (bits_of-take whole (drop first octets))
+    let size : at + 8 * whole - at ≡ 8 * whole = omega arith in
+    grind (arith, common_steps, bits_of-drop first octets, bits_of-take whole (drop first octets))
 
--- ---- bits that are taken after others
+-- ---- bits that are taken one after another
 
-pub taken-none : {T : Type 0} (P : List T → Type 0) (at : ℕ) (given items : List T) → P given
-    → P (given ++ span at at items)
-taken-none P at given items =
-    subst P (sym (ap (λ l. given ++ l) (span-none at items) ∙ append-nil given))
-
-pub taken-more : {T : Type 0} (P : List T → Type 0) (from at to : ℕ) (given items more : List T) → from ≤ at → at ≤ to
-    → span at to items ≡ more
-    → P ((given ++ span from at items) ++ more) → P (given ++ span from to items)
-taken-more P from at to given items more first second is =
-    subst P (append_assoc given (span from at items) more ∙ ap (λ l. given ++ l)
-    (ap (λ l. span from at items ++ l) (sym is) ∙ sym (span-more from at to items first second)))
-
--- ---- no place is found sooner
-
--- bits are taken after others
-pub sooner-more : (rules : Rules) (given items : List Bool) (found : List Found) (from at to : ℕ)
-    → from ≤ at → NoneSooner rules given found items from at
-    → NoneSooner rules (given ++ span from at items) found items at to
-    → NoneSooner rules given found items from to
-sooner-more rules given items found from at to first before after n low below =
-    elim (cases_lt n at) [
-      | inl early ↦ before n low early
-      | inr late ↦ taken-more (λ (l : List Bool). places rules l ≡ found) from at n given items
-          (span at n items) first late refl (after n late below)
-    ]
+pub takes-more : (a b c : Searching) (room middle last : List ℕ) (bits : List Bool) (from at to : ℕ)
+    → Takes a b room middle bits from at → Takes b c middle last bits at to → Takes a c room last bits from to
+takes-more a b c room middle last bits from at to first second = record {
+  rules = second.rules ∙ first.rules;
+  order = omega (arith, first.order, second.order);
+  goes_on = λ given found few stood.
+      let before = given ++ span from at bits in
+      let p = first.goes_on given found (omega (arith, few, second.order)) stood in
+      let q = second.goes_on before found (omega (
+        arith,
+        few,
+        first.order,
+        second.order,
+        length-append given (span from at bits),
+        length-take (at - from) (drop from bits),
+      )) p.0 in
+      let joined : (n : ℕ) → at ≤ n → before ++ span at n bits ≡ given ++ span from n bits = λ n late.
+      grind (arith, common_steps, span-more from at n bits first.order late) in (
+        subst (λ l. SearchStandsFor c last l found) (joined to second.order) q.0,
+        λ n low below. elim (cases_lt n at) as (λ _. places a.rules (given ++ span from n bits) ≡ found) [
+          | inl early ↦ p.1 n low early
+          | inr late ↦ ap (places a.rules) (sym (joined n late))
+              ∙ ap (λ (r : Rules). places r (before ++ span at n bits)) (sym first.rules) ∙ q.1 n late below
+        ],
+      );
+}
 
 -- one bit is taken
-pub sooner-one : (rules : Rules) (given items : List Bool) (found : List Found) (at : ℕ)
-    → places rules given ≡ found → NoneSooner rules given found items at (at + 1)
-sooner-one rules given items found at none n low below =
-    let same : at ≡ n = omega (arith, low, below) in
-    subst (λ (k : ℕ). places rules (given ++ span at k items) ≡ found) same
-    (taken-none (λ (l : List Bool). places rules l ≡ found) at given items none)
+pub takes-bit : (s now : Searching) (room room_now : List ℕ) (bits : List Bool) (at : ℕ) (bit : Bool)
+    → is_pending s ≡ false → now.rules ≡ s.rules → span at (at + 1) bits ≡ bit ∷ []
+    → ((given : List Bool) (found : List Found) → length given < 2 ^ 63 → SearchStandsFor s room given found
+    → SearchStandsFor now room_now (given ++ bit ∷ []) found)
+    → Takes s now room room_now bits at (at + 1)
+takes-bit s now room room_now bits at bit free rules is push = record {
+  rules = rules;
+  order = omega arith;
+  goes_on = λ given found few stood. (
+    subst (λ l. SearchStandsFor now room_now (given ++ l) found) (sym is)
+        (push given found (omega (arith, few)) stood),
+    λ n low below. ap (λ l. places s.rules (given ++ l)) (span-none at n bits (omega (arith, below)))
+        ∙ ap (places s.rules) (append-nil given) ∙ reported_all s room free given found stood,
+  );
+}
 
 begun-inside : (inside : Option ℕ) (none : ℕ) → IsSome inside
     → option_map_or (λ count. 32 + count) inside none ≡ 32 + unwrap_or inside 0

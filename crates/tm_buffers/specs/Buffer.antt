@@ -1,10 +1,5 @@
 -- What is written to the start of a buffer.
-use Rattle.std.specs.Prelude.{◌≡◌, ℕ, ◌^◌, Bool, false, nat_le, List, ◌∷◌, ◌++◌, [], length, take, drop, Option, Some, None}
-
--- what a sink over a buffer says: which loan of a buffer it is, for how many octets that has room,
--- and the octets that were written
-abbrev pub written_in : ℕ → List ℕ → ℕ → List ℕ
-written_in name buffer count = (name ∷ length buffer ∷ []) ++ take count buffer
+use Rattle.std.specs.Prelude.{◌≡◌, ℕ, ◌^◌, ◌<◌, Bool, true, false, nat_le, List, ◌++◌, length, take, drop, Option, Some, None}
 
 -- whether there is as much room as is needed
 abbrev pub has_room : Option ℕ → ℕ → Bool
@@ -19,6 +14,11 @@ Fills (Some count) buffer items = (count ≡ length items) × (take count buffer
 -- an array to whose start these were written, and which is as it was behind them
 abbrev pub over : {T : Type 0} → List T → List T → List T
 over items array = items ++ drop (length items) array
+
+-- of `all` things `count` were written, and whether a thing was dropped is known
+pub record IsAll (is_short : Bool) (count all : ℕ) : Type 0 where
+  pub cut : is_short ≡ true → count < all
+  pub whole : is_short ≡ false → count ≡ all
 
 -- the most octets that are taken at a time
 abbrev pub most_taken : ℕ

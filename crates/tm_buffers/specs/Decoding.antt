@@ -7,12 +7,13 @@ use Rattle.tm_inner.specs.Handing.{AreHanded, AreHandedDue}
 use Rattle.tm_inner.specs.InnerDecoding.{InnerDecoding}
 use Rattle.tm_inner.specs.InnerWindows.{AreFurtherWindows, AreLastWindows}
 use Rattle.tm_inner.specs.Phase.{IsChosen, held_bits}
-use Rattle.tm_inner.specs.Receiving.{Hands, HasHanded}
+use Rattle.tm_inner.specs.Receiving.{HasHanded}
 use Rattle.tm_inner.specs.declared.window.Window.{Window}
 use Rattle.tm_viterbi.specs.Clean.{kept_bits}
 use Rattle.tm_viterbi.specs.WindowBlock.{WindowBlock}
 use Rattle.tm_buffers.specs.Buffer.{Fills, most_taken}
 use Rattle.tm_buffers.specs.Windows.{HasWrittenWindows}
+use Rattle.tm_buffers.specs.declared.bits.BufferBits.{BufferBits}
 use Rattle.tm_buffers.specs.declared.items.Written.{Written}
 
 -- For how many bits there has to be room where `count` more octets are given, or at the end, with a
@@ -34,29 +35,31 @@ pub record BitsAt : Type 0 where
 abbrev pub bits_at : ℕ → List ℕ → BitsAt
 bits_at count buffer = record { count = count; buffer = buffer }
 
--- the bits that a block keeps follow the others, where there is room for them
-pub record KeepsBits (size : ℕ) (bits : List ℕ) (block : WindowBlock) (size_now : ℕ)
-    (bits_now : List ℕ) : Type 0 where
-  pub same : size_now ≡ size
-  pub kept : length bits + length (take block.kept block.bits) ≤ size
-      → bits_now ≡ bits ++ take block.kept block.bits
+-- it has this size, and these bits stand there, where there is room for them
+pub record HoldsBits (size : ℕ) (bits : List ℕ) (at : BitsAt) : Type 0 where
+  pub long : length at.buffer ≡ size
+  pub hold : length bits ≤ size → take at.count at.buffer ≡ bits
 
+-- the bits that a block keeps follow the others
 abbrev pub keeps_bits : BitsAt → WindowBlock → BitsAt → Type 0
-keeps_bits a block b = KeepsBits (length a.buffer) (take a.count a.buffer) block
-    (length b.buffer) (take b.count b.buffer)
+keeps_bits a block b = (size : ℕ) (bits : List ℕ) → HoldsBits size bits a
+    → HoldsBits size (bits ++ take block.kept block.bits) b
 
 -- a phase writes no bit
 abbrev pub keeps_handed : BitsAt → Handed WindowBlock → BitsAt → Type 0
 keeps_handed = on_handed (λ a skip cost b. b ≡ a) keeps_bits
 
--- given further octets, a decoder goes on, and the bits that its further blocks keep were written
--- after those before
-abbrev pub WritesBits : (InnerDecoding → List ℕ → List (Handed WindowBlock) → Type 0)
-    → InnerDecoding → InnerDecoding → (octets : List ℕ) → ℕ → List ℕ → ℕ → List ℕ → Type 0
-WritesBits Stands before now octets count buffer count_now buffer_now =
-    Hands keeps_handed Stands before now (bits_at count buffer) (bits_at count_now buffer_now) octets
+-- so of a buffer that is lent, and of a watch behind it, each by what is lent
+abbrev pub writes : {W : Type 0} → BufferBits W → Handed WindowBlock → BufferBits W → Type 0
+writes = on_handed (λ a skip cost b. b ≡ a) (λ a block b. (b.bits.ghost_name ≡ a.bits.ghost_name)
+    × keeps_bits (bits_at a.count a.bits.now) block (bits_at b.count b.bits.now))
 
--- at the end those that the last blocks keep
+abbrev pub watches : {W : Type 0} → (W → Window → W → Type 0) → BufferBits W → Window → BufferBits W
+    → Type 0
+watches took a window b = (b.watch.ghost_name ≡ a.watch.ghost_name)
+    × took a.watch.now window b.watch.now
+
+-- at the end of its octets, the bits that the last blocks keep were written
 pub record WritesLastBits (before now : InnerDecoding) (buffer : List ℕ) (count_now : ℕ)
     (buffer_now : List ℕ) : Type 0 where
   pub last : List (Handed WindowBlock)
@@ -89,19 +92,19 @@ pub record DecodesLast (decoder now : InnerDecoding) (given : List ℕ)
   pub fills : Fills count bits (kept_bits (items_of last))
   pub chosen : IsChosen decoder.config given now.chosen
 
--- what is said of the windows that are due with further octets was written to an array, beside
--- `bits` bits
-pub record DecodesWindows (c : Configuration) (given octets : List ℕ) (array array_now : List Window)
-    (bits : Option ℕ) (said : Written) : Type 0 where
+-- what is said of windows of which this is true was written to an array, beside `bits` bits
+pub record WritesAll (Are : List Window → Type 0) (array array_now : List Window) (bits : Option ℕ)
+    (said : Written) : Type 0 where
   pub windows : List Window
-  pub are : AreFurtherWindows c given octets windows
+  pub are : Are windows
   pub written : HasWrittenWindows windows array array_now (length windows)
   pub counts : said ≡ bits_written (unwrap_or bits 0) (length windows)
 
--- and at the end of the windows that are left
-pub record DecodesLastWindows (c : Configuration) (given : List ℕ) (array array_now : List Window)
-    (bits : Option ℕ) (said : Written) : Type 0 where
-  pub windows : List Window
-  pub are : AreLastWindows c given windows
-  pub written : HasWrittenWindows windows array array_now (length windows)
-  pub counts : said ≡ bits_written (unwrap_or bits 0) (length windows)
+-- so of the windows that are due with further octets, and at the end of those that are left
+abbrev pub DecodesWindows : Configuration → (given octets : List ℕ)
+    → (array array_now : List Window) → Option ℕ → Written → Type 0
+DecodesWindows c given octets = WritesAll (AreFurtherWindows c given octets)
+
+abbrev pub DecodesLastWindows : Configuration → (given : List ℕ)
+    → (array array_now : List Window) → Option ℕ → Written → Type 0
+DecodesLastWindows c given = WritesAll (AreLastWindows c given)

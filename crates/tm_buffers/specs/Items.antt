@@ -1,54 +1,11 @@
 -- Items that are written to buffers.
-use Rattle.std.specs.Prelude.{◌≡◌, ◌⊎◌, ℕ, suc, ◌<◌, ◌≤◌, ◌==◌, Bool, true, false, if◌then◌else◌, List, [], ◌∷◌, ◌++◌, length, take, drop, Option, Some, None}
+use Rattle.std.specs.Prelude.{◌≡◌, ◌⊎◌, ℕ, suc, ◌<◌, ◌≤◌, ◌==◌, if◌then◌else◌, List, length, take, Option, Some, None}
 use Rattle.tm_channel.specs.Items.{ItemValue, frames_of}
-use Rattle.tm_buffers.specs.Buffer.{over}
-use Rattle.tm_buffers.specs.Reports.{AreReports, IsReport}
+use Rattle.tm_buffers.specs.Buffer.{IsAll, over}
+use Rattle.tm_buffers.specs.Reports.{AreReports}
 use Rattle.tm_buffers.specs.declared.items.BufferItems.{BufferItems}
 use Rattle.tm_buffers.specs.declared.items.Report.{Report}
 use Rattle.tm_buffers.specs.declared.items.Written.{Written}
-
--- what was written, what stands behind it in the two arrays, and whether an item was dropped
-pub record Collected : Type 0 where
-  pub frames : List ℕ
-  pub frames_behind : List ℕ
-  pub reports : List Report
-  pub reports_behind : List Report
-  pub is_short : Bool
-
-abbrev pub collected : BufferItems → Collected
-collected b = record {
-  frames = take b.octets b.frames.now;
-  frames_behind = drop b.octets b.frames.now;
-  reports = take b.count b.reports.now;
-  reports_behind = drop b.count b.reports.now;
-  is_short = b.is_short;
-}
-
--- nothing was written yet
-abbrev pub none_yet : List ℕ → List Report → Collected
-none_yet frames reports = record {
-  frames = [];
-  frames_behind = frames;
-  reports = [];
-  reports_behind = reports;
-  is_short = false;
-}
-
--- none was dropped, and there is room for one more item
-abbrev pub Fits : Collected → ItemValue → Type 0
-Fits c item = (c.is_short ≡ false) × (0 < length c.reports_behind)
-    × (length item.frame ≤ length c.frames_behind)
-
--- one more item was written where it fits, and else dropped, which leaves all as it was
-pub record Collects (before : Collected) (item : ItemValue) (now : Collected) : Type 0 where
-  pub fits : Fits before item → now.is_short ≡ false
-  pub kept : now.is_short ≡ false → Fits before item
-      × ((report : Report) × IsReport (length before.frames) item report
-      × (now.reports ≡ before.reports ++ report ∷ []))
-      × (now.reports_behind ≡ drop 1 before.reports_behind)
-      × (now.frames ≡ before.frames ++ item.frame)
-      × (now.frames_behind ≡ drop (length item.frame) before.frames_behind)
-  pub dropped : now.is_short ≡ true → now ≡ record before { is_short = true }
 
 -- Of these items the first ones were written, as many as `written` says: their reports and their
 -- frames, and no others, stand at the start of two arrays, which are as they were behind them. They
@@ -67,3 +24,15 @@ pub record HasWritten (count : Option ℕ) (items : List ItemValue) (frames fram
   pub windows : written.windows ≡ 0
   pub full : written.reports < length items → (length reports ≤ written.reports)
       ⊎ (length frames < length (frames_of (take (suc written.reports) items)))
+
+-- So stand they in arrays that were lent by these names, and it is known whether these are all.
+pub record HasCollected (lent lent_reports : ℕ) (frames : List ℕ) (reports : List Report)
+    (items : List ItemValue) (b : BufferItems) : Type 0 where
+  pub loan : b.frames.ghost_name ≡ lent
+  pub reports_loan : b.reports.ghost_name ≡ lent_reports
+  pub long : length b.frames.now ≡ length frames
+  pub reports_long : length b.reports.now ≡ length reports
+  pub written : HasWritten (if b.count == length items then Some b.count else None) items frames
+      b.frames.now reports b.reports.now
+      (record { reports = b.count; octets = b.octets; windows = 0 })
+  pub is_all : IsAll b.is_short b.count (length items)

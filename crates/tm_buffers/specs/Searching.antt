@@ -1,5 +1,6 @@
 -- Bits that a search takes up to the one with which a place is found.
-use Rattle.std.specs.Prelude.{◌≡◌, ℕ, ◌-◌, ◌==◌, ◌<◌, ◌≤◌, Bool, not, List, [], ◌∷◌, ◌++◌, length, map, take, drop, Option, Some, None}
+use Rattle.std.specs.Prelude.{◌≡◌, ℕ, ◌+◌, ◌-◌, ◌==◌, ◌<◌, ◌≤◌, Bool, not, List, [], ◌∷◌, ◌++◌, length, map, take, drop, Option, Some, None}
+use Rattle.tm_sync.specs.Bits.{bits_bound}
 use Rattle.tm_sync.specs.declared.found.Found.{Found}
 use Rattle.tm_sync.specs.Places.{Rules, places}
 use Rattle.tm_sync.specs.Searching.{Searching, SearchStandsFor, waiting_of}
@@ -27,3 +28,14 @@ Finds search room bits found (Some f) = SearchStandsFor search room bits (found 
 abbrev pub NoneSooner : Rules → List Bool → List Found → List Bool → ℕ → ℕ → Type 0
 NoneSooner rules given found bits from end = (n : ℕ) → from ≤ n → n < end
     → places rules (given ++ span from n bits) ≡ found
+
+-- A search takes bits of a list from one index on up to another, and goes on to them; with fewer of
+-- them no further place is found.
+pub record Takes (before now : Searching) (room room_now : List ℕ) (bits : List Bool)
+    (from end : ℕ) : Type 0 where
+  pub rules : now.rules ≡ before.rules
+  pub order : from ≤ end
+  pub goes_on : (given : List Bool) (found : List Found) → length given + (end - from) ≤ bits_bound
+      → SearchStandsFor before room given found
+      → SearchStandsFor now room_now (given ++ span from end bits) found
+      × NoneSooner before.rules given found bits from end

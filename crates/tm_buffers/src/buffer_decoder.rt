@@ -1,20 +1,20 @@
 // Soft octets in, bits out into a buffer.
-ghost use Rattle.std.specs.Prelude.{◌≡◌, ℕ, ◌+◌, ◌^◌, ◌<◌, ◌≤◌, ◌⊎◌, ◌++◌, List, [], length, take, None, true, false, IfOk, IfSome};
+ghost use Rattle.std.specs.Prelude.{◌≡◌, ℕ, ◌+◌, ◌^◌, ◌<◌, ◌≤◌, ◌⊎◌, ◌++◌, List, [], length, None, true, false, IfOk, IfSome};
 ghost use Rattle.tm_base.specs.Handed.{Handed};
 ghost use Rattle.tm_base.specs.Takers.{HandedOver};
 ghost use Rattle.tm_config.specs.Accepted.{IsAccepted};
-ghost use Rattle.tm_inner.specs.Handing.{IsKept, ReadsDue};
-ghost use Rattle.tm_inner.specs.InnerDecoding.{IsDrained, IsSameDecoder, held_in, ready_in, unread};
+ghost use Rattle.tm_inner.specs.Handing.{ReadsDue};
 ghost use Rattle.tm_inner.specs.InnerWindows.{AreTold, AreWindows};
 ghost use Rattle.tm_inner.specs.Phase.{IsChosenSoFar};
-ghost use Rattle.tm_inner.specs.Receiving.{Hands, HasHanded, HasRead};
+ghost use Rattle.tm_inner.specs.Receiving.{Hands};
 ghost use Rattle.tm_inner.specs.declared.window.Window.{Window};
 ghost use Rattle.tm_viterbi.specs.WindowBlock.{WindowBlock};
 ghost use Rattle.tm_viterbi.specs.WindowSizes.{stream_bound};
 ghost use Rattle.tm_buffers.specs.Buffer.{has_room};
-ghost use Rattle.tm_buffers.specs.Decoding.{Decodes, DecodesLast, DecodesLastWindows, DecodesWindows, IsDecoding, WritesBits, WritesLastBits, bits_at, bits_room, bits_written, keeps_bits, keeps_handed};
+ghost use Rattle.tm_buffers.specs.Decoding.{Decodes, DecodesLast, DecodesLastWindows, DecodesWindows, IsDecoding, WritesLastBits, bits_at, bits_room, bits_written, keeps_handed};
 ghost use Rattle.tm_buffers.specs.Windows.{windows_room};
 
+use crate::bits::BufferBits;
 use crate::items::Written;
 use crate::room::{MOST, has_room, windows_room};
 use crate::windows::BufferWindows;
@@ -22,8 +22,8 @@ use std::alloc::Global;
 use std::marker::Model;
 use tm_base::NoMemory;
 use tm_config::Config;
-use tm_inner::{InnerDecoder, NoWatch, Window, WindowWatch, held_bits, watch_ready};
-use tm_windows::{Alone, Chosen};
+use tm_inner::{InnerDecoder, NoWatch, Window, WindowWatch, held_bits, watch_due, watch_last};
+use tm_windows::Chosen;
 
 /// A decoder of the inner code whose bits go to a buffer.
 #[derive(Drop)]
@@ -79,7 +79,7 @@ impl BufferDecoder {
         if self.has_stopped || !has_room(bits_room(&self.config, octets.len()), bits.len()) {
             return None;
         }
-        Some(take(&mut self.inner, octets, bits, &mut NoWatch))
+        Some(decode_due(&mut self.inner, octets, bits, &mut NoWatch))
     }
 
     /// Does what `feed` does, and writes what is said of the windows that are decoded to the start of `windows`.
@@ -113,9 +113,8 @@ impl BufferDecoder {
             return None;
         }
         let mut watch = BufferWindows::over(windows);
-        let count = take(&mut self.inner, octets, bits, &mut watch);
-        let BufferWindows { count: told, .. } = watch;
-        *written = bits_written(count, told);
+        let count = decode_due(&mut self.inner, octets, bits, &mut watch);
+        *written = bits_written(count, watch.count);
         Some(count)
     }
 
@@ -166,8 +165,7 @@ impl BufferDecoder {
         let mut watch = BufferWindows::over(windows);
         self.has_stopped = true;
         let count = end(&mut self.inner, bits, &mut watch);
-        let BufferWindows { count: told, .. } = watch;
-        *written = bits_written(count, told);
+        *written = bits_written(count, watch.count);
         Some(count)
     }
 
@@ -181,25 +179,8 @@ impl BufferDecoder {
     }
 }
 
-// Puts octets in, those that are below 2^60 with those before, and writes the bits that are due with them, as far as
-// there is room. Returns how many were written.
-fn take<W: WindowWatch>(
-    inner: &mut InnerDecoder,
-    octets: &[u8],
-    bits: &mut [u8],
-    watch: &mut W,
-) -> usize
-    requires { inner.old.has_ended ≡ false }
-    ensures kept { (inner.new.config ≡ inner.old.config) × (inner.new.has_ended ≡ false) }
-    ensures within { (result ≤ length bits.old) × (length bits.new ≡ length bits.old) }
-    ensures writes { WritesBits HasHanded inner.old inner.new octets.now 0 bits.old result bits.new }
-    ensures watched { Hands W.took AreTold inner.old inner.new watch.old watch.new octets.now }
-{
-    let within = inner.within(octets.len());
-    decode_due(inner, &octets[..within], bits, watch)
-}
-
-// Puts octets in, decodes all windows that are closed, and writes their bits, from the start on. Returns how many.
+// Puts octets in, decodes all windows that are closed, and writes their bits, from the start on, as far as there is
+// room. Returns how many.
 fn decode_due<W: WindowWatch>(
     inner: &mut InnerDecoder,
     octets: &[u8],
@@ -211,59 +192,14 @@ fn decode_due<W: WindowWatch>(
     ensures read { ReadsDue keeps_handed inner.old inner.new (bits_at 0 bits.old) (bits_at result bits.new) octets.now }
     ensures watched { Hands W.took AreTold inner.old inner.new watch.old watch.new octets.now }
 {
-    let mut done = 0;
-    let mut count = 0;
-    'runs: loop {
-        let run = decode_run(inner, bits, count, watch);
-        count = run.1;
-        if run.0 > 0 {
-            continue;
-        }
-        if done == octets.len() {
-            return count;
-        }
-        done += inner.fill(&octets[done..]);
-    }
-}
-
-// Decodes the next run of windows, and writes their bits. Returns how many windows, and how many bits stand there.
-// The phase is taken as read where it is chosen: `chosen` tells it.
-fn decode_run<W: WindowWatch>(
-    inner: &mut InnerDecoder,
-    bits: &mut [u8],
-    count: usize,
-    watch: &mut W,
-) -> (usize, usize)
-    requires { count ≤ length bits.old }
-    ensures same { IsSameDecoder inner.old inner.new }
-    ensures drained { (result.0 ≡ 0 → IsDrained inner.new.queue) × (unread inner.new ≡ None) }
-    ensures moved { length (held_in inner.new.queue) ≤ length (held_in inner.old.queue) }
-    ensures shorter { 0 < result.0 → length (held_in inner.new.queue) < length (held_in inner.old.queue) }
-    ensures within { (result.1 ≤ length bits.old) × (length bits.new ≡ length bits.old) }
-    ensures writes { WritesBits HasRead inner.old inner.new [] count bits.old result.1 bits.new }
-    ensures watched { Hands W.took AreTold inner.old inner.new watch.old watch.new [] }
-    ensures chosen { (given : List ℕ) (done : List (Handed WindowBlock)) → HasRead inner.old given done
-        → IsKept inner.new given }
-{
-    let windows = inner.decode(&Alone);
-    let _phase = inner.new_phase();
-    watch_ready(inner, watch);
-    (windows, copy_ready(inner, bits, count))
-}
-
-// Writes the bits that the ready blocks keep, from number `count` on, as far as there is room. Returns how many
-// stand there with those before.
-fn copy_ready(inner: &InnerDecoder, bits: &mut [u8], count: usize) -> usize
-    requires { count ≤ length bits.old }
-    ensures within { (result ≤ length bits.old) × (length bits.new ≡ length bits.old) }
-    ensures copied { HandedOver keeps_bits (bits_at count bits.old) (ready_in inner.now.queue)
-        (bits_at result bits.new) }
-{
-    let mut end = count;
-    for index in 0..inner.ready() {
-        end = put_bits(inner.kept_bits(index), bits, end);
-    }
-    end
+    let mut written = BufferBits {
+        bits,
+        count: 0,
+        watch,
+    };
+    watch_due(inner, octets, &mut written);
+    let BufferBits { count, .. } = written;
+    count
 }
 
 // Says that no octets come any more, and writes the bits that are left. Returns how many.
@@ -275,26 +211,14 @@ fn end<W: WindowWatch>(inner: &mut InnerDecoder, bits: &mut [u8], watch: &mut W)
         × ((given : List ℕ) (done : List Window) → AreTold inner.old given done
         → AreWindows inner.old.config given (done ++ last)) }
 {
-    inner.settle();
-    let count = decode_due(inner, &[], bits, watch);
-    inner.last();
-    watch_ready(inner, watch);
-    copy_ready(inner, bits, count)
-}
-
-// Writes bits after the first `count` ones of a buffer, where there is room for all. Returns how many stand there
-// then.
-fn put_bits(kept: &[u8], bits: &mut [u8], count: usize) -> usize
-    requires { count ≤ length bits.old }
-    ensures within { (result ≤ length bits.old) × (length bits.new ≡ length bits.old) }
-    ensures put { count + length kept.now ≤ length bits.old → take result bits.new ≡ take count bits.old ++ kept.now }
-{
-    if kept.len() > bits.len() - count {
-        return count;
-    }
-    let end = count + kept.len();
-    bits[count..end].copy_from_slice(kept);
-    end
+    let mut written = BufferBits {
+        bits,
+        count: 0,
+        watch,
+    };
+    watch_last(inner, &mut written);
+    let BufferBits { count, .. } = written;
+    count
 }
 
 // What is reported of this many bits and windows.

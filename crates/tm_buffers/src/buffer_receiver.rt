@@ -107,13 +107,8 @@ impl BufferReceiver {
     {
         let mut watch = BufferWindows::over(windows);
         let count = self.take(octets, frames, reports, &mut watch, written);
-        let BufferWindows {
-            count: told,
-            is_short,
-            ..
-        } = watch;
-        written.windows = told as u64;
-        counted(count, is_short)
+        written.windows = watch.count as u64;
+        counted(count, watch.is_short)
     }
 
     // Takes the next octets, and writes the items that are due with them.
@@ -131,32 +126,22 @@ impl BufferReceiver {
             → length given + length octets.now < stream_bound
             → IsReceiving self.old given done
             → Receives self.old self.new given octets.now done result frames.old frames.new reports.old reports.new
-            written.new }
-        ensures watched { (given : List ℕ) (done : List (Handed ItemValue))
-            → length given + length octets.now < stream_bound
-            → IsReceiving self.old given done
-            → (windows : List Window) × HandedOver W.took watch.old windows watch.new
-            × AreFurtherWindows self.old.config given octets.now windows }
+            written.new × ((windows : List Window) × HandedOver W.took watch.old windows watch.new
+            × AreFurtherWindows self.old.config given octets.now windows) }
         ensures accepted { IsAccepted self.old.config }
     {
         let most = reports.len();
         let mut taker = BufferItems::over(frames, reports);
         let went = self.receiver.receive(&Alone, octets, watch, &mut taker);
-        let BufferItems {
-            count,
-            octets: size,
-            is_short,
-            ..
-        } = taker;
         *written = Written {
-            reports: count as u64,
-            octets: size as u64,
+            reports: taker.count as u64,
+            octets: taker.octets as u64,
             windows: 0,
         };
         if !went {
             return None;
         }
-        counted(Some(count.min(most)), is_short)
+        counted(Some(taker.count.min(most)), taker.is_short)
     }
 
     /// Writes what is left, as `feed` does, and reports what all octets came to. It is called once, at the end of the
@@ -196,13 +181,8 @@ impl BufferReceiver {
     {
         let mut watch = BufferWindows::over(windows);
         let count = self.take_last(frames, reports, &mut watch, totals, written);
-        let BufferWindows {
-            count: told,
-            is_short,
-            ..
-        } = watch;
-        written.windows = told as u64;
-        counted(count, is_short)
+        written.windows = watch.count as u64;
+        counted(count, watch.is_short)
     }
 
     // Writes the items that are left, and reports what all octets came to.
@@ -218,30 +198,22 @@ impl BufferReceiver {
         ensures within { IfSome result (λ count. count ≤ length reports.old) }
         ensures received { (given : List ℕ) (done : List (Handed ItemValue)) → IsReceiving self.old given done
             → ReceivesLast self.old self.new given done result totals.new frames.old frames.new reports.old reports.new
-            written.new }
-        ensures watched { (given : List ℕ) (done : List (Handed ItemValue)) → IsReceiving self.old given done
-            → (windows : List Window) × HandedOver W.took watch.old windows watch.new
-            × AreLastWindows self.old.config given windows }
+            written.new × ((windows : List Window) × HandedOver W.took watch.old windows watch.new
+            × AreLastWindows self.old.config given windows) }
         ensures accepted { IsAccepted self.old.config }
     {
         let most = reports.len();
         let mut taker = BufferItems::over(frames, reports);
         let ended = self.receiver.end(&Alone, watch, &mut taker);
-        let BufferItems {
-            count,
-            octets: size,
-            is_short,
-            ..
-        } = taker;
         *written = Written {
-            reports: count as u64,
-            octets: size as u64,
+            reports: taker.count as u64,
+            octets: taker.octets as u64,
             windows: 0,
         };
         match ended {
             Some(received) => {
                 *totals = received;
-                counted(Some(count.min(most)), is_short)
+                counted(Some(taker.count.min(most)), taker.is_short)
             }
             None => None,
         }

@@ -1,91 +1,58 @@
 // Frames in, symbols out into a buffer.
-ghost use Rattle.std.specs.Prelude.{◌≡◌, ℕ, ◌^◌, ◌+◌, ◌<◌, ◌≤◌, List, [], ◌++◌, length, None, true, false, IfSome};
+ghost use Rattle.std.specs.Prelude.{◌≡◌, ℕ, ◌^◌, ◌+◌, ◌*◌, ◌/◌, ◌≤◌, List, ◌++◌, length, take, None, true, false, IfSome};
 ghost use Rattle.tm_conv.specs.Octets.{most_octet_symbols};
 ghost use Rattle.tm_base.specs.Pieces.{further};
 ghost use Rattle.tm_config.specs.Accepted.{IsAccepted};
-ghost use Rattle.tm_codeblock.specs.Frames.{after_frames};
-ghost use Rattle.tm_codeblock.specs.Cadu.{longest_cadu, unit_size};
+ghost use Rattle.tm_inner.specs.Sending.{most_symbols};
+ghost use Rattle.tm_codeblock.specs.Cadu.{unit_size};
+ghost use Rattle.tm_channel.specs.Sending.{Makes, SenderStandsFor};
 ghost use Rattle.tm_channel.specs.Sent.{sent};
 ghost use Rattle.tm_buffers.specs.Buffer.{Fills, has_room};
-ghost use Rattle.tm_buffers.specs.Sending.{IsSending, most_symbols, symbols_room};
+ghost use Rattle.tm_buffers.specs.Sending.{symbols_room};
 
 use crate::room::{MOST, has_room};
-use crate::sink::BufferSink;
-use std::marker::Model;
-use tm_channel::Sender;
+use tm_channel::{ROOM, Sender};
+use tm_codeblock::codeblock_size;
 use tm_config::Config;
 
-/// A sender whose symbols go to a buffer.
-#[derive(Drop)]
-pub struct BufferSender {
-    config: Config,
-    sender: Sender,
+/// Takes the next octets of the frames, and writes the symbols of each frame that is whole now to the start of
+/// `symbols`. Returns how many these are; or None where `symbols` has not the room, and takes nothing then. What
+/// follows the symbols is left open.
+pub fn push_symbols(sender: &mut Sender, octets: &[u8], symbols: &mut [u8]) -> Option<usize>
+    ensures config { sender.new.config ≡ sender.old.config }
+    ensures within { IfSome result (λ count. count ≤ length symbols.old) }
+    ensures refused { has_room (symbols_room sender.old.config (length octets.now)) (length symbols.old) ≡ false
+        → (result ≡ None) × (sender.new ≡ sender.old) × (symbols.new ≡ symbols.old) }
+    ensures pushed { (given : List ℕ) → SenderStandsFor sender.old given
+        → has_room (symbols_room sender.old.config (length octets.now)) (length symbols.old) ≡ true
+        → SenderStandsFor sender.new (given ++ octets.now)
+        × Fills result symbols.new (further (sent sender.old.config) given octets.now) }
+{
+    if !has_room(symbols_room(sender.config(), octets.len()), symbols.len()) {
+        return None;
+    }
+    Some(put_symbols(sender, octets, symbols))
 }
 
-impl Model for BufferSender {
-    ghost use Rattle.std.specs.Prelude.{◌≡◌};
-    ghost use Rattle.tm_channel.specs.Sending.{Sending};
-
-    ghost Value = { Sending };
-
-    ghost view = { λ s. s.sender };
-
-    ghost invariant = { λ s. s.sender.config ≡ s.config };
-}
-
-impl BufferSender {
-    /// A new sender.
-    pub fn new(config: Config) -> BufferSender
-        ensures config { result.config ≡ config }
-        ensures fresh { IsSending result [] }
-    {
-        BufferSender {
-            config,
-            sender: Sender::new(config),
-        }
+// Puts the symbols of each frame that is whole with the next octets at the start of a buffer. Returns how many these
+// are.
+fn put_symbols(sender: &mut Sender, octets: &[u8], symbols: &mut [u8]) -> usize
+    requires { (length octets.now / sender.old.config.frame_length + 1) * unit_size sender.old.config
+        * most_symbols sender.old.config ≤ length symbols.old }
+    ensures within { result ≤ length symbols.old }
+    ensures made { Makes sender.old sender.new octets.now (take result symbols.new) }
+{
+    let mut room = [0; ROOM];
+    let mut done = 0;
+    let mut count = 0;
+    while done < octets.len() {
+        let (taken, made) = sender.symbols(&octets[done..], &mut room);
+        let end = count + made;
+        symbols[count..end].copy_from_slice(&room[..made]);
+        count = end;
+        done += taken;
     }
-
-    /// Takes the next octets of the frames, and writes the symbols of each frame that is whole now to the start of
-    /// `symbols`. Returns how many these are; or None where `symbols` has not the room, and takes nothing then. What
-    /// follows the symbols is left open.
-    pub fn push(&mut self, octets: &[u8], symbols: &mut [u8]) -> Option<usize>
-        ensures config { self.new.config ≡ self.old.config }
-        ensures within { IfSome result (λ count. count ≤ length symbols.old) }
-        ensures refused { has_room (symbols_room self.old.config (length octets.now)) (length symbols.old) ≡ false
-            → (result ≡ None) × (self.new ≡ self.old) × (symbols.new ≡ symbols.old) }
-        ensures pushed { (given : List ℕ) → IsSending self.old given
-            → has_room (symbols_room self.old.config (length octets.now)) (length symbols.old) ≡ true
-            → IsSending self.new (given ++ octets.now)
-            × Fills result symbols.new (further (sent self.old.config) given octets.now) }
-    {
-        if !has_room(symbols_room(&self.config, octets.len()), symbols.len()) {
-            return None;
-        }
-        let most = symbols.len();
-        let mut sink = BufferSink {
-            buffer: symbols,
-            count: 0,
-            is_full: false,
-        };
-        let pushed = self.sender.push(octets, &mut sink);
-        let BufferSink {
-            buffer: _,
-            count,
-            is_full: _,
-        } = sink;
-        match pushed {
-            Ok(()) => Some(count.min(most)),
-            Err(_) => None,
-        }
-    }
-
-    /// How many octets follow the last whole frame.
-    pub fn left_over(&self) -> u32
-        ensures { (given : List ℕ) → IsSending self.now given
-            → result ≡ length (after_frames self.now.config.frame_length given) }
-    {
-        self.sender.left_over()
-    }
+    count
 }
 
 /// For how many symbols a buffer has to have room where `count` more octets are given: one more than come of them at
@@ -95,25 +62,16 @@ pub fn symbols_room(config: &Config, count: usize) -> Option<usize>
     ensures most { IfSome result (λ room. room ≤ 2 ^ 56) }
     ensures accepted { IsAccepted config.now }
 {
-    let length = config.length();
+    let length = config.length() as usize;
     if count > MOST {
         return None;
     }
-    let units = count as u64 / length + 1;
-    let symbols = units * unit_length(config) * most_symbols(config);
-    Some(symbols as usize + 1)
-}
-
-// The octets of a unit: four of the marker, and those of the codeblock.
-fn unit_length(config: &Config) -> u64
-    ensures value { result ≡ unit_size config.now }
-    ensures most { result ≤ longest_cadu }
-{
-    config.depth() * config.word_length() + 4
+    let octets = (count / length + 1) * (codeblock_size(config) + 4);
+    Some(octets * most_symbols(config) + 1)
 }
 
 // How many symbols an octet comes to at most.
-fn most_symbols(config: &Config) -> u64
+fn most_symbols(config: &Config) -> usize
     ensures value { result ≡ most_symbols config.now }
     ensures most { result ≤ most_octet_symbols }
 {

@@ -58,14 +58,12 @@ pub struct BufferItems<'a, 'b> {
 }
 
 impl<'a, 'b> BufferItems<'a, 'b> {
-    ghost use Rattle.std.specs.Prelude.{◌≡◌};
-    ghost use Rattle.tm_buffers.specs.Items.{collected, none_yet};
+    ghost use Rattle.std.specs.Prelude.{[]};
+    ghost use Rattle.tm_buffers.specs.Items.{HasCollected};
 
     /// No items yet.
     pub fn over(frames: &'a mut [u8], reports: &'b mut [Report]) -> BufferItems<'a, 'b>
-        ensures frames_loan { result.frames.ghost_name ≡ frames.entry.ghost_name }
-        ensures reports_loan { result.reports.ghost_name ≡ reports.entry.ghost_name }
-        ensures none { collected result ≡ none_yet frames.old reports.old }
+        ensures { HasCollected frames.entry.ghost_name reports.entry.ghost_name frames.old reports.old [] result }
     {
         BufferItems {
             frames,
@@ -78,12 +76,14 @@ impl<'a, 'b> BufferItems<'a, 'b> {
 }
 
 impl<'a, 'b> ItemWatch for BufferItems<'a, 'b> {
-    ghost use Rattle.std.specs.Prelude.{◌≡◌};
-    ghost use Rattle.tm_buffers.specs.Items.{Collects, collected};
+    ghost use Rattle.std.specs.Prelude.{◌≡◌, ℕ, List, [], ◌∷◌, ◌++◌};
+    ghost use Rattle.tm_channel.specs.Items.{ItemValue};
+    ghost use Rattle.tm_buffers.specs.Items.{HasCollected};
+    ghost use Rattle.tm_buffers.specs.declared.items.Report.{Report};
 
-    ghost took = { λ a item b. (b.frames.ghost_name ≡ a.frames.ghost_name)
-        × (b.reports.ghost_name ≡ a.reports.ghost_name)
-        × Collects (collected a) item (collected b) };
+    ghost took = { λ a item b. (lent lent_reports : ℕ) (frames : List ℕ) (reports : List Report)
+        (items : List ItemValue) → HasCollected lent lent_reports frames reports items a
+        → HasCollected lent lent_reports frames reports (items ++ item ∷ []) b };
 
     ghost took_phase = { λ a skip cost b. b ≡ a };
 

@@ -3,18 +3,18 @@
 //! what takes memory is opened.
 #![tactic(auto)]
 
+mod bits;
 mod buffer_decoder;
 mod buffer_receiver;
 mod buffer_sender;
 mod items;
 mod room;
 mod searching;
-mod sink;
 mod windows;
 
 pub use buffer_decoder::{BufferDecoder, bits_room};
 pub use buffer_receiver::{BufferReceiver, items_room};
-pub use buffer_sender::{BufferSender, symbols_room};
+pub use buffer_sender::{push_symbols, symbols_room};
 pub use items::{Report, Written};
 pub use room::windows_room;
 pub use searching::{find_in_bits, find_in_octets};

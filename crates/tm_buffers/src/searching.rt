@@ -4,7 +4,7 @@ ghost use Rattle.tm_base.specs.Bits.{bits_of};
 ghost use Rattle.tm_sync.specs.declared.found.Found.{Found};
 ghost use Rattle.tm_sync.specs.Searching.{SearchStandsFor, is_pending};
 ghost use Rattle.tm_sync.specs.Bits.{bits_bound};
-ghost use Rattle.tm_buffers.specs.Searching.{Finds, NoneSooner, bits_in, span};
+ghost use Rattle.tm_buffers.specs.Searching.{Finds, NoneSooner, Takes, bits_in, span};
 ghost use Rattle.tm_buffers.specs.Buffer.{most_taken};
 
 use tm_sync::{Found, Search};
@@ -78,14 +78,9 @@ fn take_some(search: &mut Search, room: &mut [u8], block_bits: u32, octets: &[u8
     requires few { length octets.now ≤ most_taken }
     requires from { from < 8 * length octets.now }
     requires free { is_pending search.old ≡ false }
-    ensures rules { search.new.rules ≡ search.old.rules }
     ensures some { 0 < result }
     ensures within { from + result ≤ 8 * length octets.now }
-    ensures takes { (given : List Bool) (found : List Found) → length given + result ≤ bits_bound
-        → SearchStandsFor search.old room.old given found
-        → SearchStandsFor search.new room.new (given ++ span from (from + result) (bits_of octets.now)) found }
-    ensures none_sooner { (given : List Bool) (found : List Found) → SearchStandsFor search.old room.old given found
-        → NoneSooner search.old.rules given found (bits_of octets.now) from (from + result) }
+    ensures takes { Takes search.old search.new room.old room.new (bits_of octets.now) from (from + result) }
 {
     let first = (from / 8) as usize;
     let whole = whole_octets(search.inside(), block_bits, from % 8).min(octets.len() - first);

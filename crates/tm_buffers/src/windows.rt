@@ -16,13 +16,12 @@ pub struct BufferWindows<'a> {
 }
 
 impl<'a> BufferWindows<'a> {
-    ghost use Rattle.std.specs.Prelude.{◌≡◌};
-    ghost use Rattle.tm_buffers.specs.Windows.{gathered, nothing_gathered};
+    ghost use Rattle.std.specs.Prelude.{[]};
+    ghost use Rattle.tm_buffers.specs.Windows.{HasGathered};
 
     /// No windows yet.
     pub fn over(windows: &'a mut [Window]) -> BufferWindows<'a>
-        ensures loan { result.windows.ghost_name ≡ windows.entry.ghost_name }
-        ensures none { gathered result ≡ nothing_gathered windows.old }
+        ensures { HasGathered windows.entry.ghost_name windows.old [] result }
     {
         BufferWindows {
             windows,
@@ -33,11 +32,16 @@ impl<'a> BufferWindows<'a> {
 }
 
 impl<'a> WindowWatch for BufferWindows<'a> {
-    ghost use Rattle.std.specs.Prelude.{◌≡◌};
-    ghost use Rattle.tm_buffers.specs.Windows.{Gathers, gathered};
+    ghost use Rattle.std.specs.Prelude.{ℕ, List, [], ◌∷◌, ◌++◌};
+    ghost use Rattle.tm_inner.specs.declared.window.Window.{Window};
+    ghost use Rattle.tm_buffers.specs.Windows.{HasGathered};
 
-    ghost took = { λ a window b. (b.windows.ghost_name ≡ a.windows.ghost_name)
-        × Gathers (gathered a) window (gathered b) };
+    ghost took = { λ a window b. (lent : ℕ) (array windows : List Window) → HasGathered lent array windows a
+        → HasGathered lent array (windows ++ window ∷ []) b };
+
+    ghost told = { λ a item b. Unit {0} };
+
+    fn phase(&mut self, _skip: u8, _cost: u64) {}
 
     fn window(&mut self, inner: &InnerDecoder, index: usize) {
         if self.count == self.windows.len() {

@@ -3,6 +3,3 @@ pub mod Texts
 pub mod AsBox
 pub mod BoxWalks
 pub mod Streams
-pub mod Searches
-pub mod Receivers
-pub mod Decoders

@@ -1,7 +1,6 @@
 -- Texts of answers.
-use Rattle.std.proofs.Common.{◌≡◌, ◌<◌, ◌≤◌, ◌+◌, ◌-◌, ◌∙◌, ℕ, zero, suc, ℤ, pos, negsuc, int_le, unsigned_abs, false, true≢false, List, [], ◌∷◌, ◌++◌, length, drop, get_or, slice_set, max, refl, sym, ap, arith}
+use Rattle.std.proofs.Common.{◌≡◌, ◌<◌, ◌≤◌, ◌-◌, ◌∙◌, ℕ, zero, suc, ℤ, pos, negsuc, int_le, unsigned_abs, false, true≢false, List, [], ◌∷◌, ◌++◌, length, drop, get_or, slice_set, max, refl, sym, ap, arith}
 use Rattle.std.proofs.Math.Dec.{leb-zero}
-use Rattle.std.proofs.lemmas.List.{get_or_past}
 use Rattle.tm_buffers.specs.Buffer.{over}
 use Rattle.tmchan_c.specs.Texts.{no_text, refusal_texts, text_of, text_room}
 
@@ -18,21 +17,15 @@ ended array start text count same is room =
     ap (λ (s : List ℕ). slice_set (s ++ drop count array) count 0) same
     ∙ ap (λ (n : ℕ). slice_set (text ++ drop n array) n 0) is ∙ set-behind text array 0 room
 
-below : (a : ℤ) (depth : ℕ) → int_le (pos 0) a ≡ false → depth ≡ unsigned_abs a
-    → text_of a ≡ get_or refusal_texts (depth - 1) no_text
-below (pos n) depth less is = absurd (true≢false (sym (leb-zero n) ∙ less))
-below (negsuc n) depth less is =
-    let same : n ≡ depth - 1 = omega (arith, is) in
-    ap (λ k. get_or refusal_texts k no_text) same
-
-pub text-at : (a : ℤ) (depth : ℕ) (text : List ℕ) → int_le (pos 0) a ≡ false → depth ≡ unsigned_abs a
-    → text ≡ get_or refusal_texts (depth - 1) no_text → text ≡ text_of a
-text-at a depth text less is at = at ∙ sym (below a depth less is)
-
-pub text-past : (a : ℤ) (depth : ℕ) → int_le (pos 0) a ≡ false → depth ≡ unsigned_abs a → 38 < depth
-    → no_text ≡ text_of a
-text-past a depth less is past =
-    sym (get_or_past refusal_texts (depth - 1) no_text (omega (arith, past))) ∙ sym (below a depth less is)
+-- an answer below 0 by the size of the number that holds it
+pub below : (a held : ℤ) (depth : ℕ) → held ≡ a → int_le (pos 0) held ≡ false → depth ≡ unsigned_abs held
+    → get_or refusal_texts (depth - 1) no_text ≡ text_of a
+below (pos n) held depth same less is =
+    absurd (true≢false (sym (leb-zero n) ∙ ap (int_le (pos 0)) (sym same) ∙ less))
+below (negsuc n) held depth same less is =
+    let size : depth ≡ unsigned_abs (negsuc n) = is ∙ ap unsigned_abs same in
+    let index : depth - 1 ≡ n = omega (arith, size) in
+    ap (λ k. get_or refusal_texts k no_text) index
 
 abbrev longest : List (List ℕ) → ℕ
 longest [] = length no_text

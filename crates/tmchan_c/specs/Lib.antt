@@ -4,8 +4,5 @@ pub mod Texts
 pub mod Repaired
 pub mod Unit
 pub mod Kept
-pub mod Phases
-pub mod Totals
 pub mod Streams
 pub mod Searches
-pub mod Receivers

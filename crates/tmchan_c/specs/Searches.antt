@@ -3,106 +3,77 @@ use Rattle.std.specs.Int.{from_bool}
 use Rattle.std.specs.Prelude.{◌≡◌, ℕ, ◌+◌, ◌≤◌, ◌==◌, ◌&&◌, nat_le, ℤ, pos, Bool, true, List, [], ◌++◌, length, Option, Some, None, if◌then◌else◌}
 use Rattle.tm_base.specs.Marker.{most_tolerance}
 use Rattle.tm_config.specs.Accepted.{sought_fits}
-use Rattle.tm_config.specs.Configuration.{most_fly, most_verify, is_sought, sought_of}
+use Rattle.tm_config.specs.Configuration.{most_fly, most_verify}
 use Rattle.tm_config.specs.declared.error.ConfigError.TheVariants.{Tolerance, Fly, Polarity, Verify}
 use Rattle.tm_sync.specs.declared.found.Found.{Found}
-use Rattle.tm_sync.specs.declared.found.Before.{Before}
-use Rattle.tm_sync.specs.declared.found.Awaited.{Awaited}
 use Rattle.tm_sync.specs.declared.found.Paused.{Paused}
 use Rattle.tm_sync.specs.Paused.{is_resumable, resumed}
-use Rattle.tm_sync.specs.Places.{Rules, verify_bits}
+use Rattle.tm_sync.specs.Places.{verify_bits}
 use Rattle.tm_sync.specs.Searching.{Searching, SearchStandsFor}
 use Rattle.tm_sync.specs.Bits.{bits_bound}
 use Rattle.tm_buffers.specs.Searching.{Finds, NoneSooner, span}
 use Rattle.tm_buffers.specs.Buffer.{most_taken}
+use Rattle.tmchan_c.specs.Refusal.{unless}
 use Rattle.tmchan_c.specs.declared.refusal.Refusal.{Refusal}
 use Rattle.tmchan_c.specs.declared.refusal.Refusal.TheVariants.{Room, Closed, Value}
 use Rattle.tmchan_c.specs.declared.search.SearchState.{SearchState}
 use Rattle.tmchan_c.specs.declared.search.PlaceState.{PlaceState}
-
-abbrev pub before_of : SearchState → Option Before
-before_of s =
-    if s.has_before == 1
-    then Some (record { inverted = s.before_inverted == 1; bridged = s.before_bridged }) else None
-
-abbrev pub awaited_of : SearchState → Option Awaited
-awaited_of s =
-    if s.has_place == 1
-    then Some (record {
-      found = record {
-        place = s.place;
-        distance = s.distance;
-        bridged = s.bridged == 1;
-        inverted = s.inverted == 1;
-      };
-      next = record { inverted = s.next_inverted == 1; bridged = s.next_bridged };
-    })
-    else None
 
 -- the search that it stands for
 abbrev pub paused_of : SearchState → Paused
 paused_of s = record {
   tolerance = s.tolerance;
   fly = s.fly;
-  either = is_sought (sought_of s.either);
+  either = s.either == 1;
   block_bits = s.block_bits;
   verify = s.verify;
   received = s.received;
   pushed = s.pushed;
   start = s.start;
-  before = before_of s;
-  awaited = awaited_of s;
+  before = if s.has_before == 1
+      then Some (record { inverted = s.before_inverted == 1; bridged = s.before_bridged })
+      else None;
+  awaited = if s.has_place == 1
+      then Some (record {
+        found = record {
+          place = s.place;
+          distance = s.distance;
+          bridged = s.bridged == 1;
+          inverted = s.inverted == 1;
+        };
+        next = record { inverted = s.next_inverted == 1; bridged = s.next_bridged };
+      })
+      else None;
   after = s.after;
 }
 
 abbrev pub search_of : SearchState → Searching
 search_of s = resumed (paused_of s)
 
--- the rules that numbers give
-abbrev pub rules_with : ℕ → ℕ → ℕ → ℕ → ℕ → Rules
-rules_with tolerance fly either block_bits verify = record {
-  tolerance = tolerance;
-  fly = fly;
-  either = is_sought (sought_of either);
-  block_bits = block_bits;
-  verify = verify;
-}
+-- whether it is open, and is one that can go on
+abbrev pub goes_on : SearchState → Bool
+goes_on s = (s.is_open == 1) && is_resumable (paused_of s)
 
--- the first reason to refuse them, or none
+-- the first reason to refuse the rules that these numbers give, or none
 abbrev pub rules_refusal : ℕ → ℕ → ℕ → ℕ → Option Refusal
 rules_refusal tolerance fly either verify =
-    if nat_le tolerance most_tolerance then
-    if nat_le fly most_fly then
-    if sought_fits either then
-    if nat_le verify most_verify then None
-    else Some (Value Verify)
-    else Some (Value Polarity)
-    else Some (Value Fly)
-    else Some (Value Tolerance)
+    unless (nat_le tolerance most_tolerance) (Value Tolerance)
+    (unless (nat_le fly most_fly) (Value Fly)
+    (unless (sought_fits either) (Value Polarity)
+    (unless (nat_le verify most_verify) (Value Verify) None)))
 
 -- the first reason to refuse a room of `room` octets, and an array of `count` elements that has
--- `size` bits, from bit `at` on, or none: the search is not open, or no search is kept in this way
+-- `size` bits, from bit `at` on, or none
 abbrev pub span_refusal : SearchState → ℕ → ℕ → ℕ → ℕ → Option Refusal
 span_refusal s room at count size =
-    if (s.is_open == 1) && is_resumable (paused_of s) then
-    if (room == verify_bits (search_of s).rules)
-    && nat_le count most_taken && nat_le at size
-    then None
-    else Some Room
-    else Some Closed
-
--- a search that is open, was given these bits, of which its room holds the last, and has found
--- these places
-pub record IsSearching (s : SearchState) (room : List ℕ) (bits : List Bool)
-    (found : List Found) : Type 0 where
-  pub is_open : s.is_open ≡ 1
-  pub valid : is_resumable (paused_of s) ≡ true
-  pub stands : SearchStandsFor (search_of s) room bits found
+    unless (goes_on s) Closed
+    (unless ((room == verify_bits (search_of s).rules) && nat_le count most_taken && nat_le at size)
+    Room None)
 
 -- a new search, which is open, whatever its room holds
 abbrev pub Begins : SearchState → Type 0
-Begins s = (room : List ℕ) → length room ≡ verify_bits (search_of s).rules
-    → IsSearching s room [] []
+Begins s = (goes_on s ≡ true) × ((room : List ℕ) → length room ≡ verify_bits (search_of s).rules
+    → SearchStandsFor (search_of s) room [] [])
 
 abbrev pub found_answer : Option Found → ℤ
 found_answer None = pos 0
@@ -128,12 +99,9 @@ pub record FindsInto (was now : SearchState) (room room_now : List ℕ) (at end 
   pub first : at ≤ end
   pub within : end ≤ size
   pub all : found ≡ None → end ≡ size
-  pub is_open : now.is_open ≡ 1
-  pub valid : is_resumable (paused_of now) ≡ true
+  pub going : goes_on now ≡ true
   pub rules : (search_of now).rules ≡ (search_of was).rules
   pub finds : (given : List Bool) (before : List Found) → length given + size ≤ bits_bound
       → SearchStandsFor (search_of was) room given before
       → Finds (search_of now) room_now (given ++ span at end bits) before found
-  pub none_sooner : (given : List Bool) (before : List Found) → length given + size ≤ bits_bound
-      → SearchStandsFor (search_of was) room given before
-      → NoneSooner (search_of was).rules given before bits at end
+      × NoneSooner (search_of was).rules given before bits at end

@@ -1,5 +1,5 @@
 -- What the answers of calls mean, in words.
-use Rattle.std.specs.Prelude.{ℕ, ℤ, pos, negsuc, List, [], ◌∷◌, get_or, codes}
+use Rattle.std.specs.Prelude.{ℕ, ℤ, pos, negsuc, List, [], ◌∷◌, ◌++◌, get_or, replicate, codes}
 
 -- octets in which each sentence has room, and a 0 after it
 abbrev pub text_room : ℕ
@@ -20,14 +20,8 @@ refusal_texts =
     ∷ codes "the stream is open already"
     ∷ codes "there is not enough memory"
     ∷ codes "a number behind the options that this library has is not 0"
-    ∷ no_text
-    ∷ no_text
-    ∷ no_text
-    ∷ no_text
-    ∷ no_text
-    ∷ no_text
-    ∷ no_text
-    ∷ codes "the code is none of rs16, rs8 and none"
+    ∷ replicate 7 no_text
+    ++ codes "the code is none of rs16, rs8 and none"
     ∷ codes "the depth is none of 1, 2, 3, 4, 5 and 8, or it is not 1 and there is no code"
     ∷ codes "no word, or no frame, of this code and depth is so long"
     ∷ codes "the rate is none of none, 1/2, 2/3, 3/4, 5/6 and 7/8"

@@ -77,7 +77,7 @@ pub fn config_of(options: &[u64]) -> Result<Config, Refusal>
     ensures ok { IfOk result (λ config. (config_refusal options.now ≡ None) × (config ≡ configuration options.now)) }
     ensures err { IfErr result (λ refusal. config_refusal options.now ≡ Some refusal) }
 {
-    if options.len() > OPTIONS && !are_zero(&options[OPTIONS..]) {
+    if !are_zero(&options[OPTIONS.min(options.len())..]) {
         return Err(Refusal::Config);
     }
     checked(&raw(options))

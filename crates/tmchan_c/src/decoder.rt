@@ -1,18 +1,17 @@
 // The soft decoder: soft octets in, bits out.
-ghost use Rattle.std.specs.Prelude.{◌≡◌, ◌+◌, ◌<◌, ℕ, List, [], None, Some, length, pos, true};
+ghost use Rattle.std.specs.Prelude.{◌≡◌, ◌+◌, ◌<◌, ℕ, List, [], None, IfSome, IsSomeAnd, length, pos, true};
 ghost use Rattle.std.specs.Option.{is_some};
 ghost use Rattle.tm_base.specs.Handed.{Handed};
-ghost use Rattle.tm_config.specs.Configuration.{Configuration};
+ghost use Rattle.tm_inner.specs.InnerDecoding.{InnerDecoding};
 ghost use Rattle.tm_inner.specs.Phase.{IsChosenSoFar};
 ghost use Rattle.tm_viterbi.specs.WindowBlock.{WindowBlock};
 ghost use Rattle.tm_viterbi.specs.WindowSizes.{stream_bound};
 ghost use Rattle.tm_buffers.specs.Buffer.{has_room};
-ghost use Rattle.tm_buffers.specs.Decoding.{DecodesLastWindows, DecodesWindows, bits_room};
+ghost use Rattle.tm_buffers.specs.Decoding.{Decodes, DecodesLast, DecodesLastWindows, DecodesWindows, IsDecoding, bits_room};
 ghost use Rattle.tm_buffers.specs.Windows.{windows_room};
 ghost use Rattle.tmchan_c.specs.Options.{configuration};
-ghost use Rattle.tmchan_c.specs.Phases.{chosen_of};
 ghost use Rattle.tmchan_c.specs.Refusal.{Refuses, config_refusal, number_answer};
-ghost use Rattle.tmchan_c.specs.Streams.{DecodesInto, DecodesLastInto, IsDecoder, Opens, closed_refusal, decoder_in, decoder_refusal, none_written, open_refusal, windows_refusal, written_by};
+ghost use Rattle.tmchan_c.specs.Streams.{AnswersNumber, Opens, chosen_of, closed_refusal, decoder_in, decoder_refusal, none_written, open_refusal, windows_refusal, written_by};
 
 use crate::config::config_of;
 use crate::handle::{Handle, open, put, take, to_open};
@@ -55,7 +54,8 @@ pub extern "C" fn tmchan_decoder_open(alloc: Global, handle: &mut Handle, option
     ensures refused { Refuses (open_refusal (is_some handle.old.kept.value) options.now) result
         (handle.new.kept.value ≡ handle.old.kept.value) }
     ensures opened { open_refusal (is_some handle.old.kept.value) options.now ≡ None
-        → Opens result handle.new.kept.value (λ held. IsDecoder held (configuration options.now) [] []) }
+        → Opens result handle.new.kept.value (λ held. IsSomeAnd (decoder_in held)
+        (λ decoder. (decoder.config ≡ configuration options.now) × IsDecoding decoder [] [])) }
 {
     match to_open(handle, options) {
         Err(refusal) => refusal.answer(),
@@ -78,10 +78,12 @@ pub extern "C" fn tmchan_decoder_push(
 ) -> i64
     ensures refused { Refuses (decoder_refusal handle.old.kept.value (length octets.now) (length bits.old)) result
         ((handle.new.kept.value ≡ handle.old.kept.value) × (bits.new ≡ bits.old)) }
-    ensures pushed { (c : Configuration) (given : List ℕ) (done : List (Handed WindowBlock))
-        → IsDecoder handle.old.kept.value c given done → length given + length octets.now < stream_bound
-        → has_room (bits_room c (length octets.now)) (length bits.old) ≡ true
-        → DecodesInto c given octets.now done handle.new.kept.value result bits.new }
+    ensures pushed { IfSome (decoder_in handle.old.kept.value) (λ decoder. (given : List ℕ)
+        (done : List (Handed WindowBlock)) → IsDecoding decoder given done
+        → length given + length octets.now < stream_bound
+        → has_room (bits_room decoder.config (length octets.now)) (length bits.old) ≡ true
+        → IsSomeAnd (decoder_in handle.new.kept.value) (λ now. (now.config ≡ decoder.config)
+        × AnswersNumber result (λ count. Decodes now given octets.now done count bits.new))) }
     ensures written { written.new ≡ written_by result }
 {
     *written = NOTHING;
@@ -114,13 +116,14 @@ pub extern "C" fn tmchan_decoder_push_windows(
     ensures refused { Refuses (windows_refusal handle.old.kept.value (length octets.now) (length bits.old)
         (length windows.old)) result ((handle.new.kept.value ≡ handle.old.kept.value) × (bits.new ≡ bits.old)
         × (windows.new ≡ windows.old) × (written.new ≡ none_written)) }
-    ensures pushed { (c : Configuration) (given : List ℕ) (done : List (Handed WindowBlock))
-        → IsDecoder handle.old.kept.value c given done → length given + length octets.now < stream_bound
-        → has_room (bits_room c (length octets.now)) (length bits.old) ≡ true
-        → has_room (windows_room c (length octets.now)) (length windows.old) ≡ true
-        → DecodesInto c given octets.now done handle.new.kept.value result bits.new
-        × ((count : ℕ) × (result ≡ pos count)
-        × DecodesWindows c given octets.now windows.old windows.new (Some count) written.new) }
+    ensures pushed { IfSome (decoder_in handle.old.kept.value) (λ decoder. (given : List ℕ)
+        (done : List (Handed WindowBlock)) → IsDecoding decoder given done
+        → length given + length octets.now < stream_bound
+        → has_room (bits_room decoder.config (length octets.now)) (length bits.old) ≡ true
+        → has_room (windows_room decoder.config (length octets.now)) (length windows.old) ≡ true
+        → IsSomeAnd (decoder_in handle.new.kept.value) (λ now. (now.config ≡ decoder.config)
+        × AnswersNumber result (λ count. Decodes now given octets.now done count bits.new
+        × DecodesWindows decoder.config given octets.now windows.old windows.new count written.new))) }
 {
     *written = NOTHING;
     let Some(mut stream) = take(alloc, handle) else {
@@ -147,10 +150,11 @@ pub extern "C" fn tmchan_decoder_finish(
 ) -> i64
     ensures refused { Refuses (decoder_refusal handle.old.kept.value 0 (length bits.old)) result
         ((handle.new.kept.value ≡ handle.old.kept.value) × (bits.new ≡ bits.old) × (phase.new ≡ phase.old)) }
-    ensures finished { (c : Configuration) (given : List ℕ) (done : List (Handed WindowBlock))
-        → IsDecoder handle.old.kept.value c given done
-        → has_room (bits_room c 0) (length bits.old) ≡ true
-        → DecodesLastInto c given done result bits.new phase.new × (handle.new.kept.value ≡ None) }
+    ensures finished { IfSome (decoder_in handle.old.kept.value) (λ decoder. (given : List ℕ)
+        (done : List (Handed WindowBlock)) → IsDecoding decoder given done
+        → has_room (bits_room decoder.config 0) (length bits.old) ≡ true
+        → (handle.new.kept.value ≡ None) × ((ended : InnerDecoding) × (chosen_of phase.new ≡ ended.chosen)
+        × AnswersNumber result (λ count. DecodesLast decoder ended given done count bits.new))) }
     ensures written { written.new ≡ written_by result }
 {
     *written = NOTHING;
@@ -185,13 +189,13 @@ pub extern "C" fn tmchan_decoder_finish_windows(
     ensures refused { Refuses (windows_refusal handle.old.kept.value 0 (length bits.old) (length windows.old)) result
         ((handle.new.kept.value ≡ handle.old.kept.value) × (bits.new ≡ bits.old) × (windows.new ≡ windows.old)
         × (phase.new ≡ phase.old) × (written.new ≡ none_written)) }
-    ensures finished { (c : Configuration) (given : List ℕ) (done : List (Handed WindowBlock))
-        → IsDecoder handle.old.kept.value c given done
-        → has_room (bits_room c 0) (length bits.old) ≡ true
-        → has_room (windows_room c 0) (length windows.old) ≡ true
-        → DecodesLastInto c given done result bits.new phase.new × (handle.new.kept.value ≡ None)
-        × ((count : ℕ) × (result ≡ pos count)
-        × DecodesLastWindows c given windows.old windows.new (Some count) written.new) }
+    ensures finished { IfSome (decoder_in handle.old.kept.value) (λ decoder. (given : List ℕ)
+        (done : List (Handed WindowBlock)) → IsDecoding decoder given done
+        → has_room (bits_room decoder.config 0) (length bits.old) ≡ true
+        → has_room (windows_room decoder.config 0) (length windows.old) ≡ true
+        → (handle.new.kept.value ≡ None) × ((ended : InnerDecoding) × (chosen_of phase.new ≡ ended.chosen)
+        × AnswersNumber result (λ count. DecodesLast decoder ended given done count bits.new
+        × DecodesLastWindows decoder.config given windows.old windows.new count written.new))) }
 {
     *written = NOTHING;
     let Some(mut stream) = take(alloc, handle) else {
@@ -219,9 +223,9 @@ pub extern "C" fn tmchan_decoder_phase(
 ) -> i32
     ensures same { handle.new.kept.value ≡ handle.old.kept.value }
     ensures refused { Refuses (closed_refusal (decoder_in handle.old.kept.value)) result (phase.new ≡ phase.old) }
-    ensures reported { (c : Configuration) (given : List ℕ) (done : List (Handed WindowBlock))
-        → IsDecoder handle.old.kept.value c given done
-        → (result ≡ pos 0) × IsChosenSoFar c given (chosen_of phase.new) }
+    ensures reported { IfSome (decoder_in handle.old.kept.value) (λ decoder. (given : List ℕ)
+        (done : List (Handed WindowBlock)) → IsDecoding decoder given done
+        → (result ≡ pos 0) × IsChosenSoFar decoder.config given (chosen_of phase.new)) }
 {
     let Some(stream) = take(alloc, handle) else {
         return Refusal::Closed.answer();

@@ -1,6 +1,6 @@
 // The symbol phase as a program in C has it.
 ghost use Rattle.std.specs.Prelude.{◌≡◌};
-ghost use Rattle.tmchan_c.specs.Phases.{chosen_of};
+ghost use Rattle.tmchan_c.specs.Streams.{chosen_of};
 
 use tm_windows::Chosen;
 

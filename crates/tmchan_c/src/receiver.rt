@@ -1,18 +1,17 @@
 // The receiver: symbols in; frames and what is said of them out.
-ghost use Rattle.std.specs.Prelude.{◌≡◌, ◌+◌, ◌*◌, ◌<◌, ◌<ℤ◌, ℕ, List, [], None, length, pos};
+ghost use Rattle.std.specs.Prelude.{◌≡◌, ◌+◌, ◌*◌, ◌<◌, ◌<ℤ◌, ℕ, List, [], Option, None, IfSome, IsSomeAnd, length, pos};
 ghost use Rattle.std.specs.Option.{is_some};
 ghost use Rattle.tm_base.specs.Handed.{Handed};
 ghost use Rattle.tm_viterbi.specs.WindowSizes.{stream_bound};
-ghost use Rattle.tm_config.specs.Configuration.{Configuration};
 ghost use Rattle.tm_channel.specs.Items.{ItemValue};
-ghost use Rattle.tm_channel.specs.OctetReceiving.{AreSlipsSoFar};
+ghost use Rattle.tm_channel.specs.OctetReceiving.{AreSlipsSoFar, OctetReceiving};
+ghost use Rattle.tm_channel.specs.declared.totals.Totals.{Totals};
+ghost use Rattle.tm_inner.specs.InnerWindows.{AreFurtherWindows, AreLastWindows};
 ghost use Rattle.tm_inner.specs.Phase.{IsChosenSoFar};
-ghost use Rattle.tm_buffers.specs.Receiving.{items_room};
+ghost use Rattle.tm_buffers.specs.Receiving.{IsReceiving, Receives, ReceivesLast, WritesWindows, items_room};
 ghost use Rattle.tmchan_c.specs.Options.{configuration};
-ghost use Rattle.tmchan_c.specs.Phases.{chosen_of};
-ghost use Rattle.tmchan_c.specs.Receivers.{IsReceiver, ReceivesInto, ReceivesLastInto, ReceivesLastWindowsInto, ReceivesWindowsInto, receiver_in};
 ghost use Rattle.tmchan_c.specs.Refusal.{Refuses, config_refusal, number_answer};
-ghost use Rattle.tmchan_c.specs.Streams.{Opens, closed_refusal, none_written, open_refusal};
+ghost use Rattle.tmchan_c.specs.Streams.{AnswersNumber, Opens, chosen_of, closed_refusal, none_written, open_refusal, receiver_in, totals_state};
 
 use crate::config::config_of;
 use crate::handle::{Handle, open, put, take, to_open};
@@ -57,7 +56,8 @@ pub extern "C" fn tmchan_receiver_open(alloc: Global, handle: &mut Handle, optio
     ensures refused { Refuses (open_refusal (is_some handle.old.kept.value) options.now) result
         (handle.new.kept.value ≡ handle.old.kept.value) }
     ensures opened { open_refusal (is_some handle.old.kept.value) options.now ≡ None
-        → Opens result handle.new.kept.value (λ held. IsReceiver held (configuration options.now) [] []) }
+        → Opens result handle.new.kept.value (λ held. IsSomeAnd (receiver_in held)
+        (λ receiver. (receiver.config ≡ configuration options.now) × IsReceiving receiver [] [])) }
 {
     match to_open(handle, options) {
         Err(refusal) => refusal.answer(),
@@ -84,10 +84,12 @@ pub extern "C" fn tmchan_receiver_push(
     ensures refused { Refuses (closed_refusal (receiver_in handle.old.kept.value)) result
         ((handle.new.kept.value ≡ handle.old.kept.value) × (frames.new ≡ frames.old) × (reports.new ≡ reports.old)
         × (written.new ≡ none_written)) }
-    ensures pushed { (c : Configuration) (given : List ℕ) (done : List (Handed ItemValue))
-        → IsReceiver handle.old.kept.value c given done → length given + length octets.now < stream_bound
-        → ReceivesInto c given octets.now done handle.new.kept.value result frames.old frames.new reports.old
-        reports.new written.new }
+    ensures pushed { IfSome (receiver_in handle.old.kept.value) (λ receiver. (given : List ℕ)
+        (done : List (Handed ItemValue)) → IsReceiving receiver given done
+        → length given + length octets.now < stream_bound
+        → IsSomeAnd (receiver_in handle.new.kept.value) (λ now. (now.config ≡ receiver.config)
+        × AnswersNumber result (λ count. Receives receiver now given octets.now done count frames.old frames.new
+        reports.old reports.new written.new))) }
 {
     *written = NOTHING;
     let Some(mut stream) = take(alloc, handle) else {
@@ -118,10 +120,14 @@ pub extern "C" fn tmchan_receiver_push_windows(
     ensures refused { Refuses (closed_refusal (receiver_in handle.old.kept.value)) result
         ((handle.new.kept.value ≡ handle.old.kept.value) × (frames.new ≡ frames.old) × (reports.new ≡ reports.old)
         × (windows.new ≡ windows.old) × (written.new ≡ none_written)) }
-    ensures pushed { (c : Configuration) (given : List ℕ) (done : List (Handed ItemValue))
-        → IsReceiver handle.old.kept.value c given done → length given + length octets.now < stream_bound
-        → ReceivesWindowsInto c given octets.now done handle.new.kept.value result frames.old frames.new reports.old
-        reports.new windows.old windows.new written.new }
+    ensures pushed { IfSome (receiver_in handle.old.kept.value) (λ receiver. (given : List ℕ)
+        (done : List (Handed ItemValue)) → IsReceiving receiver given done
+        → length given + length octets.now < stream_bound
+        → IsSomeAnd (receiver_in handle.new.kept.value) (λ now. (now.config ≡ receiver.config)
+        × AnswersNumber result (λ result. (count : Option ℕ) × Receives receiver now given octets.now done count
+        frames.old frames.new reports.old reports.new (record written.new { windows = 0 })
+        × WritesWindows (AreFurtherWindows receiver.config given octets.now) receiver.config (length octets.now)
+        windows.old windows.new count result written.new))) }
 {
     *written = NOTHING;
     let Some(mut stream) = take(alloc, handle) else {
@@ -151,10 +157,12 @@ pub extern "C" fn tmchan_receiver_finish(
     ensures refused { Refuses (closed_refusal (receiver_in handle.old.kept.value)) result
         ((handle.new.kept.value ≡ handle.old.kept.value) × (frames.new ≡ frames.old) × (reports.new ≡ reports.old)
         × (totals.new ≡ totals.old) × (phase.new ≡ phase.old) × (written.new ≡ none_written)) }
-    ensures finished { (c : Configuration) (given : List ℕ) (done : List (Handed ItemValue))
-        → IsReceiver handle.old.kept.value c given done
-        → ReceivesLastInto c given done result frames.old frames.new reports.old reports.new written.new totals.new
-        phase.new × (handle.new.kept.value ≡ None) }
+    ensures finished { IfSome (receiver_in handle.old.kept.value) (λ receiver. (given : List ℕ)
+        (done : List (Handed ItemValue)) → IsReceiving receiver given done
+        → (handle.new.kept.value ≡ None) × ((ended : OctetReceiving) × (chosen_of phase.new ≡ ended.stages.inner.chosen)
+        × ((sums : Totals) × (totals.new ≡ totals_state sums)
+        × AnswersNumber result (λ count. ReceivesLast receiver ended given done count sums frames.old frames.new
+        reports.old reports.new written.new)))) }
 {
     *written = NOTHING;
     let Some(mut stream) = take(alloc, handle) else {
@@ -193,10 +201,14 @@ pub extern "C" fn tmchan_receiver_finish_windows(
         ((handle.new.kept.value ≡ handle.old.kept.value) × (frames.new ≡ frames.old) × (reports.new ≡ reports.old)
         × (windows.new ≡ windows.old) × (totals.new ≡ totals.old) × (phase.new ≡ phase.old)
         × (written.new ≡ none_written)) }
-    ensures finished { (c : Configuration) (given : List ℕ) (done : List (Handed ItemValue))
-        → IsReceiver handle.old.kept.value c given done
-        → ReceivesLastWindowsInto c given done result frames.old frames.new reports.old reports.new windows.old
-        windows.new written.new totals.new phase.new × (handle.new.kept.value ≡ None) }
+    ensures finished { IfSome (receiver_in handle.old.kept.value) (λ receiver. (given : List ℕ)
+        (done : List (Handed ItemValue)) → IsReceiving receiver given done
+        → (handle.new.kept.value ≡ None) × ((ended : OctetReceiving) × (chosen_of phase.new ≡ ended.stages.inner.chosen)
+        × ((sums : Totals) × (totals.new ≡ totals_state sums)
+        × AnswersNumber result (λ result. (count : Option ℕ) × ReceivesLast receiver ended given done count sums
+        frames.old frames.new reports.old reports.new (record written.new { windows = 0 })
+        × WritesWindows (AreLastWindows receiver.config given) receiver.config 0 windows.old windows.new count result
+        written.new)))) }
 {
     *written = NOTHING;
     let Some(mut stream) = take(alloc, handle) else {
@@ -227,9 +239,9 @@ pub extern "C" fn tmchan_receiver_phase(
 ) -> i32
     ensures same { handle.new.kept.value ≡ handle.old.kept.value }
     ensures refused { Refuses (closed_refusal (receiver_in handle.old.kept.value)) result (phase.new ≡ phase.old) }
-    ensures reported { (c : Configuration) (given : List ℕ) (done : List (Handed ItemValue))
-        → IsReceiver handle.old.kept.value c given done
-        → (result ≡ pos 0) × IsChosenSoFar c given (chosen_of phase.new) }
+    ensures reported { IfSome (receiver_in handle.old.kept.value) (λ receiver. (given : List ℕ)
+        (done : List (Handed ItemValue)) → IsReceiving receiver given done
+        → (result ≡ pos 0) × IsChosenSoFar receiver.config given (chosen_of phase.new)) }
 {
     let Some(stream) = take(alloc, handle) else {
         return Refusal::Closed.answer();
@@ -249,9 +261,9 @@ pub extern "C" fn tmchan_receiver_phase(
 pub extern "C" fn tmchan_receiver_slips(alloc: Global, handle: &mut Handle, count: &mut u64) -> i32
     ensures same { handle.new.kept.value ≡ handle.old.kept.value }
     ensures refused { Refuses (closed_refusal (receiver_in handle.old.kept.value)) result (count.new ≡ count.old) }
-    ensures reported { (c : Configuration) (given : List ℕ) (done : List (Handed ItemValue))
-        → IsReceiver handle.old.kept.value c given done
-        → (result ≡ pos 0) × AreSlipsSoFar c given done count.new }
+    ensures reported { IfSome (receiver_in handle.old.kept.value) (λ receiver. (given : List ℕ)
+        (done : List (Handed ItemValue)) → IsReceiving receiver given done
+        → (result ≡ pos 0) × AreSlipsSoFar receiver.config given done count.new) }
 {
     let Some(stream) = take(alloc, handle) else {
         return Refusal::Closed.answer();

@@ -6,7 +6,7 @@ ghost use Rattle.tm_rs_code.specs.Code.{IsLength, IsStrength};
 ghost use Rattle.tmchan_c.specs.Refusal.{Refuses, answered, decode_refusal, encode_refusal, erased_refusal};
 ghost use Rattle.tmchan_c.specs.Repaired.{IsRepaired, IsRepairedErased, erased_by};
 
-use crate::refusal::{Refusal, checks_refusal, flags_refusal, word_refusal};
+use crate::refusal::{Refusal, unequal, word_refusal};
 use tm_gf256::{Basis, Gf};
 use tm_rs::{Answer, ErasedAnswer, checks, decode_erased_uncounted, decode_uncounted};
 use tm_rs_code::Params;
@@ -25,9 +25,9 @@ pub extern "C" fn tmchan_rs_encode(code: u32, basis: u32, info: &[u8], checks: &
     ensures codeword { result ≡ pos 0 → info.now ++ checks.new ≡ coded_octets (basis_of basis) code info.now }
     ensures unchanged { result ≢ pos 0 → checks.new ≡ checks.old }
 {
-    let n = info.len() as u64 + 2 * u64::from(code);
-    let other = checks_refusal(code, checks.len());
-    match word_refusal(code, n, basis, 0, other) {
+    let count = 2 * u64::from(code);
+    let after = unequal(checks.len() as u64, count, Refusal::Room);
+    match word_refusal(code, info.len() as u64 + count, basis, 0, after) {
         Some(refusal) => refusal.answer(),
         None => {
             let params = params_of(code, info.len() + checks.len());
@@ -68,8 +68,9 @@ pub extern "C" fn tmchan_rs_decode_erased(
     ensures repaired { erased_refusal code basis repair (length word.old) (length erased.now) ≡ None
         → IsRepairedErased code (basis_of basis) repair erased.now word.old result word.new }
 {
-    let other = flags_refusal(word.len(), erased.len());
-    match word_refusal(code, word.len() as u64, basis, repair, other) {
+    let n = word.len() as u64;
+    let after = unequal(erased.len() as u64, n, Refusal::Flags);
+    match word_refusal(code, n, basis, repair, after) {
         Some(refusal) => refusal.answer(),
         None => repair_erased(
             code,

@@ -1,7 +1,7 @@
 // Why calls are refused, and the answers that say so.
-ghost use Rattle.std.specs.Prelude.{◌≡◌, ◌*◌, ◌+◌, ◌^◌, ◌<◌, ◌<ℤ◌, ◌≤◌, IfSome, None, pos};
+ghost use Rattle.std.specs.Prelude.{◌≡◌, ◌==◌, ◌*◌, ◌+◌, ◌^◌, ◌<◌, ◌<ℤ◌, ◌≤◌, IfSome, None, pos};
 ghost use Rattle.tm_rs_code.specs.Code.{IsLength, IsStrength};
-ghost use Rattle.tmchan_c.specs.Refusal.{checks_refusal, flags_refusal, number_answer, refused, value_answer, word_refusal};
+ghost use Rattle.tmchan_c.specs.Refusal.{number_answer, refused, unless, word_refusal};
 
 use tm_config::ConfigError;
 
@@ -40,7 +40,7 @@ impl Refusal {
             Refusal::Open => -6,
             Refusal::Memory => -7,
             Refusal::Config => -8,
-            Refusal::Value(error) => value_answer(error),
+            Refusal::Value(error) => -16 - i32::from(error.place()),
         }
     }
 
@@ -63,24 +63,16 @@ pub fn number_answer(number: Option<usize>) -> i64
     }
 }
 
-// The answer where the value of an option is outside its list or range.
-fn value_answer(error: ConfigError) -> i32
-    ensures value { result ≡ value_answer error }
-    ensures negative { result <ℤ pos 0 }
-{
-    -16 - i32::from(error.place())
-}
-
-/// The first reason to refuse a word of n symbols, or else `other`.
+/// The first reason to refuse a word of n symbols, or else `after`.
 pub fn word_refusal(
     code: u32,
     n: u64,
     basis: u32,
     repair: u32,
-    other: Option<Refusal>,
+    after: Option<Refusal>,
 ) -> Option<Refusal>
-    ensures value { result ≡ word_refusal code n basis repair other }
-    ensures other { result ≡ None → other ≡ None }
+    ensures value { result ≡ word_refusal code n basis repair after }
+    ensures after { result ≡ None → after ≡ None }
     ensures code { result ≡ None → IsStrength code × IsLength code n }
     ensures repair { result ≡ None → repair ≤ code }
 {
@@ -96,29 +88,13 @@ pub fn word_refusal(
     if repair > code {
         return Some(Refusal::Value(ConfigError::Repair));
     }
-    other
+    after
 }
 
-/// The reason to refuse `checks` check octets, or none.
-pub fn checks_refusal(code: u32, checks: usize) -> Option<Refusal>
-    ensures value { result ≡ checks_refusal code checks }
-    ensures fits { result ≡ None → checks ≡ 2 * code }
+/// A reason to refuse a length that is not the other, or none.
+pub fn unequal(length: u64, other: u64, reason: Refusal) -> Option<Refusal>
+    ensures value { result ≡ unless (length == other) reason None }
+    ensures fits { result ≡ None → length ≡ other }
 {
-    if checks as u64 == 2 * u64::from(code) {
-        None
-    } else {
-        Some(Refusal::Room)
-    }
-}
-
-/// The reason to refuse `flags` flags of n symbols, or none.
-pub fn flags_refusal(n: usize, flags: usize) -> Option<Refusal>
-    ensures value { result ≡ flags_refusal n flags }
-    ensures fits { result ≡ None → flags ≡ n }
-{
-    if flags == n {
-        None
-    } else {
-        Some(Refusal::Flags)
-    }
+    if length == other { None } else { Some(reason) }
 }

@@ -1,12 +1,12 @@
 // The search for sync markers: bits or octets in, places out.
-ghost use Rattle.std.specs.Prelude.{◌≡◌, ◌*◌, ◌≤◌, None, Some, IfOk, IfErr, OnOk, length, pos};
+ghost use Rattle.std.specs.Prelude.{◌≡◌, ◌==◌, ◌*◌, ◌≤◌, None, Some, IfOk, IfErr, OnOk, length, pos};
 ghost use Rattle.tm_base.specs.Bits.{bits_of};
 ghost use Rattle.tm_base.specs.Marker.{most_tolerance};
-ghost use Rattle.tm_config.specs.Configuration.{most_fly, most_verify, is_sought, sought_of};
+ghost use Rattle.tm_config.specs.Configuration.{most_fly, most_verify};
 ghost use Rattle.tm_buffers.specs.Searching.{bits_in};
 ghost use Rattle.tm_buffers.specs.Buffer.{most_taken};
 ghost use Rattle.tmchan_c.specs.Refusal.{Refuses};
-ghost use Rattle.tmchan_c.specs.Searches.{Begins, FindsInto, awaited_of, before_of, found_answer, paused_of, place_after, rules_refusal, rules_with, search_of, span_refusal};
+ghost use Rattle.tmchan_c.specs.Searches.{Begins, FindsInto, found_answer, paused_of, place_after, rules_refusal, search_of, span_refusal};
 
 use crate::refusal::Refusal;
 use tm_buffers::{find_in_bits, find_in_octets};
@@ -72,7 +72,13 @@ pub extern "C" fn tmchan_search_open(
 ) -> i32
     ensures refused { Refuses (rules_refusal tolerance fly either verify) result (search.new ≡ search.old) }
     ensures opened { rules_refusal tolerance fly either verify ≡ None → (result ≡ pos 0) × Begins search.new
-        × ((search_of search.new).rules ≡ rules_with tolerance fly either block_bits verify) }
+        × ((search_of search.new).rules ≡ (record {
+          tolerance = tolerance;
+          fly = fly;
+          either = either == 1;
+          block_bits = block_bits;
+          verify = verify;
+        })) }
 {
     match rules_refusal(tolerance, fly, either, verify) {
         Some(refusal) => refusal.answer(),
@@ -80,7 +86,7 @@ pub extern "C" fn tmchan_search_open(
             let begun = Search::new(
                 tolerance as u8,
                 fly as u8,
-                is_either(either),
+                either == 1,
                 block_bits,
                 verify as u8,
             );
@@ -173,13 +179,6 @@ fn rules_refusal(tolerance: u32, fly: u32, either: u32, verify: u32) -> Option<R
     None
 }
 
-// Whether the polarity is to be found.
-fn is_either(either: u32) -> bool
-    ensures { result ≡ is_sought (sought_of either) }
-{
-    either == 1
-}
-
 // The search that goes on with a room of `room` octets and an array of `count` elements that has `size` bits, from bit
 // `at` on; or the first reason to refuse it.
 fn resumed(
@@ -231,16 +230,14 @@ fn state(paused: &Paused) -> SearchState
     ensures paused { paused_of result ≡ paused.now }
     ensures open { result.is_open ≡ 1 }
 {
-    let before = paused.before.unwrap_or(Before {
+    let none = Before {
         inverted: false,
         bridged: 0,
-    });
+    };
+    let before = paused.before.unwrap_or(none);
     let awaited = paused.awaited.unwrap_or(Awaited {
         found: NO_PLACE,
-        next: Before {
-            inverted: false,
-            bridged: 0,
-        },
+        next: none,
     });
     SearchState {
         is_open: 1,
@@ -273,36 +270,17 @@ fn paused(search: &SearchState) -> Paused
     Paused {
         tolerance: search.tolerance,
         fly: search.fly,
-        either: is_either(u32::from(search.either)),
+        either: search.either == 1,
         block_bits: search.block_bits,
         verify: search.verify,
         received: search.received,
         pushed: search.pushed,
         start: search.start,
-        before: before_of(search),
-        awaited: awaited_of(search),
-        after: search.after,
-    }
-}
-
-fn before_of(search: &SearchState) -> Option<Before>
-    ensures { result ≡ before_of search.now }
-{
-    if search.has_before == 1 {
-        Some(Before {
+        before: (search.has_before == 1).then_some(Before {
             inverted: search.before_inverted == 1,
             bridged: search.before_bridged,
-        })
-    } else {
-        None
-    }
-}
-
-fn awaited_of(search: &SearchState) -> Option<Awaited>
-    ensures { result ≡ awaited_of search.now }
-{
-    if search.has_place == 1 {
-        Some(Awaited {
+        }),
+        awaited: (search.has_place == 1).then_some(Awaited {
             found: Found {
                 place: search.place,
                 distance: search.distance,
@@ -313,8 +291,7 @@ fn awaited_of(search: &SearchState) -> Option<Awaited>
                 inverted: search.next_inverted == 1,
                 bridged: search.next_bridged,
             },
-        })
-    } else {
-        None
+        }),
+        after: search.after,
     }
 }

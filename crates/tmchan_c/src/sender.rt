@@ -1,13 +1,15 @@
 // The sender: frames in, symbols out.
-ghost use Rattle.std.specs.Prelude.{◌≡◌, ℕ, List, [], None, length, pos, true};
+ghost use Rattle.std.specs.Prelude.{◌≡◌, ◌++◌, ℕ, List, [], None, IfSome, IsSomeAnd, length, pos, true};
 ghost use Rattle.std.specs.Option.{is_some};
+ghost use Rattle.tm_base.specs.Pieces.{further};
 ghost use Rattle.tm_codeblock.specs.Frames.{after_frames};
-ghost use Rattle.tm_config.specs.Configuration.{Configuration};
-ghost use Rattle.tm_buffers.specs.Buffer.{has_room};
+ghost use Rattle.tm_channel.specs.Sending.{SenderStandsFor};
+ghost use Rattle.tm_channel.specs.Sent.{sent};
+ghost use Rattle.tm_buffers.specs.Buffer.{Fills, has_room};
 ghost use Rattle.tm_buffers.specs.Sending.{symbols_room};
 ghost use Rattle.tmchan_c.specs.Options.{configuration};
 ghost use Rattle.tmchan_c.specs.Refusal.{Refuses, config_refusal, number_answer};
-ghost use Rattle.tmchan_c.specs.Streams.{IsSender, Opens, Sends, closed_refusal, none_written, open_refusal, sender_in, sender_refusal, written_by};
+ghost use Rattle.tmchan_c.specs.Streams.{AnswersNumber, Opens, closed_refusal, none_written, open_refusal, sender_in, sender_refusal, written_by};
 
 use crate::config::config_of;
 use crate::handle::{Handle, open, put, take, to_open};
@@ -15,7 +17,8 @@ use crate::refusal::{Refusal, number_answer};
 use crate::stream::Stream;
 use crate::written::{NOTHING, written_by};
 use std::alloc::Global;
-use tm_buffers::{BufferSender, Written, symbols_room};
+use tm_buffers::{Written, push_symbols, symbols_room};
+use tm_channel::Sender;
 
 /// Returns for how many symbols a push of `octets_length` octets needs room, one more than it writes at most; or the
 /// reason of the refusal.
@@ -36,11 +39,12 @@ pub extern "C" fn tmchan_sender_open(alloc: Global, handle: &mut Handle, options
     ensures refused { Refuses (open_refusal (is_some handle.old.kept.value) options.now) result
         (handle.new.kept.value ≡ handle.old.kept.value) }
     ensures opened { open_refusal (is_some handle.old.kept.value) options.now ≡ None
-        → Opens result handle.new.kept.value (λ held. IsSender held (configuration options.now) []) }
+        → Opens result handle.new.kept.value (λ held. IsSomeAnd (sender_in held)
+        (λ sender. (sender.config ≡ configuration options.now) × SenderStandsFor sender [])) }
 {
     match to_open(handle, options) {
         Err(refusal) => refusal.answer(),
-        Ok(config) => open(alloc, handle, Stream::Sender(BufferSender::new(config))),
+        Ok(config) => open(alloc, handle, Stream::Sender(Sender::new(config))),
     }
 }
 
@@ -56,9 +60,11 @@ pub extern "C" fn tmchan_sender_push(
 ) -> i64
     ensures refused { Refuses (sender_refusal handle.old.kept.value (length octets.now) (length symbols.old)) result
         ((handle.new.kept.value ≡ handle.old.kept.value) × (symbols.new ≡ symbols.old)) }
-    ensures pushed { (c : Configuration) (given : List ℕ) → IsSender handle.old.kept.value c given
-        → has_room (symbols_room c (length octets.now)) (length symbols.old) ≡ true
-        → Sends c given octets.now handle.new.kept.value result symbols.new }
+    ensures pushed { IfSome (sender_in handle.old.kept.value) (λ sender. (given : List ℕ) → SenderStandsFor sender given
+        → has_room (symbols_room sender.config (length octets.now)) (length symbols.old) ≡ true
+        → IsSomeAnd (sender_in handle.new.kept.value) (λ now. (now.config ≡ sender.config)
+        × SenderStandsFor now (given ++ octets.now))
+        × AnswersNumber result (λ count. Fills count symbols.new (further (sent sender.config) given octets.now))) }
     ensures written { written.new ≡ written_by result }
 {
     *written = NOTHING;
@@ -66,7 +72,7 @@ pub extern "C" fn tmchan_sender_push(
         return Refusal::Closed.long_answer();
     };
     let answer = match &mut *stream {
-        Stream::Sender(sender) => number_answer(sender.push(octets, symbols)),
+        Stream::Sender(sender) => number_answer(push_symbols(sender, octets, symbols)),
         _ => Refusal::Closed.long_answer(),
     };
     *written = written_by(answer);
@@ -83,8 +89,9 @@ pub extern "C" fn tmchan_sender_finish(
 ) -> i64
     ensures refused { Refuses (closed_refusal (sender_in handle.old.kept.value)) result
         (handle.new.kept.value ≡ handle.old.kept.value) }
-    ensures finished { (c : Configuration) (given : List ℕ) → IsSender handle.old.kept.value c given
-        → (result ≡ pos (length (after_frames c.frame_length given))) × (handle.new.kept.value ≡ None) }
+    ensures finished { IfSome (sender_in handle.old.kept.value) (λ sender. (given : List ℕ)
+        → SenderStandsFor sender given → (handle.new.kept.value ≡ None)
+        × (result ≡ pos (length (after_frames sender.config.frame_length given)))) }
     ensures written { written.new ≡ none_written }
 {
     *written = NOTHING;

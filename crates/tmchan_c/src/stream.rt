@@ -1,10 +1,11 @@
 // What stands behind a handle.
-use tm_buffers::{BufferDecoder, BufferReceiver, BufferSender};
+use tm_buffers::{BufferDecoder, BufferReceiver};
+use tm_channel::Sender;
 
 /// A stream of one of the kinds that the library has.
 #[derive(Drop)]
 pub enum Stream {
-    Sender(BufferSender),
+    Sender(Sender),
     Decoder(BufferDecoder),
     Receiver(BufferReceiver),
 }

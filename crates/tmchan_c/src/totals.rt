@@ -1,6 +1,6 @@
 // What received octets come to, as a program in C has it.
 ghost use Rattle.std.specs.Prelude.{◌≡◌};
-ghost use Rattle.tmchan_c.specs.Totals.{totals_state};
+ghost use Rattle.tmchan_c.specs.Streams.{totals_state};
 
 use tm_channel::Totals;
 

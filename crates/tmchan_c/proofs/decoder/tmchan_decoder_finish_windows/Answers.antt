@@ -1,41 +1,23 @@
-use Rattle.std.proofs.Common.{rules, ◌≡◌, ◌∙◌, length, Option, Some, None, true, sym, subst, w64, to_z}
-use Rattle.tm_config.specs.Configuration.{Configuration}
-use Rattle.tm_buffers.specs.Buffer.{has_room}
-use Rattle.tm_buffers.specs.Decoding.{DecodesLastWindows, bits_room}
-use Rattle.tm_buffers.specs.Windows.{windows_room}
+use Rattle.std.proofs.Common.{rules, ◌≡◌, ◌∙◌, Some, None, w64, to_z}
 use Rattle.tmchan_c.specs.Refusal.{number_answer}
-use Rattle.tmchan_c.specs.Streams.{IsDecoder}
-use Rattle.tmchan_c.specs.declared.stream.Stream.{Stream}
 use Rattle.tmchan_c.specs.declared.stream.Stream.TheVariants.{Decoder}
-use Rattle.tmchan_c.proofs.Decoders.{decodes-last-into}
 use Rattle.tmchan_c.proofs.decoder.tmchan_decoder_finish_windows.Goals as goal
 
 pub returns-in-Some-finish_windows-clause-finished : goal.returns-in-Some-finish_windows-clause-finished
-returns-in-Some-finish_windows-clause-finished c = λ config given done is bits windows.
+returns-in-Some-finish_windows-clause-finished c =
     let ended = c.in-Some-finish_windows in
     let held : c.args.handle.now.kept.value ≡ Some (Decoder c.in-Decoder.decoder) = search rules in
     let answers : to_z w64 ended.count ≡ number_answer None (Some ended.count) = search rules in
-    let decoder = subst (λ (o : Option Stream). IsDecoder o config given done) held is in
-    let there = ended.ensures.decoded given done decoder.1
-    (subst (λ (k : Configuration). has_room (bits_room k 0) (length c.args.bits.now) ≡ true) (sym decoder.0) bits)
-    (subst (λ (k : Configuration). has_room (windows_room k 0) (length c.args.windows.now) ≡ true)
-    (sym decoder.0) windows) in (
-      decodes-last-into config _ c.finish_windows.new.self decoder.0 answers
-          (c.phase_state.ensures ∙ c.chosen.ensures.value) there.0,
+    rw held (λ given done is bits windows. (
       c.take.ensures.left,
       (
-        ended.count,
-        answers,
-        subst (λ (k : Configuration). DecodesLastWindows k given c.args.windows.now
-            c.finish_windows.new.windows (Some ended.count) c.finish_windows.new.written) decoder.0 there.1,
+        c.finish_windows.new.self,
+        c.phase_state.ensures ∙ c.chosen.ensures.value,
+        (Some ended.count, answers, ended.ensures.decoded given done is bits windows),
       ),
-    )
+    ))
 
 pub returns-in-None-clause-finished : goal.returns-in-None-clause-finished
-returns-in-None-clause-finished c = λ config given done is bits windows.
+returns-in-None-clause-finished c =
     let held : c.args.handle.now.kept.value ≡ Some (Decoder c.in-Decoder.decoder) = search rules in
-    let decoder = subst (λ (o : Option Stream). IsDecoder o config given done) held is in
-    absurd (c.in-None.ensures.decoded given done decoder.1
-    (subst (λ (k : Configuration). has_room (bits_room k 0) (length c.args.bits.now) ≡ true) (sym decoder.0) bits)
-    (subst (λ (k : Configuration). has_room (windows_room k 0) (length c.args.windows.now) ≡ true)
-    (sym decoder.0) windows)).0.fills
+    rw held (λ given done is bits windows. absurd (c.in-None.ensures.decoded given done is bits windows).0.fills)

@@ -1,5 +1,5 @@
 use Rattle.std.proofs.Common.{arith, mul-le-mul_right}
-use Rattle.tmchan_c.proofs.Options.{frame-fits}
+use Rattle.tm_config.proofs.Lengths.{codeblock_length-is, codeblock_length-le}
 use Rattle.tmchan_c.proofs.receiver.tmchan_receiver_room.Goals as goal
 
 pub overflow_mul-frames_length : goal.overflow_mul-frames_length
@@ -8,5 +8,6 @@ overflow_mul-frames_length c =
       arith,
       mul-le-mul_right c.length.result c.in-Some.ensures.most,
       c.length.ensures.value,
-      frame-fits _ c.length.ensures.accepted,
+      codeblock_length-is _ c.length.ensures.accepted,
+      codeblock_length-le _ c.length.ensures.accepted,
     )

@@ -1,4 +1,4 @@
-use Rattle.std.proofs.Common.{rules, ◌≡◌, ◌∙◌, ℕ, List, ℤ, pos, length, to_z, of_z, w32, w64, ap}
+use Rattle.std.proofs.Common.{rules, ◌≡◌, ◌∙◌, ℕ, List, pos, length, to_z, of_z, w32, w64, ap}
 use Rattle.tmchan_c.specs.Texts.{text_of}
 use Rattle.tmchan_c.proofs.Texts.{ended}
 use Rattle.tmchan_c.proofs.text.tmchan_text.Goals as goal
