@@ -1,6 +1,5 @@
 -- An inner sender that is given nothing, and one piece after another.
-use Rattle.std.proofs.Common.{◌≡◌, ◌*◌, ◌≤◌, ℕ, if◌then◌else◌, Bool, true, false, List, [], ◌++◌, Option, Some, None, refl, sym, ap, ◌∙◌, subst}
-use Rattle.std.specs.Option.{is_some}
+use Rattle.std.proofs.Common.{◌≡◌, ℕ, Bool, true, false, List, [], ◌++◌, Option, Some, None, refl, sym, ap, ◌∙◌, subst}
 use Rattle.tm_base.specs.Bits.{AreOctets, bits_of}
 use Rattle.tm_base.specs.Written.{Wrote, WrotePrefix}
 use Rattle.tm_base.specs.Pieces.{further}
@@ -8,9 +7,8 @@ use Rattle.tm_base.proofs.Pieces.{fed-none, fed-more, fed-prefix, fed-prefix_of_
 use Rattle.tm_config.specs.Configuration.{Configuration}
 use Rattle.tm_conv.specs.declared.rates.Rate.{Rate}
 use Rattle.tm_conv.specs.Encoding.{Encoding}
-use Rattle.tm_conv.specs.Octets.{most_octet_symbols}
 use Rattle.tm_inner.specs.Symbols.{low_level, plain_symbols, symbols_by, symbols_of_octets}
-use Rattle.tm_inner.specs.Sending.{EncodesFor, InnerSending, IsEncoderOf, InnerSenderStandsFor, InnerSends, InnerSendsPrefix, InnerMakes, encoded, most_symbols, spread}
+use Rattle.tm_inner.specs.Sending.{EncodesFor, InnerSending, IsEncoderOf, InnerSenderStandsFor, InnerSends, InnerSendsPrefix, InnerMakes, encoded, spread}
 use Rattle.tm_inner.proofs.Symbols.{octets-due, spread-due, symbols-go_on}
 use Rattle.tm_inner.proofs.Coding.{GoesOnBy, symbols-due}
 
@@ -48,22 +46,6 @@ sends-prefix a b c taken here now first piece rest symbols p m wrote =
     (fed-prefix InnerSenderStandsFor due on a b taken here now first piece p.fed (record {
       prefix = λ given stood. subst (WrotePrefix here now) (due-by a b c piece symbols p.config m given stood) wrote;
     }))
-
--- ---- how many symbols come of octets at most
-
--- with an encoder
-pub encoder-most : (c : Configuration) (encoder : Encoding) (count size : ℕ) → IsEncoderOf c (Some encoder)
-    → count ≤ most_octet_symbols * size → count ≤ most_symbols c * size
-encoder-most c encoder count size of most =
-    subst (λ (r : Option Rate). count ≤ (if is_some r then most_octet_symbols else if c.pack then 1 else 8) * size)
-    (sym of.0) most
-
--- with no inner code
-pub plain-most : (c : Configuration) (pack : Bool) (count size : ℕ) → IsEncoderOf c None → pack ≡ c.pack
-    → count ≤ (if pack then 1 else 8) * size → count ≤ most_symbols c * size
-plain-most c pack count size none is most =
-    subst (λ (r : Option Rate). count ≤ (if is_some r then most_octet_symbols else if c.pack then 1 else 8) * size)
-    (sym none) (subst (λ (p : Bool). count ≤ (if p then 1 else 8) * size) is most)
 
 -- ---- what is due
 

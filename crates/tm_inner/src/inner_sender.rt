@@ -2,9 +2,7 @@
 ghost use Rattle.std.specs.Prelude.{◌≡◌, ◌≢◌, ◌↔◌, ◌*◌, ◌≤◌, ℕ, List, ◌++◌, [], length, take, false, true, IsTrue, OnOk, IsErrOf};
 ghost use Rattle.tm_base.specs.Outside.{Rose};
 ghost use Rattle.tm_base.specs.Pieces.{further};
-ghost use Rattle.tm_conv.specs.Octets.{most_octet_symbols};
-ghost use Rattle.tm_config.specs.Configuration.{Configuration};
-ghost use Rattle.tm_inner.specs.Symbols.{low_level, symbols_of_octets};
+ghost use Rattle.tm_inner.specs.Symbols.{symbols_of_octets};
 ghost use Rattle.tm_inner.specs.Sending.{IsEncoderOf, KeepsFor, InnerSenderStandsFor, InnerSends, InnerSendsPrefix, InnerMakes, most_symbols};
 
 use crate::code::{encoder_of, is_packed, low_level};
@@ -83,19 +81,13 @@ impl InnerSender {
     /// with none the octets, or where bits are not to be packed such an octet for each bit. Returns how many octets
     /// were put there. The code's register and puncture pattern run on from call to call.
     pub fn symbols(&mut self, octets: &[u8], room: &mut [u8]) -> usize
-        requires { most_octet_symbols * length octets.now ≤ length room.old }
+        requires { most_symbols self.old.config * length octets.now ≤ length room.old }
         ensures fits { result ≤ length room.old }
         ensures most { result ≤ most_symbols self.old.config * length octets.now }
         ensures failed { self.new.has_failed ≡ self.old.has_failed }
         ensures made { InnerMakes self.old self.new octets.now (take result room.new) }
     {
-        symbols_of(
-            &mut self.encoder,
-            is_packed(&self.config),
-            low_level(&self.config),
-            octets,
-            room,
-        )
+        symbols_of(&self.config, &mut self.encoder, octets, room)
     }
 
     /// Writes the symbols of the next octets.
@@ -117,9 +109,9 @@ impl InnerSender {
         if self.has_failed {
             return Err(SendError::Stopped);
         }
-        let mut room = [0; ROOM];
         let mut done = 0;
         while done < octets.len() {
+            let mut room = [0; ROOM];
             let end = done + PIECE.min(octets.len() - done);
             let count = self.symbols(&octets[done..end], &mut room);
             match put_all(out, &room[..count]) {
@@ -136,32 +128,30 @@ impl InnerSender {
 }
 
 // Puts the symbols of the octets at the start of the room where there is an encoder, and else the octets, or where they
-// are not to be packed an octet for each of their bits. A 0 is the octet `low`, and a 1 its complement.
+// are not to be packed an octet for each of their bits.
 fn symbols_of(
+    config: &Config,
     encoder: &mut Option<Encoder>,
-    is_packed: bool,
-    low: u8,
     octets: &[u8],
     room: &mut [u8],
 ) -> usize
-    requires { most_octet_symbols * length octets.now ≤ length room.old }
+    requires encoder { IsEncoderOf config.now encoder.old }
+    requires room { most_symbols config.now * length octets.now ≤ length room.old }
     ensures fits { result ≤ length room.old }
-    ensures most { (c : Configuration) → IsEncoderOf c encoder.old → is_packed ≡ c.pack
-        → result ≤ most_symbols c * length octets.now }
-    ensures of { (c : Configuration) → IsEncoderOf c encoder.old → IsEncoderOf c encoder.new }
+    ensures most { result ≤ most_symbols config.now * length octets.now }
+    ensures encoder { IsEncoderOf config.now encoder.new }
     ensures stands { (given : List ℕ) → KeepsFor encoder.old given → KeepsFor encoder.new (given ++ octets.now) }
-    ensures due { (c : Configuration) (given : List ℕ) → IsEncoderOf c encoder.old → is_packed ≡ c.pack
-        → low ≡ low_level c.soft → KeepsFor encoder.old given
-        → further (symbols_of_octets c) given octets.now ≡ take result room.new }
+    ensures due { (given : List ℕ) → KeepsFor encoder.old given
+        → further (symbols_of_octets config.now) given octets.now ≡ take result room.new }
 {
     match encoder {
-        Some(encoder) => encoder.encode(octets, low, room),
+        Some(encoder) => encoder.encode(octets, low_level(config), room),
         None => {
-            if is_packed {
+            if is_packed(config) {
                 room[..octets.len()].copy_from_slice(octets);
                 octets.len()
             } else {
-                spread(low, octets, room);
+                spread(low_level(config), octets, room);
                 8 * octets.len()
             }
         }
