@@ -90,15 +90,13 @@ impl Crew for Alone {
     }
 }
 
-/// Threads beside the caller, which share out what is enough for it. How they decode codewords is `words`, or () where
-/// they decode windows alone.
+/// Threads beside the caller, which share out what is enough for it.
 #[derive(Drop)]
-pub struct Threaded<'a, R: Threads + Sync, W> {
+pub struct Threaded<'a, R: Threads + Sync> {
     pub rt: &'a R,
-    pub words: W,
 }
 
-impl<'a, R: Threads + Sync, W> Crew for Threaded<'a, R, W> {
+impl<'a, R: Threads + Sync> Crew for Threaded<'a, R> {
     ghost use Rattle.std.specs.Thread.{IsSync};
 
     ghost is_ready = { λ crew. IsSync R.row };
