@@ -1,5 +1,5 @@
 -- Batches: lists of words, each of which changes in its place.
-use Rattle.std.specs.Prelude.{ℕ, ◌+◌, ◌^◌, ◌<◌, ◌≤◌, List, [], ◌∷◌}
+use Rattle.std.specs.Prelude.{ℕ, ◌^◌, ◌<◌, ◌≤◌, List, [], ◌∷◌}
 use Rattle.tm_base.specs.Limits.{most_workers}
 
 -- the lists are as long as each other, and each word of the first becomes the word in its place in
@@ -19,8 +19,3 @@ pub record IsBatch (e repair words workers : ℕ) : Type 0 where
   pub bound : repair ≤ e
   pub count : words < words_bound
   pub some : (0 < workers) × (workers ≤ most_workers)
-
--- `words` words of a batch, the first of which has the number `first`
-pub record IsPart (e repair first words : ℕ) : Type 0 where
-  pub bound : repair ≤ e
-  pub count : first + words < words_bound

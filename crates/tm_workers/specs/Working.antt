@@ -1,16 +1,31 @@
--- What workers do that draw numbers, and what the slots of results keep.
-use Rattle.std.specs.Prelude.{ℕ, ◌<◌, List, slice_index_or}
+-- What workers do that draw numbers, what a call makes of a word, and what the slots of results keep.
+use Rattle.std.specs.Prelude.{◌≡◌, ℕ, ◌<◌, List, slice_index_or}
+use denote.Param.Members.{Shared}
+use denote.Ref.{MutBor}
+use Rattle.boxcar.specs.Table.{first}
+use Rattle.tm_workers.specs.declared.results.Decoded.{Decoded}
 
 -- a function may be called at each number below n
 pub record IsCallableBelow (pre : ℕ → Type 0) (n : ℕ) : Type 0 where
   pub call : (i : ℕ) → i < n → pre i
 
--- what is kept is what a word may become
-abbrev pub Keeps : {W : Type 0} → (W → Type 0) → (W → Type 0) → Type 0
-Keeps {W} becomes kept = (w : W) → (becomes w → kept w) × (kept w → becomes w)
+-- a call of f at a `&mut` to w may leave w' there
+pub record Leaves {F W : Type 0}
+    (g : Shared F (MutBor W × Unit {0}) (Unit {0} × (MutBor W × Unit {0}))) (f : F) (w w' : W)
+    : Type 0 where
+  pub argument : MutBor W
+  pub argument_is : argument.now ≡ w
+  pub after_call : MutBor W
+  pub call : g.post f (argument, tt) (tt, (after_call, tt))
+  pub left : after_call.now ≡ w'
 
--- what is kept under each number is what the word of that number may become
-abbrev pub KeepsEach : {W : Type 0} → (W → W → Type 0) → List W → (ℕ → W → Type 0) → Type 0
-KeepsEach {W} becomes words kept = (k : ℕ) (w : W)
-    → (becomes (slice_index_or words k w) w → kept k w)
-    × (kept k w → becomes (slice_index_or words k w) w)
+-- what is kept is what a word may become
+abbrev pub Keeps : {W : Type 0} → (W → Type 0) → (Decoded W → Type 0) → Type 0
+Keeps {W} becomes holds = (d : Decoded W) → (becomes d.word → holds d) × (holds d → becomes d.word)
+
+-- what is kept under each tag is what the word of its number may become
+abbrev pub KeepsEach : {W : Type 0} → (W → W → Type 0) → List W
+    → (List ℕ → Decoded W → Type 0) → Type 0
+KeepsEach {W} becomes words holds = (tag : List ℕ) (d : Decoded W)
+    → (becomes (slice_index_or words (first tag) d.word) d.word → holds tag d)
+    × (holds tag d → becomes (slice_index_or words (first tag) d.word) d.word)

@@ -21,4 +21,4 @@ pub use seats::Seat;
 pub use split::split_evenly;
 pub use tickets::Tickets;
 pub use tm_base::{Gate, OpenGate};
-pub use words::{ErasedWord, InPlace, Word};
+pub use words::{ErasedWord, Word};

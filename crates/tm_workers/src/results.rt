@@ -1,32 +1,24 @@
 // The results of words, each in a slot of its own.
-ghost use Rattle.std.specs.Prelude.{◌≤◌, ℕ, [], ◌∷◌, IfOk};
-ghost use Rattle.boxcar.specs.Table.{Tagged, first};
-ghost use Rattle.tm_workers.specs.Working.{Keeps};
+ghost use Rattle.std.specs.Prelude.{[], ◌∷◌, IfOk};
+ghost use Rattle.boxcar.specs.Table.{Tagged};
+ghost use Rattle.tm_workers.specs.Working.{Keeps, Leaves};
 
-use crate::words::InPlace;
+use crate::split::decode_one;
 use boxcar::slot::{OnceSlot, SlotRule};
 use boxcar::tag::{Names, Tag};
 use std::alloc::{AllocError, Global};
-use std::marker::{Brand, PhantomData};
+use std::marker::Brand;
 use tm_base::Gate;
-use tm_rs_code::Params;
 
-/// What the word of each number may become, which is known only at run time.
-pub trait Results<W> {
-    ghost kept: { ℕ → W → Type 0 };
+/// What a word became.
+#[derive(Drop)]
+pub struct Decoded<W> {
+    word: W,
 }
 
-impl<W> Results<W> for Brand {
-    ghost kept = { λ number result. Unit {0} };
-}
-
-/// A slot holds a result of the word whose number its tag has.
-pub struct OfWord<K> {
-    words: PhantomData<K>,
-}
-
-impl<W, K: Results<W>> SlotRule<W> for OfWord<K> {
-    ghost holds = { λ tag result. K.kept (first tag) result };
+// What may stand in the slot of each number is known only at run time, so a call picks it.
+impl<W> SlotRule<Decoded<W>> for Brand {
+    ghost holds = { λ tag result. Unit {0} };
 }
 
 struct Numbered;
@@ -36,10 +28,10 @@ impl Names<usize> for Numbered {
 }
 
 // Empty slots for n results.
-pub fn make_slots<W: Copy, K: Results<W>>(
+pub fn make_slots<W: Copy, K: SlotRule<Decoded<W>>>(
     alloc: Global,
     n: usize,
-) -> Result<Vec<OnceSlot<W, OfWord<K>>>, AllocError>
+) -> Result<Vec<OnceSlot<Decoded<W>, K>>, AllocError>
     ensures { IfOk result (λ slots. Tagged [] 0 n slots.items) }
 {
     let mut slots = Vec::with_capacity(alloc, n)?;
@@ -52,24 +44,22 @@ pub fn make_slots<W: Copy, K: Results<W>>(
 }
 
 // A word's result, which stands in its slot once the word is decoded: whoever asks first decodes it.
-pub fn result_of<G: Gate, W: InPlace, K: Results<W>>(
+pub fn result_of<G: Gate, W: Copy, F: Fn(&mut W), K: SlotRule<Decoded<W>>>(
     gate: &G,
-    params: &Params,
-    repair: u8,
+    decode: &F,
     number: u32,
     word: &W,
-    slot: &OnceSlot<W, OfWord<K>>,
+    slot: &OnceSlot<Decoded<W>, K>,
 ) -> W
-    requires bound { repair ≤ params.now.e }
-    requires slot { Keeps (W.becomes params.now repair word.now) (K.kept (first slot.now.tag)) }
-    ensures { W.becomes params.now repair word.now result }
+    requires calls { F.IsAlwaysCallable decode.now }
+    requires slot { Keeps (Leaves F.Fn decode.now word.now) (K.holds slot.now.tag) }
+    ensures { Leaves F.Fn decode.now word.now result }
 {
-    if let Some(result) = slot.get() {
-        return *result;
+    if let Some(decoded) = slot.get() {
+        return decoded.word;
     }
-    gate.enter(number);
-    let mut result = *word;
-    result.decode(params, repair);
-    let _ = slot.set(result);
-    result
+    let mut word = *word;
+    decode_one(gate, decode, number, &mut word);
+    let _ = slot.set(Decoded { word });
+    word
 }

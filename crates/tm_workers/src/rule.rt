@@ -1,10 +1,10 @@
 // The rule of the tickets' table, and what its steps say.
-ghost use Rattle.std.specs.Prelude.{◌≡◌, ◌<◌, ℕ, []};
+ghost use Rattle.std.specs.Prelude.{◌≡◌, ◌<◌, []};
 ghost use Rattle.tm_workers.specs.Drawing.{Rule, Drew, Counted, remaining_part, cut_part, both_parts, first_view, left_view};
 
 use crate::seats::View;
 use atomic_table::{Join, Play, Seat, Shared, Split, TableRule};
-use std::marker::{Brand, PhantomData};
+use std::marker::Brand;
 
 /// Word 0 is the counter. Each number below the limit that it has passed was drawn once, by one seat.
 pub struct EachOnce;
@@ -29,24 +29,11 @@ impl Play<(), View> for Counts {
     ghost then = { Counted };
 }
 
-/// How many shares are cut off, which is known only at run time.
-pub trait Part {
-    ghost part: { ℕ };
-}
+// A cut of shares. How many are cut off is known only at run time, so a call picks the parts.
+impl Split<View> for Brand {
+    ghost left = { λ v. v };
 
-impl Part for Brand {
-    ghost part = { 0 };
-}
-
-/// A cut of that many shares.
-pub struct Cut<P: Part> {
-    part: PhantomData<P>,
-}
-
-impl<P: Part> Split<View> for Cut<P> {
-    ghost left = { λ v. remaining_part P.part v };
-
-    ghost right = { λ v. cut_part P.part v };
+    ghost right = { λ v. v };
 }
 
 /// Two seats in one.
@@ -59,12 +46,13 @@ impl Join<View> for Both {
 }
 
 // Cuts shares off a seat's view.
-pub fn cut_shares<P: Part>(
+pub fn cut_shares<C: Split<View>>(
     shared: &Shared<(), View, u32, EachOnce>,
     place: &mut Seat<(), View>,
     part: u32,
 ) -> Seat<(), View>
-    requires part { part ≡ P.part }
+    requires parts { (C.left place.old.me.0 ≡ remaining_part part place.old.me.0)
+        × (C.right place.old.me.0 ≡ cut_part part place.old.me.0) }
     requires table { place.old.table_id ≡ shared.now.table_id }
     requires word { 0 < shared.now.table_id.words }
     requires fewer { (0 < part) × (part < place.old.me.0.shares) }
@@ -72,5 +60,5 @@ pub fn cut_shares<P: Part>(
     ensures kept { place.new.me ≡ (remaining_part part place.old.me.0, place.old.me.1) }
     ensures cut { (result.table_id ≡ place.old.table_id) × (result.me ≡ (cut_part part place.old.me.0, [])) }
 {
-    shared.split_seat::<Cut<P>>(place)
+    shared.split_seat::<C>(place)
 }
