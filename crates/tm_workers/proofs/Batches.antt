@@ -1,13 +1,10 @@
 -- Lists of words, each of which changes in its place.
 use Rattle.std.proofs.Common.{◌≡◌, ℕ, zero, suc, ◌+◌, ◌-◌, ◌<◌, ◌≤◌, get_or, refl, sym, ap, ◌∙◌, subst, List, [], ◌∷◌, ◌++◌, length, take, drop, set, arith}
 use Rattle.std.proofs.Math.Seq.{take-add}
-use Rattle.std.proofs.lemmas.List.{drop-drop, get_or-drop, get_or_default, length-drop, length-take-le}
+use Rattle.std.proofs.lemmas.List.{drop-drop, length-drop, length-take-le}
 use Rattle.std.proofs.lemmas.Slice.{take-put_mid, drop-put_mid}
 use borrow.Rule.Slice.PartMut.{put_mid}
-use Rattle.boxcar.specs.Table.{first}
 use Rattle.tm_workers.specs.Batch.{EachBecomes}
-use Rattle.tm_workers.specs.Working.{Keeps, KeepsEach}
-use Rattle.tm_workers.specs.declared.results.Decoded.{Decoded}
 
 module _ {W : Type 0} (becomes : W → W → Type 0) where
   pub EachBecomes-append : (a a' b b' : List W) → EachBecomes becomes a a' → EachBecomes becomes b b'
@@ -78,20 +75,3 @@ each_at R [] (y ∷ b) same h = absurd (omega arith)
 each_at R (x ∷ a) [] same h = absurd (omega arith)
 each_at R (x ∷ a) (y ∷ b) same h =
     (h 0 x (omega arith), each_at R a b (omega arith) (λ i d below. h (suc i) d (omega arith)))
-
--- what is kept in the slot of one word
-pub keeps_at : {W : Type 0} (becomes : W → W → Type 0) (holds : List ℕ → Decoded W → Type 0) (words : List W)
-    (tag : List ℕ) (index : ℕ) (w : W) → index < length words → w ≡ get_or words index w → tag ≡ (0 + index) ∷ []
-    → KeepsEach becomes words holds → Keeps (becomes w) (holds tag)
-keeps_at becomes holds words tag index w below at tagged kept = λ d.
-    let named : first tag ≡ index = ap first tagged ∙ omega arith in
-    subst (λ v. (becomes v d.word → holds tag d) × (holds tag d → becomes v d.word))
-    (ap (λ k. get_or words k d.word) named ∙ get_or_default words index d.word w below ∙ sym at) (kept tag d)
-
--- a word that has not changed yet
-pub unchanged_at : {W : Type 0} (olds words : List W) (i : ℕ) (d : W) → i < length olds → drop i words ≡ drop i olds
-    → get_or words i d ≡ get_or olds i (get_or words i d)
-unchanged_at olds words i d below rest =
-    let here : i + 0 ≡ i = omega arith in
-    ap (λ k. get_or words k d) (sym here) ∙ sym (get_or-drop i words 0 d) ∙ ap (λ l. get_or l 0 d) rest
-    ∙ get_or-drop i olds 0 d ∙ ap (λ k. get_or olds k d) here ∙ get_or_default olds i d (get_or words i d) below

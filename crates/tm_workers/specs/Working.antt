@@ -10,14 +10,10 @@ pub record IsCallableBelow (pre : ℕ → Type 0) (n : ℕ) : Type 0 where
   pub call : (i : ℕ) → i < n → pre i
 
 -- a call of f at a `&mut` to w may leave w' there
-pub record Leaves {F W : Type 0}
-    (g : Shared F (MutBor W × Unit {0}) (Unit {0} × (MutBor W × Unit {0}))) (f : F) (w w' : W)
-    : Type 0 where
-  pub argument : MutBor W
-  pub argument_is : argument.now ≡ w
-  pub after_call : MutBor W
-  pub call : g.post f (argument, tt) (tt, (after_call, tt))
-  pub left : after_call.now ≡ w'
+unfoldable pub Leaves : {F W : Type 0}
+    → Shared F (MutBor W × Unit {0}) (Unit {0} × (MutBor W × Unit {0})) → F → W → W → Type 0
+Leaves {F} {W} g f w w' = (p : MutBor W) × (q : MutBor W) × (p.now ≡ w)
+    × g.post f (p, tt) (tt, (q, tt)) × (q.now ≡ w')
 
 -- what is kept is what a word may become
 abbrev pub Keeps : {W : Type 0} → (W → Type 0) → (Decoded W → Type 0) → Type 0

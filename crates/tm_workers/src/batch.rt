@@ -93,6 +93,7 @@ fn decode_drawn<
 }
 
 // Decodes each word of a start in its place. The first has the number `first`.
+#[tactic(auto, unfolding(crate::specs::Working::Leaves))]
 fn decode_start<R: Threads + Sync, G: Gate + Sync, W: Copy + Send + Sync, F: Fn(&mut W) + Sync>(
     rt: &R,
     alloc: Global,

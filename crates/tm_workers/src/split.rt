@@ -7,6 +7,7 @@ use std::thread::{Threads, for_each_mut};
 use tm_base::Gate;
 
 // Decodes a word in its place, after the gate.
+#[tactic(auto, unfolding(crate::specs::Working::Leaves))]
 pub fn decode_one<G: Gate, W, F: Fn(&mut W)>(gate: &G, decode: &F, number: u32, word: &mut W)
     requires { F.IsAlwaysCallable decode.now }
     ensures { Leaves F.Fn decode.now word.old word.new }
