@@ -1,12 +1,12 @@
 // How many workers there are, and how words are shared out among them. A word waits for nothing: it looks at
 // atomic words a stated number of times.
-use crate::gates::{SPINS, ZEROS, gate_that_holds};
+use crate::gates::{SPINS, gate_that_holds};
 use std::sync::atomic::{AtomicU64, Ordering};
 use std::test::Fail;
 use tm_gf256::Basis;
 use tm_records::{Coding, Records};
 use tm_rs_code::Params;
-use tm_workers::{Gate, InPlace, OpenGate, decode_all, split_evenly};
+use tm_workers::{Gate, OpenGate, decode_all, split_evenly};
 
 // How long a word stays under way once as many are as there are workers, so that one worker too many would show.
 const LINGERING: u64 = 1_000_000;
@@ -19,38 +19,25 @@ struct UnderWay {
     most: AtomicU64,
 }
 
-// A word that is under way until as many words were as there are workers, and a while longer.
-#[derive(Clone, Copy)]
-struct Busy<'a> {
-    under_way: &'a UnderWay,
-}
-
-impl<'a> InPlace for Busy<'a> {
-    ghost becomes = { λ _ _ _ _. Unit {0} };
-
-    fn decode(&mut self, _params: &Params, _repair: u8) {
-        let here = self.under_way;
-        let now = here.now.fetch_add(1, Ordering::SeqCst).saturating_add(1);
-        here.most.fetch_max(now, Ordering::SeqCst);
-        for _ in 0..SPINS {
-            if here.most.load(Ordering::SeqCst) >= here.workers {
-                break;
-            }
+// A word is under way until as many words were as there are workers, and a while longer.
+fn linger(here: &UnderWay) {
+    let now = here.now.fetch_add(1, Ordering::SeqCst).saturating_add(1);
+    here.most.fetch_max(now, Ordering::SeqCst);
+    for _ in 0..SPINS {
+        if here.most.load(Ordering::SeqCst) >= here.workers {
+            break;
         }
-        for _ in 0..LINGERING {
-            if here.most.load(Ordering::SeqCst) > here.workers {
-                break;
-            }
-        }
-        here.now.fetch_sub(1, Ordering::SeqCst);
     }
+    for _ in 0..LINGERING {
+        if here.most.load(Ordering::SeqCst) > here.workers {
+            break;
+        }
+    }
+    here.now.fetch_sub(1, Ordering::SeqCst);
 }
 
 #[test]
 fn as_many_words_are_under_way_as_there_are_workers(rt: HostRuntime) -> Result<(), Fail> {
-    let Ok(params) = Params::new(16, 255) else {
-        panic!(rt; "no code")
-    };
     for workers in [1u8, 2, 3] {
         for is_drawn in [false, true] {
             let under_way = UnderWay {
@@ -58,14 +45,12 @@ fn as_many_words_are_under_way_as_there_are_workers(rt: HostRuntime) -> Result<(
                 now: AtomicU64::new(0),
                 most: AtomicU64::new(0),
             };
-            let busy = Busy {
-                under_way: &under_way,
-            };
-            let mut words = [busy; 6];
+            let busy = |_word: &mut u8| linger(&under_way);
+            let mut words = [0u8; 6];
             if is_drawn {
-                decode_all(&rt, rt.alloc(), &params, 16, &mut words, workers, &OpenGate);
+                decode_all(&rt, rt.alloc(), &busy, &mut words, workers, &OpenGate);
             } else {
-                split_evenly(&rt, &OpenGate, &params, 16, 0, workers, &mut words);
+                split_evenly(&rt, &OpenGate, &busy, 0, workers, &mut words);
             }
             assert!(rt; under_way.most.load(Ordering::SeqCst) == u64::from(workers));
         }
@@ -76,32 +61,20 @@ fn as_many_words_are_under_way_as_there_are_workers(rt: HostRuntime) -> Result<(
 // A word is held until all of the other parts have entered, and those before it in its own.
 #[test]
 fn parts_are_even(rt: HostRuntime) -> Result<(), Fail> {
-    let Ok(params) = Params::new(16, 255) else {
-        panic!(rt; "no code")
-    };
     for (workers, part) in [(2u8, 4u32), (4, 2)] {
         assert!(rt; 0 < part && part <= 8);
         for held in 0..8u32 {
             let gate = gate_that_holds(held, u64::from(8 - part + held % part));
-            let mut words = [ZEROS; 8];
-            split_evenly(&rt, &gate, &params, 16, 0, workers, &mut words);
+            let mut words = [0u8; 8];
+            split_evenly(&rt, &gate, &|_word: &mut u8| (), 0, workers, &mut words);
             assert!(rt; gate.freed.load(Ordering::SeqCst) == 1);
         }
     }
     Ok(())
 }
 
-// Two workers have 2,048 words a start. A word is empty here.
+// Two workers have 2,048 words a start.
 const START: u64 = 2048;
-
-#[derive(Clone, Copy)]
-struct Empty;
-
-impl InPlace for Empty {
-    ghost becomes = { λ _ _ _ _. Unit {0} };
-
-    fn decode(&mut self, _params: &Params, _repair: u8) {}
-}
 
 // Holds word 0 until all words of its start have entered, and a while longer, so that a word of the next one would show,
 // and notes how many had entered by then. It adds up their numbers.
@@ -136,16 +109,13 @@ impl Gate for FirstStart {
 
 #[test]
 fn a_start_is_decoded_whole_before_the_next(rt: HostRuntime) -> Result<(), Fail> {
-    let Ok(params) = Params::new(16, 255) else {
-        panic!(rt; "no code")
-    };
     let gate = FirstStart {
         entered: AtomicU64::new(0),
         sum: AtomicU64::new(0),
         freed_at: AtomicU64::new(0),
     };
-    let mut words = [Empty; 2052];
-    decode_all(&rt, rt.alloc(), &params, 16, &mut words, 2, &gate);
+    let mut words = [0u8; 2052];
+    decode_all(&rt, rt.alloc(), &|_word: &mut u8| (), &mut words, 2, &gate);
     assert!(rt; gate.freed_at.load(Ordering::SeqCst) == START);
     assert!(rt; gate.entered.load(Ordering::SeqCst) == 2052);
     assert!(rt; gate.sum.load(Ordering::SeqCst) == 2_104_326);

@@ -5,8 +5,7 @@ use tm_gf256::Gf;
 use tm_rs::{Answer, ErasedAnswer};
 use tm_rs_code::Params;
 use tm_workers::{
-    ErasedWord, Gate, InPlace, OpenGate, Word, decode_all, decode_batch, decode_erased_batch,
-    split_evenly,
+    ErasedWord, Gate, OpenGate, Word, decode_all, decode_batch, decode_erased_batch, split_evenly,
 };
 
 const G: [u8; 33] = [
@@ -108,52 +107,37 @@ impl Gate for Noting {
     }
 }
 
-// A word that tells, once it is decoded, whether its number had entered.
+// A word with its number, which tells, once it is decoded, whether the number had entered.
 #[derive(Clone, Copy)]
-struct Watching<'a> {
+struct Watched {
     number: u32,
-    gate: &'a Noting,
     had_entered: bool,
 }
 
-impl<'a> InPlace for Watching<'a> {
-    ghost becomes = { λ _ _ _ _. Unit {0} };
-
-    fn decode(&mut self, _params: &Params, _repair: u8) {
-        let entered = self.gate.entered.load(Ordering::SeqCst);
-        self.had_entered = (entered >> (self.number % 64)) % 2 == 1;
-    }
-}
-
-fn watched(number: u32, gate: &Noting) -> Watching<'_> {
-    Watching {
-        number,
-        gate,
-        had_entered: false,
-    }
+fn watch(gate: &Noting, word: &mut Watched) {
+    let entered = gate.entered.load(Ordering::SeqCst);
+    word.had_entered = (entered >> (word.number % 64)) % 2 == 1;
 }
 
 #[test]
 fn each_number_enters_once_and_before_its_word_is_decoded(rt: HostRuntime) -> Result<(), Fail> {
-    let Ok(params) = Params::new(16, 33) else {
-        panic!(rt; "no code")
-    };
     for is_drawn in [false, true] {
         let gate = Noting {
             entered: AtomicU64::new(0),
         };
-        let mut words = [
-            watched(0, &gate),
-            watched(1, &gate),
-            watched(2, &gate),
-            watched(3, &gate),
-            watched(4, &gate),
-            watched(5, &gate),
-        ];
+        let unseen = Watched {
+            number: 0,
+            had_entered: false,
+        };
+        let mut words = [unseen; 6];
+        for number in 0..6u32 {
+            words[number as usize].number = number;
+        }
+        let watching = |word: &mut Watched| watch(&gate, word);
         if is_drawn {
-            decode_all(&rt, rt.alloc(), &params, 16, &mut words, 4, &gate);
+            decode_all(&rt, rt.alloc(), &watching, &mut words, 4, &gate);
         } else {
-            split_evenly(&rt, &gate, &params, 16, 0, 4, &mut words);
+            split_evenly(&rt, &gate, &watching, 0, 4, &mut words);
         }
         for word in &words {
             assert!(rt; word.had_entered);
@@ -161,20 +145,6 @@ fn each_number_enters_once_and_before_its_word_is_decoded(rt: HostRuntime) -> Re
         assert!(rt; gate.entered.load(Ordering::SeqCst) == 63);
     }
     Ok(())
-}
-
-// A word that notes how often it was decoded.
-#[derive(Clone, Copy)]
-struct Counted {
-    times: u32,
-}
-
-impl InPlace for Counted {
-    ghost becomes = { λ _ _ _ _. Unit {0} };
-
-    fn decode(&mut self, _params: &Params, _repair: u8) {
-        self.times = self.times.saturating_add(1);
-    }
 }
 
 // Adds up how many numbers enter, and the numbers.
@@ -191,23 +161,21 @@ impl Gate for Adding {
     }
 }
 
-// Two workers have 2,048 words a start.
+// Two workers have 2,048 words a start. A word is how often it was decoded.
 #[test]
 fn each_start_goes_on_with_the_numbers(rt: HostRuntime) -> Result<(), Fail> {
-    let Ok(params) = Params::new(16, 33) else {
-        panic!(rt; "no code")
-    };
+    let count = |times: &mut u32| *times = times.saturating_add(1);
     for workers in [1u8, 2, 3] {
         let gate = Adding {
             entered: AtomicU64::new(0),
             sum: AtomicU64::new(0),
         };
-        let mut words = [Counted { times: 0 }; 2052];
-        decode_all(&rt, rt.alloc(), &params, 16, &mut words, workers, &gate);
+        let mut words = [0u32; 2052];
+        decode_all(&rt, rt.alloc(), &count, &mut words, workers, &gate);
         assert!(rt; gate.entered.load(Ordering::SeqCst) == 2052);
         assert!(rt; gate.sum.load(Ordering::SeqCst) == 2_104_326);
-        for word in &words {
-            assert!(rt; word.times == 1);
+        for times in &words {
+            assert!(rt; *times == 1);
         }
     }
     Ok(())
