@@ -1,7 +1,8 @@
 -- Lists of words, each of which changes in its place.
-use Rattle.std.proofs.Common.{◌≡◌, ℕ, zero, suc, ◌+◌, ◌-◌, ◌<◌, ◌≤◌, get_or, refl, sym, ap, ◌∙◌, subst, List, [], ◌∷◌, ◌++◌, length, take, drop, set, arith}
+use Rattle.std.proofs.Common.{◌≡◌, ℕ, zero, suc, ◌+◌, ◌-◌, ◌<◌, ◌≤◌, get_or, sym, ap, ◌∙◌, subst, List, [], ◌∷◌, ◌++◌, length, take, drop, set, arith}
 use Rattle.std.proofs.Math.Seq.{take-add}
 use Rattle.std.proofs.lemmas.List.{drop-drop, length-drop, length-take-le}
+use Rattle.std.proofs.lemmas.Slice.Zip.{AllZip-long}
 use Rattle.std.proofs.lemmas.Slice.{take-put_mid, drop-put_mid}
 use borrow.Rule.Slice.PartMut.{put_mid}
 use Rattle.tm_workers.specs.Batch.{EachBecomes}
@@ -30,12 +31,6 @@ module _ {W : Type 0} (becomes : W → W → Type 0) where
       let r = each_more olds xs i w' d (omega arith) (omega arith) rest h done.1 in
       ((done.0, r.0), r.1)
 
-  EachBecomes-length : (a b : List W) → EachBecomes becomes a b → length a ≡ length b
-  EachBecomes-length [] [] h = refl
-  EachBecomes-length [] (y ∷ b) h = absurd h
-  EachBecomes-length (x ∷ a) [] h = absurd h
-  EachBecomes-length (x ∷ a) (y ∷ b) h = ap suc (EachBecomes-length a b h.1)
-
   -- a part more, from place a to place b
   pub part_more : (olds xs ys : List W) (a b : ℕ) → a ≤ b → b ≤ length xs → drop a xs ≡ drop a olds
       → EachBecomes becomes (take (b - a) (drop a xs)) ys
@@ -45,7 +40,7 @@ module _ {W : Type 0} (becomes : W → W → Type 0) where
   part_more olds xs ys a b order within rest part done =
       let k : ℕ = b - a in
       let sum : b ≡ a + k = omega arith in
-      let long : length ys ≡ k = sym (EachBecomes-length (take k (drop a xs)) ys part)
+      let long : length ys ≡ k = AllZip-long becomes (take k (drop a xs)) ys part
       ∙ length-take-le k (drop a xs) (omega (arith, length-drop a xs)) in
       let before : take b olds ≡ take a olds ++ take k (drop a xs) = ap (λ n. take n olds) sum
       ∙ take-add a k olds ∙ ap (λ l. take a olds ++ take k l) (sym rest) in

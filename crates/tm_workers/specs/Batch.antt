@@ -1,14 +1,11 @@
 -- Batches: lists of words, each of which changes in its place.
-use Rattle.std.specs.Prelude.{ℕ, ◌^◌, ◌<◌, ◌≤◌, List, [], ◌∷◌}
+use Rattle.std.specs.Prelude.{ℕ, ◌^◌, ◌<◌, ◌≤◌, List}
+use Rattle.std.specs.List.{AllZip}
 use Rattle.tm_base.specs.Limits.{most_workers}
 
--- the lists are as long as each other, and each word of the first becomes the word in its place in
--- the second
+-- each word of the first list becomes the word in its place in the second, which is as long
 abbrev pub EachBecomes : {W : Type 0} → (W → W → Type 0) → List W → List W → Type 0
-EachBecomes becomes [] [] = Unit {0}
-EachBecomes becomes [] (w' ∷ ws') = ⊥
-EachBecomes becomes (w ∷ ws) [] = ⊥
-EachBecomes becomes (w ∷ ws) (w' ∷ ws') = becomes w w' × EachBecomes becomes ws ws'
+EachBecomes becomes ws ws' = AllZip becomes ws ws'
 
 -- a batch has fewer words than this
 abbrev pub words_bound : ℕ
