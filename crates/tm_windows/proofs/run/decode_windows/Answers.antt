@@ -1,4 +1,5 @@
-use Rattle.std.proofs.Common.{◌≡◌, ◌∙◌, ◌++◌, ℕ, List, ◌<◌, arith, sym, ap, subst, drop, length, take, map, set, get_or}
+use Rattle.std.proofs.Common.{◌≡◌, ◌∙◌, ◌++◌, ◌+◌, ℕ, List, ◌<◌, arith, sym, ap, subst, drop, length, take, map, set, get_or, vec_len}
+use Rattle.std.proofs.lemmas.List.Elements.{All-take}
 use Rattle.std.proofs.lemmas.List.{get_or_append_left, length-set, length-take-le, set-append_left, take_all, take_at}
 use Rattle.tm_viterbi.specs.WindowBlock.{WindowBlock}
 use Rattle.tm_windows.specs.Candidates.{ClosedWith, after_windows, block_of, run_place}
@@ -38,3 +39,8 @@ returns-clause-blocks g c =
           (after_windows run.shape run.t run.octets.now count next))
           (ap (map block_of) (take_all count first (omega (arith, long))) ∙ are.before) closes,
     )
+
+pub decode-requires-clause-bits : goal.decode-requires-clause-bits
+decode-requires-clause-bits g c =
+    let s = c.args.run.now.shape in
+    All-take (λ (x : Candidate). vec_len x.bits ≡ s.keep + s.ahead) c.args.count _ c.requires.bits
