@@ -21,7 +21,7 @@ use crate::windows::BufferWindows;
 use std::alloc::Global;
 use std::marker::Model;
 use tm_base::NoMemory;
-use tm_channel::{Receiver, Totals, waiting_bits};
+use tm_channel::{Receiver, Totals, decode_columns_alone, waiting_bits};
 use tm_codeblock::{codeblock_size, columns_of};
 use tm_config::Config;
 use tm_inner::{NoWatch, Window, WindowWatch, held_bits};
@@ -132,7 +132,9 @@ impl BufferReceiver {
     {
         let most = reports.len();
         let mut taker = BufferItems::over(frames, reports);
-        let went = self.receiver.receive(&Alone, octets, watch, &mut taker);
+        let went = self
+            .receiver
+            .receive(&Alone, &decode_columns_alone, octets, watch, &mut taker);
         *written = Written {
             reports: taker.count as u64,
             octets: taker.octets as u64,
@@ -204,7 +206,9 @@ impl BufferReceiver {
     {
         let most = reports.len();
         let mut taker = BufferItems::over(frames, reports);
-        let ended = self.receiver.end(&Alone, watch, &mut taker);
+        let ended = self
+            .receiver
+            .end(&Alone, &decode_columns_alone, watch, &mut taker);
         *written = Written {
             reports: taker.count as u64,
             octets: taker.octets as u64,

@@ -58,6 +58,14 @@ pub first-stored : (c : Configuration) (f : Found) (size : ℕ) (x : Slot) (rest
 first-stored c f size x rest same fill =
     (λ i. stored_in (sym same i) x) ∙ fill ∙ (λ i. stored_of c f (take (8 * same i) rest))
 
+-- the first of the slots that were read and repaired
+pub first-kept : {B : Type 0} (f : Slot → B) (count : ℕ) (now read rest : List Slot) → 0 < count → count ≤ length read
+    → map f (take count now) ≡ map f (take count (read ++ rest)) → map f (take 1 now) ≡ map f (take 1 read)
+first-kept f zero now read rest some most same = absurd (omega (arith, some))
+first-kept f (suc count) now [] rest some most same = absurd (omega (arith, most))
+first-kept f (suc count) [] (s ∷ read) rest some most same = ap (take 1) same
+first-kept f (suc count) (x ∷ now) (s ∷ read) rest some most same = ap (take 1) same
+
 -- a slot was written and repaired, and its item says whether the codeblock is sound
 pub probe-sound : (c : Configuration) (f : Found) (rest : List Bool) (slots : List Slot) (index size : ℕ) (x y d : Slot)
     → index < length slots → size ≡ codeblock_length c → stored_in size x ≡ stored_of c f (take (8 * size) rest)

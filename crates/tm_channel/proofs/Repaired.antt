@@ -21,6 +21,7 @@ use Rattle.tm_workers.specs.declared.words.Word.{Word}
 use Rattle.tm_workers.specs.Batch.{EachBecomes}
 use Rattle.tm_workers.specs.Words.{Decodes}
 use Rattle.tm_codeblock.specs.ReceivedCodeblock.{column_count, received_columns, frame_of, is_sound}
+use Rattle.tm_channel.specs.ColumnDecoding.{AreColumnsDecoded}
 use Rattle.tm_channel.specs.ColumnWords.{symbols_of, all_symbols}
 use Rattle.tm_channel.specs.Items.{AreNearest, IsItem, ItemValue, are_fixed, is_given}
 use Rattle.tm_channel.specs.Origins.{PlaceSymbol}
@@ -83,17 +84,14 @@ becomes-part R count index xs ys each =
     (becomes-drop R (index * count) xs ys each)
 
 -- the words of all codeblocks, decoded as one batch
-pub all-decoded : (c : Configuration) (code : Code) (repair : ℕ) (slots : List Slot) (words now : List Word)
-    → c.code ≢ Uncoded → code.e ≡ correctable c.code → code.n ≡ word_length c → repair ≡ c.repair
-    → AreRead c slots words → EachBecomes (Decodes code repair) words now → AreDecoded c slots now
-all-decoded c code repair slots words now coded e n bound read decoded =
-    let become : EachBecomes (Decodes code c.repair) words now =
-    subst (λ (r : ℕ). EachBecomes (Decodes code r) words now) bound decoded in λ index slot below.
+pub all-decoded : (c : Configuration) (slots : List Slot) (words now : List Word) → c.code ≢ Uncoded
+    → AreRead c slots words → AreColumnsDecoded c words now → AreDecoded c slots now
+all-decoded c slots words now coded read decoded = λ index slot below.
     rw (uncoded_false c.code coded) (
     subst (λ (columns : List (List ℕ)). AreNearest c columns (answers_of (words_at c.depth now index))
     (all_symbols c (words_at c.depth now index))) (read index slot below)
-    (nearest-are c code (words_at c.depth words index) (words_at c.depth now index) e n
-    (becomes-part (Decodes code c.repair) c.depth index words now become)))
+    (nearest-are c decoded.0 (words_at c.depth words index) (words_at c.depth now index) decoded.1 decoded.2
+    (becomes-part (Decodes decoded.0 c.repair) c.depth index words now decoded.3)))
 
 -- with no outer code there are no words
 pub none-decoded : (c : Configuration) (slots : List Slot) (words : List Word) → c.code ≡ Uncoded

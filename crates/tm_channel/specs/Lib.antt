@@ -14,4 +14,4 @@ pub mod ColumnWords
 pub mod Storing
 pub mod Sending
 pub mod Calls
-pub mod Crew
+pub mod ColumnDecoding

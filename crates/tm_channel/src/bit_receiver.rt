@@ -8,19 +8,22 @@ ghost use Rattle.tm_sync.specs.declared.found.Found.{Found};
 ghost use Rattle.tm_sync.specs.Bits.{bits_bound};
 ghost use Rattle.tm_inner.specs.InnerDecoding.{ready_in};
 ghost use Rattle.tm_codeblock.specs.ReceivedCodeblock.{places_in};
+ghost use Rattle.tm_channel.specs.ColumnDecoding.{IsColumnDecoder};
 ghost use Rattle.tm_channel.specs.Items.{ItemValue};
 ghost use Rattle.tm_channel.specs.Origins.{AreHandedSymbols, place_symbol};
 ghost use Rattle.tm_channel.specs.Receiving.{Agree, AreItemsFor, AreWritten, Fills, HoldsFound, IsHanded, IsReady, piece_size, run_size, waiting_bits};
 ghost use Rattle.tm_channel.specs.OctetReceiving.{AreSpare, AwaitsBits, Gathered, IsSearched, IsSettled, KeepsSymbols, Notes, NotesOrigin, ReceivedAt, ReceivedLast, Receives, bits_of_blocks, spare_bits};
 
-use crate::crew::ReceiverCrew;
 use crate::item::ItemWatch;
 use crate::origins::Origins;
 use crate::packed::{RUN, pack_run};
 use crate::store::Codeblocks;
 use tm_codeblock::run_length;
+use tm_config::Config;
 use tm_inner::InnerDecoder;
 use tm_sync::{Finder, RecentBits};
+use tm_windows::Crew;
+use tm_workers::Word;
 
 // Hands over the items of the codeblocks that are stored.
 fn hand_over<T: ItemWatch>(batch: &Codeblocks, taker: &mut T)
@@ -63,15 +66,15 @@ impl BitReceiver {
 
     /// Takes the next bits, those of octets after the first `from` ones, and hands over the items that are due with
     /// them. They wait in the room where no batch can be full with those that are not passed, to be searched together
-    /// with others. Each full batch is repaired by these workers.
-    pub fn receive<C: ReceiverCrew, T: ItemWatch>(
+    /// with others. Each full batch is repaired by this decoder.
+    pub fn receive<F: Fn(&Config, &mut [Word]), T: ItemWatch>(
         &mut self,
-        crew: &C,
+        decoder: &F,
         octets: &[u8],
         from: usize,
         taker: &mut T,
     )
-        requires crew { C.can_decode crew.now }
+        requires decoder { IsColumnDecoder F.Fn decoder.now }
         requires plain { is_some self.old.batch.config.inner ≡ false }
         requires most { length octets.now ≤ piece_size }
         requires awaits { AwaitsBits self.old }
@@ -83,53 +86,53 @@ impl BitReceiver {
             let end = done + self.recent.free().min(octets.len() - done);
             let piece = &octets[done..end];
             let skipped = from.saturating_sub(8 * done).min(8 * piece.len());
-            self.put(crew, piece, skipped, taker);
+            self.put(decoder, piece, skipped, taker);
             done = end;
         }
-        self.search(crew, taker);
+        self.search(decoder, taker);
     }
 
     /// Does the same with bits, each 0 or 1.
-    pub fn receive_bits<C: ReceiverCrew, T: ItemWatch>(
+    pub fn receive_bits<F: Fn(&Config, &mut [Word]), T: ItemWatch>(
         &mut self,
-        crew: &C,
+        decoder: &F,
         bits: &[u8],
         taker: &mut T,
     )
-        requires crew { C.can_decode crew.now }
+        requires decoder { IsColumnDecoder F.Fn decoder.now }
         requires plain { is_some self.old.batch.config.inner ≡ false }
         requires awaits { AwaitsBits self.old }
         ensures awaits { AwaitsBits self.new }
         ensures handed { ReceivedAt T.took self.old self.new taker.old taker.new (map (λ bit. bit == 1) bits.now) }
     {
-        self.gather(crew, bits, taker);
-        self.search(crew, taker);
+        self.gather(decoder, bits, taker);
+        self.search(decoder, taker);
     }
 
     /// Takes the bits of the blocks that are ready, and hands over the items that are due with them. As many as there
     /// is room for are searched together, so that several codeblocks are whole in the room.
-    pub fn receive_ready<C: ReceiverCrew, T: ItemWatch>(
+    pub fn receive_ready<F: Fn(&Config, &mut [Word]), T: ItemWatch>(
         &mut self,
-        crew: &C,
+        decoder: &F,
         inner: &InnerDecoder,
         taker: &mut T,
     )
-        requires crew { C.can_decode crew.now }
+        requires decoder { IsColumnDecoder F.Fn decoder.now }
         requires awaits { AwaitsBits self.old }
         ensures awaits { AwaitsBits self.new }
         ensures handed { ReceivedAt T.took self.old self.new taker.old taker.new
             (bits_of_blocks (ready_in inner.now.queue)) }
     {
         for index in 0..inner.ready() {
-            self.gather(crew, inner.kept_bits(index), taker);
+            self.gather(decoder, inner.kept_bits(index), taker);
         }
-        self.keep_all(crew, taker);
+        self.keep_all(decoder, taker);
     }
 
     /// How many further bits make no item due, whatever they are: one fewer than the codeblocks that the batch lacks
     /// have at least with their markers, less those that are not passed; none with one worker, or where the caller is
     /// alone, since none has to wait.
-    pub fn spare<C: ReceiverCrew>(&self, crew: &C) -> u64
+    pub fn spare<C: Crew>(&self, crew: &C) -> u64
         requires awaits { AwaitsBits self.now }
         ensures value { AreSpare self.now result }
         ensures most { result ≤ waiting_bits self.now.batch.config self.now.batch.config.batch }
@@ -143,20 +146,24 @@ impl BitReceiver {
     }
 
     /// Hands over the items that were not due before the end of the bits was known.
-    pub fn hand_last<C: ReceiverCrew, T: ItemWatch>(&mut self, crew: &C, taker: &mut T)
-        requires crew { C.can_decode crew.now }
+    pub fn hand_last<F: Fn(&Config, &mut [Word]), T: ItemWatch>(
+        &mut self,
+        decoder: &F,
+        taker: &mut T,
+    )
+        requires decoder { IsColumnDecoder F.Fn decoder.now }
         requires awaits { AwaitsBits self.old }
         ensures config { self.new.batch.config ≡ self.old.batch.config }
         ensures handed { ReceivedLast T.took self.old taker.old taker.new }
     {
-        self.keep_all(crew, taker);
-        self.hand_all(crew, taker);
+        self.keep_all(decoder, taker);
+        self.hand_all(decoder, taker);
     }
 
     // Searches the bits in the room, or lets them wait where no item is due with them, whatever they are: with more of
     // them several codeblocks are whole, which several workers decode at once.
-    fn search<C: ReceiverCrew, T: ItemWatch>(&mut self, crew: &C, taker: &mut T)
-        requires crew { C.can_decode crew.now }
+    fn search<F: Fn(&Config, &mut [Word]), T: ItemWatch>(&mut self, decoder: &F, taker: &mut T)
+        requires decoder { IsColumnDecoder F.Fn decoder.now }
         requires fills { Fills self.old.finder self.old.recent self.old.batch }
         ensures fills { Fills self.new.finder self.new.recent self.new.batch }
         ensures searched { Receives Gathered IsSearched T.took self.old self.new taker.old taker.new [] }
@@ -164,12 +171,17 @@ impl BitReceiver {
         if (self.recent.count() as u64) < self.batch.bits_lacking() {
             return;
         }
-        self.keep_all(crew, taker);
+        self.keep_all(decoder, taker);
     }
 
     // Puts bits, each 0 or 1, into the room.
-    fn gather<C: ReceiverCrew, T: ItemWatch>(&mut self, crew: &C, bits: &[u8], taker: &mut T)
-        requires crew { C.can_decode crew.now }
+    fn gather<F: Fn(&Config, &mut [Word]), T: ItemWatch>(
+        &mut self,
+        decoder: &F,
+        bits: &[u8],
+        taker: &mut T,
+    )
+        requires decoder { IsColumnDecoder F.Fn decoder.now }
         requires fills { Fills self.old.finder self.old.recent self.old.batch }
         ensures fills { Fills self.new.finder self.new.recent self.new.batch }
         ensures gathers { Receives Gathered Gathered T.took self.old self.new taker.old taker.new
@@ -180,21 +192,21 @@ impl BitReceiver {
             let count = run_length(bits.len() - done, RUN);
             let mut room = [0; RUN];
             let (octets, from) = pack_run(&bits[done..done + count], &mut room);
-            self.put(crew, &room[..octets], from, taker);
+            self.put(decoder, &room[..octets], from, taker);
             done += count;
         }
     }
 
     // Puts the bits of octets after the first `from` ones into the room, and searches all that are there where `RUN`
     // octets more might not fit.
-    fn put<C: ReceiverCrew, T: ItemWatch>(
+    fn put<F: Fn(&Config, &mut [Word]), T: ItemWatch>(
         &mut self,
-        crew: &C,
+        decoder: &F,
         octets: &[u8],
         from: usize,
         taker: &mut T,
     )
-        requires crew { C.can_decode crew.now }
+        requires decoder { IsColumnDecoder F.Fn decoder.now }
         requires from { from ≤ 8 * length octets.now }
         requires room { length self.old.recent.bits + 8 * length octets.now + 7 ≤ 8 * self.old.recent.size }
         requires fills { Fills self.old.finder self.old.recent self.old.batch }
@@ -206,26 +218,26 @@ impl BitReceiver {
         if self.recent.free() >= RUN {
             return;
         }
-        self.keep_all(crew, taker);
+        self.keep_all(decoder, taker);
     }
 
     // Keeps the codeblocks that are whole with the last bits, and hands over each batch that is full with them.
-    fn keep_all<C: ReceiverCrew, T: ItemWatch>(&mut self, crew: &C, taker: &mut T)
-        requires crew { C.can_decode crew.now }
+    fn keep_all<F: Fn(&Config, &mut [Word]), T: ItemWatch>(&mut self, decoder: &F, taker: &mut T)
+        requires decoder { IsColumnDecoder F.Fn decoder.now }
         requires agree { Agree self.old.finder self.old.recent self.old.batch }
         requires few { length self.old.batch.stored < self.old.batch.config.batch }
         ensures ready { IsReady self.new.finder self.new.recent self.new.batch }
         ensures settles { Receives Gathered IsSettled T.took self.old self.new taker.old taker.new [] }
     {
-        while self.keep_next(crew) {
-            self.hand_full(crew, taker);
+        while self.keep_next(decoder) {
+            self.hand_full(decoder, taker);
         }
     }
 
     // Keeps the next codeblock that is whole with the last bits, or passes it where it does not count. Returns whether
     // there was one.
-    fn keep_next<C: ReceiverCrew>(&mut self, crew: &C) -> bool
-        requires crew { C.can_decode crew.now }
+    fn keep_next<F: Fn(&Config, &mut [Word])>(&mut self, decoder: &F) -> bool
+        requires decoder { IsColumnDecoder F.Fn decoder.now }
         requires agree { Agree self.old.finder self.old.recent self.old.batch }
         requires few { length self.old.batch.stored < self.old.batch.config.batch }
         ensures agree { Agree self.new.finder self.new.recent self.new.batch }
@@ -253,7 +265,7 @@ impl BitReceiver {
                 }
                 let origin = self.origins.at(found.place);
                 let symbol = self.batch.symbol(origin, found.place);
-                let sound = self.batch.keep(crew, found, symbol, &self.recent);
+                let sound = self.batch.keep(decoder, found, symbol, &self.recent);
                 self.finder.take(&mut self.recent, found, sound);
                 true
             }
@@ -261,8 +273,8 @@ impl BitReceiver {
     }
 
     // Hands over the items of a batch that is full, and keeps none of its codeblocks.
-    fn hand_full<C: ReceiverCrew, T: ItemWatch>(&mut self, crew: &C, taker: &mut T)
-        requires crew { C.can_decode crew.now }
+    fn hand_full<F: Fn(&Config, &mut [Word]), T: ItemWatch>(&mut self, decoder: &F, taker: &mut T)
+        requires decoder { IsColumnDecoder F.Fn decoder.now }
         requires written { AreWritten self.old.batch }
         requires most { length self.old.batch.stored ≤ self.old.batch.config.batch }
         ensures finder { self.new.finder ≡ self.old.finder }
@@ -279,12 +291,12 @@ impl BitReceiver {
         if self.batch.count() < self.batch.room() {
             return;
         }
-        self.hand_all(crew, taker);
+        self.hand_all(decoder, taker);
     }
 
     // Hands over the items of all codeblocks that are stored, and keeps none.
-    fn hand_all<C: ReceiverCrew, T: ItemWatch>(&mut self, crew: &C, taker: &mut T)
-        requires crew { C.can_decode crew.now }
+    fn hand_all<F: Fn(&Config, &mut [Word]), T: ItemWatch>(&mut self, decoder: &F, taker: &mut T)
+        requires decoder { IsColumnDecoder F.Fn decoder.now }
         requires written { AreWritten self.old.batch }
         ensures finder { self.new.finder ≡ self.old.finder }
         ensures recent { self.new.recent ≡ self.old.recent }
@@ -298,7 +310,7 @@ impl BitReceiver {
             × HandedOver T.took taker.old items taker.new
             × (map place_symbol items ≡ self.old.batch.symbols) }
     {
-        self.batch.repair(crew);
+        self.batch.repair(decoder);
         hand_over(&self.batch, taker);
         self.batch.clear();
     }

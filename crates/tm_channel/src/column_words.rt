@@ -1,4 +1,4 @@
-// The columns of a codeblock, as words to be decoded in place, and the frame that they come to.
+// The columns of codeblocks, as words to be decoded in place, and the frame that those of one come to.
 ghost use Rattle.std.specs.Prelude.{◌≡◌, ◌≢◌, ◌<◌, ◌≤◌, ◌*◌, ℕ, List, length, map, take};
 ghost use Rattle.tm_config.specs.Configuration.{codeblock_length, word_length};
 ghost use Rattle.tm_gf256.specs.Octet.{element_of, sent_octet};
@@ -6,12 +6,15 @@ ghost use Rattle.tm_gf256.specs.Poly.{numbers};
 ghost use Rattle.tm_rs_code.specs.Code.{longest_word};
 ghost use Rattle.tm_codeblock.specs.Column.{column};
 ghost use Rattle.tm_codeblock.specs.ReceivedCodeblock.{frame_of, received_columns};
+ghost use Rattle.tm_channel.specs.ColumnDecoding.{AreColumns, AreColumnsDecoded};
 ghost use Rattle.tm_channel.specs.ColumnWords.{all_symbols};
 
-use tm_codeblock::{basis_of, put_word, take_word};
+use std::alloc::Global;
+use std::thread::Threads;
+use tm_codeblock::{basis_of, params_of, put_word, take_word};
 use tm_config::{Config, OuterCode};
 use tm_gf256::Basis;
-use tm_workers::Word;
+use tm_workers::{Gate, Word, decode_batch, decode_in_order};
 
 /// Reads the columns of a codeblock, each into a word.
 pub fn read_columns(config: &Config, codeblock: &[u8], words: &mut [Word])
@@ -40,6 +43,33 @@ fn read_column(basis: Basis, depth: usize, i: usize, size: usize, codeblock: &[u
     let octets = &mut octets[..size];
     take_word(codeblock, depth, i, octets);
     basis.octets_to_elements(octets, &mut word.symbols[..size]);
+}
+
+/// Decodes the columns of codeblocks of this configuration, each in its place, by as many workers as it says, which
+/// enter the gate before each.
+pub fn decode_columns<R: Threads + Sync, G: Gate + Sync>(
+    rt: &R,
+    alloc: Global,
+    config: &Config,
+    words: &mut [Word],
+    gate: &G,
+)
+    requires { AreColumns config.now (length words.old) }
+    ensures { AreColumnsDecoded config.now words.old words.new }
+{
+    let params = params_of(config);
+    let repair = config.repair() as u8;
+    let workers = config.workers() as u8;
+    decode_batch(rt, alloc, &params, repair, words, workers, gate);
+}
+
+/// Decodes them one after another. It starts no thread.
+pub fn decode_columns_alone(config: &Config, words: &mut [Word])
+    requires { AreColumns config.now (length words.old) }
+    ensures { AreColumnsDecoded config.now words.old words.new }
+{
+    let params = params_of(config);
+    decode_in_order(&params, config.repair() as u8, words);
 }
 
 /// Writes the frame of repaired columns: their data, interleaved.

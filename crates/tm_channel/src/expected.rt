@@ -5,19 +5,18 @@ ghost use Rattle.std.specs.Prelude.{◌≡◌, ◌<◌, ◌≤◌, ◌+◌, ◌*
 ghost use Rattle.tm_base.specs.Marker.{marker_size};
 ghost use Rattle.tm_config.specs.Configuration.{codeblock_length, most_batch};
 ghost use Rattle.tm_codeblock.specs.ReceivedCodeblock.{codeblock_in, column_count, is_sound};
+ghost use Rattle.tm_channel.specs.ColumnDecoding.{IsColumnDecoder};
 ghost use Rattle.tm_channel.specs.Receiving.{AreItemsFor, stored_of};
 ghost use Rattle.tm_channel.specs.Storing.{AreItemsIn, item_in, place_in, stored_in};
 
-use crate::crew::ReceiverCrew;
+use crate::column_words::decode_columns_alone;
 use crate::item::are_fixed;
 use crate::repair::{repair, repair_slot};
 use crate::slot::Slot;
-use std::alloc::Global;
 use tm_base::MARKER;
 use tm_codeblock::{codeblock_size, column_count, has_code, read_codeblock};
 use tm_config::{Config, LONGEST_CODEBLOCK};
 use tm_sync::{Found, RecentBits};
-use tm_windows::Alone;
 use tm_workers::Word;
 
 // Fewer columns are decoded by the caller alone, since starting threads would take longer.
@@ -30,14 +29,15 @@ pub struct Expected {
     pub count: usize,
     /// How many codeblocks were to be decoded together the last time, at most.
     pub most: usize,
+    /// How many workers decode them: where it is one, none is expected.
+    pub workers: u8,
 }
 
 /// Puts the codeblock of a place, which the bits begin with, and its symbol into the first slot, with its item, and
-/// returns whether it is sound. It was expected, or is decoded now, by these workers, together with those expected
+/// returns whether it is sound. It was expected, or is decoded now, by this decoder, together with those expected
 /// behind it.
-pub fn take_next<C: ReceiverCrew>(
-    crew: &C,
-    alloc: Global,
+pub fn take_next<F: Fn(&Config, &mut [Word])>(
+    decoder: &F,
     config: &Config,
     found: Found,
     symbol: u64,
@@ -46,7 +46,7 @@ pub fn take_next<C: ReceiverCrew>(
     words: &mut [Word],
     recent: &RecentBits,
 ) -> bool
-    requires crew { C.can_decode crew.now }
+    requires decoder { IsColumnDecoder F.Fn decoder.now }
     requires slots { (0 < length slots.old) × (length slots.old ≤ most_batch) }
     requires words { length slots.old * column_count config.now ≤ length words.old }
     requires whole { marker_size + 8 * codeblock_length config.now ≤ length recent.now.bits }
@@ -63,15 +63,14 @@ pub fn take_next<C: ReceiverCrew>(
         (take (8 * codeblock_length config.now) (drop marker_size recent.now.bits))) }
 {
     put_next(
-        crew, alloc, config, found, symbol, expected, slots, words, recent,
+        decoder, config, found, symbol, expected, slots, words, recent,
     );
     are_fixed(slots[0].item(config).answers)
 }
 
 // Puts the codeblock of a place, which the bits begin with, and its symbol into the first slot, with its item.
-fn put_next<C: ReceiverCrew>(
-    crew: &C,
-    alloc: Global,
+fn put_next<F: Fn(&Config, &mut [Word])>(
+    decoder: &F,
     config: &Config,
     found: Found,
     symbol: u64,
@@ -80,7 +79,7 @@ fn put_next<C: ReceiverCrew>(
     words: &mut [Word],
     recent: &RecentBits,
 )
-    requires crew { C.can_decode crew.now }
+    requires decoder { IsColumnDecoder F.Fn decoder.now }
     requires slots { (0 < length slots.old) × (length slots.old ≤ most_batch) }
     requires words { length slots.old * column_count config.now ≤ length words.old }
     requires whole { marker_size + 8 * codeblock_length config.now ≤ length recent.now.bits }
@@ -100,15 +99,14 @@ fn put_next<C: ReceiverCrew>(
         slots[0].symbol = symbol;
         return;
     }
-    let most = most_expected(crew, config, expected, recent).min(slots.len());
+    let most = most_expected(config, expected, recent).min(slots.len());
     let count = read_expected(config, found, symbol, &mut slots[..most], recent);
-    repair_expected(crew, alloc, config, count, slots, words);
+    repair_expected(decoder, config, count, slots, words);
     expected.count = count - 1;
 }
 
 /// Whether the codeblock of a place, which the bits begin with, is sound. Those that are expected stay so unless it is.
 pub fn is_sound(
-    alloc: Global,
     config: &Config,
     found: Found,
     expected: &mut Expected,
@@ -132,7 +130,7 @@ pub fn is_sound(
     let index = expected.count.min(slots.len() - 1);
     expected.count = index;
     slots[index].fill(config, found, 0, codeblock_size(config), 32, recent);
-    repair_slot(alloc, config, &mut slots[index], words);
+    repair_slot(config, &mut slots[index], words);
     if !are_fixed(slots[index].item(config).answers) {
         return false;
     }
@@ -143,14 +141,9 @@ pub fn is_sound(
 
 // How many codeblocks to decode together at most: twice as many as the last time, from one on where some of those were
 // of no use; and one where so few are in the room that several workers do not share them out.
-fn most_expected<C: ReceiverCrew>(
-    crew: &C,
-    config: &Config,
-    expected: &mut Expected,
-    recent: &RecentBits,
-) -> usize
+fn most_expected(config: &Config, expected: &mut Expected, recent: &RecentBits) -> usize
     ensures some { 0 < result }
-    ensures alone { C.share crew.now config.now.workers ≤ 1 → result ≡ 1 }
+    ensures alone { expected.old.workers ≤ 1 → result ≡ 1 }
     ensures same { expected.new.count ≡ expected.old.count }
 {
     if expected.count > 0 {
@@ -161,7 +154,7 @@ fn most_expected<C: ReceiverCrew>(
     if !has_code(config) || recent.count() / unit < least {
         return 1;
     }
-    if crew.share(config.workers() as usize) < 2 {
+    if expected.workers < 2 {
         return 1;
     }
     expected.most = expected.most.saturating_add(expected.most).max(1);
@@ -221,16 +214,15 @@ fn read_expected(
     count
 }
 
-// Repairs the codeblocks of the first slots, by these workers where they are many.
-fn repair_expected<C: ReceiverCrew>(
-    crew: &C,
-    alloc: Global,
+// Repairs the codeblocks of the first slots, by this decoder where they are many.
+fn repair_expected<F: Fn(&Config, &mut [Word])>(
+    decoder: &F,
     config: &Config,
     count: usize,
     slots: &mut [Slot],
     words: &mut [Word],
 )
-    requires crew { C.can_decode crew.now }
+    requires decoder { IsColumnDecoder F.Fn decoder.now }
     requires count { count ≤ length slots.old }
     requires slots { length slots.old ≤ most_batch }
     requires words { length slots.old * column_count config.now ≤ length words.old }
@@ -246,8 +238,8 @@ fn repair_expected<C: ReceiverCrew>(
     let size = slots.len() * columns;
     let words = &mut words[..size];
     if count * columns < LEAST_SHARED {
-        repair(&Alone, alloc, config, count, slots, words);
+        repair(&decode_columns_alone, config, count, slots, words);
     } else {
-        repair(crew, alloc, config, count, slots, words);
+        repair(decoder, config, count, slots, words);
     }
 }

@@ -5,7 +5,6 @@
 
 mod bit_receiver;
 mod column_words;
-mod crew;
 mod expected;
 mod item;
 mod laws;
@@ -20,7 +19,7 @@ mod store;
 mod totals;
 mod until_fault;
 
-pub use crew::ReceiverCrew;
+pub use column_words::{decode_columns, decode_columns_alone};
 pub use item::{Item, ItemTaker, ItemWatch, are_fixed};
 pub use laws::{
     clean_law, disturbed_law, disturbed_octets_law, due_items_law, first_items_law, found_law,

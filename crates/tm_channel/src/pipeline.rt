@@ -10,6 +10,7 @@ ghost use Rattle.tm_inner.specs.InnerWindows.{AreDecoded, AreTold, AreWindows};
 ghost use Rattle.tm_inner.specs.Phase.{IsChosen, with_phase};
 ghost use Rattle.tm_inner.specs.Receiving.{Hands};
 ghost use Rattle.tm_inner.specs.declared.window.Window.{Window};
+ghost use Rattle.tm_channel.specs.ColumnDecoding.{IsColumnDecoder};
 ghost use Rattle.tm_channel.specs.Items.{ItemValue};
 ghost use Rattle.tm_channel.specs.Handing.{AreReceived};
 ghost use Rattle.tm_channel.specs.Most.{AreFew};
@@ -17,27 +18,29 @@ ghost use Rattle.tm_channel.specs.Receiving.{piece_size};
 ghost use Rattle.tm_channel.specs.OctetReceiving.{AwaitsBits, Decoded, MayNotWait, ReceivedAt, StagesFor, StagesHand, spare_bits};
 
 use crate::bit_receiver::BitReceiver;
-use crate::crew::ReceiverCrew;
 use crate::item::ItemWatch;
 use crate::totals::Totals;
+use tm_config::Config;
 use tm_inner::{InnerDecoder, WindowWatch, inner_law, watch_ready};
-use tm_windows::due_windows_law;
+use tm_windows::{Crew, due_windows_law};
+use tm_workers::Word;
 
 /// How many octets that hold the bits themselves are taken at a time.
 pub const PIECE: usize = 4096;
 
 /// Takes the next octets, and hands over what is due with them: the symbol phase, where it is chosen with them, and
 /// items. Octets may wait in the first stage while the blocks that wait make no batch whole, so that more windows are
-/// decoded side by side; what is due does not depend on the crew.
-pub fn take<C: ReceiverCrew, W: WindowWatch, T: ItemWatch>(
+/// decoded side by side; what is due does not depend on the crew or the decoder.
+pub fn take<C: Crew, F: Fn(&Config, &mut [Word]), W: WindowWatch, T: ItemWatch>(
     inner: &mut InnerDecoder,
     stream: &mut BitReceiver,
     crew: &C,
+    decoder: &F,
     octets: &[u8],
     watch: &mut W,
     taker: &mut T,
 )
-    requires crew { C.is_ready crew.now × C.can_decode crew.now }
+    requires crew { C.is_ready crew.now × IsColumnDecoder F.Fn decoder.now }
     requires accepted { IsAccepted inner.old.config }
     requires of { stream.old.batch.config ≡ inner.old.config }
     requires awaits { AwaitsBits stream.old }
@@ -54,18 +57,18 @@ pub fn take<C: ReceiverCrew, W: WindowWatch, T: ItemWatch>(
         (if nat_lt 1 (C.share crew.now 2) then spare_bits stream.old else 0) }
 {
     if !inner.has_inner_code() {
-        take_plain(inner, stream, crew, octets, watch, taker);
+        take_plain(inner, stream, crew, decoder, octets, watch, taker);
         return;
     }
     let mut done = inner.fill(octets);
     while done < octets.len() {
-        take_decoded(inner, stream, crew, watch, taker);
+        take_decoded(inner, stream, crew, decoder, watch, taker);
         done += inner.fill(&octets[done..]);
     }
     if inner.may_wait(stream.spare(crew)) {
         return;
     }
-    take_decoded(inner, stream, crew, watch, taker);
+    take_decoded(inner, stream, crew, decoder, watch, taker);
 }
 
 // Hands over the symbol phase, where it was chosen since.
@@ -80,14 +83,15 @@ fn hand_phase<T: ItemWatch>(inner: &mut InnerDecoder, taker: &mut T)
 }
 
 // Decodes what is due in the first stage, and gives its bits to the second.
-fn take_decoded<C: ReceiverCrew, W: WindowWatch, T: ItemWatch>(
+fn take_decoded<C: Crew, F: Fn(&Config, &mut [Word]), W: WindowWatch, T: ItemWatch>(
     inner: &mut InnerDecoder,
     stream: &mut BitReceiver,
     crew: &C,
+    decoder: &F,
     watch: &mut W,
     taker: &mut T,
 )
-    requires crew { C.is_ready crew.now × C.can_decode crew.now }
+    requires crew { C.is_ready crew.now × IsColumnDecoder F.Fn decoder.now }
     requires awaits { AwaitsBits stream.old }
     ensures awaits { AwaitsBits stream.new }
     ensures of { (inner.new.config ≡ inner.old.config) × (stream.new.batch.config ≡ stream.old.batch.config) }
@@ -102,20 +106,21 @@ fn take_decoded<C: ReceiverCrew, W: WindowWatch, T: ItemWatch>(
     while count > 0 {
         watch_ready(inner, watch);
         stream.note(inner.origin());
-        stream.receive_ready(crew, inner, taker);
+        stream.receive_ready(decoder, inner, taker);
         count = inner.decode(crew);
     }
 }
 
 /// Ends both stages, hands over what is left, and returns what all octets came to.
-pub fn end<C: ReceiverCrew, W: WindowWatch, T: ItemWatch>(
+pub fn end<C: Crew, F: Fn(&Config, &mut [Word]), W: WindowWatch, T: ItemWatch>(
     inner: &mut InnerDecoder,
     stream: &mut BitReceiver,
     crew: &C,
+    decoder: &F,
     watch: &mut W,
     taker: &mut T,
 ) -> Totals
-    requires crew { C.is_ready crew.now × C.can_decode crew.now }
+    requires crew { C.is_ready crew.now × IsColumnDecoder F.Fn decoder.now }
     requires accepted { IsAccepted inner.old.config }
     requires awaits { AwaitsBits stream.old }
     ensures of { (inner.new.config ≡ inner.old.config) × (stream.new.batch.config ≡ stream.old.batch.config) }
@@ -135,12 +140,12 @@ pub fn end<C: ReceiverCrew, W: WindowWatch, T: ItemWatch>(
     due_windows_law();
     inner_law();
     inner.settle();
-    take_decoded(inner, stream, crew, watch, taker);
+    take_decoded(inner, stream, crew, decoder, watch, taker);
     let end = inner.last();
     watch_ready(inner, watch);
     stream.note(inner.origin());
-    stream.receive_ready(crew, inner, taker);
-    stream.hand_last(crew, taker);
+    stream.receive_ready(decoder, inner, taker);
+    stream.hand_last(decoder, taker);
     Totals {
         bits: end.bits,
         slips: end.slips,
@@ -148,15 +153,16 @@ pub fn end<C: ReceiverCrew, W: WindowWatch, T: ItemWatch>(
 }
 
 // Takes octets that hold the bits themselves, and gives these to the second stage, those of `PIECE` octets at a time.
-fn take_plain<C: ReceiverCrew, W: WindowWatch, T: ItemWatch>(
+fn take_plain<C: Crew, F: Fn(&Config, &mut [Word]), W: WindowWatch, T: ItemWatch>(
     inner: &mut InnerDecoder,
     stream: &mut BitReceiver,
     crew: &C,
+    decoder: &F,
     octets: &[u8],
     watch: &mut W,
     taker: &mut T,
 )
-    requires crew { C.is_ready crew.now × C.can_decode crew.now }
+    requires crew { C.is_ready crew.now × IsColumnDecoder F.Fn decoder.now }
     requires plain { is_some inner.old.config.inner ≡ false }
     requires of { stream.old.batch.config ≡ inner.old.config }
     requires awaits { AwaitsBits stream.old }
@@ -174,22 +180,22 @@ fn take_plain<C: ReceiverCrew, W: WindowWatch, T: ItemWatch>(
         let piece = &octets[done..end];
         let skip = inner.bits_to_skip();
         inner.fill(piece);
-        take_decoded(inner, stream, crew, watch, taker);
-        take_after(inner, stream, skip, crew, piece, taker);
+        take_decoded(inner, stream, crew, decoder, watch, taker);
+        take_after(inner, stream, skip, decoder, piece, taker);
         done = end;
     }
 }
 
 // Gives the bits that octets hold to the second stage, after the first `skip` ones.
-fn take_after<C: ReceiverCrew, T: ItemWatch>(
+fn take_after<F: Fn(&Config, &mut [Word]), T: ItemWatch>(
     inner: &InnerDecoder,
     stream: &mut BitReceiver,
     skip: u64,
-    crew: &C,
+    decoder: &F,
     octets: &[u8],
     taker: &mut T,
 )
-    requires crew { C.is_ready crew.now × C.can_decode crew.now }
+    requires decoder { IsColumnDecoder F.Fn decoder.now }
     requires plain { is_some stream.old.batch.config.inner ≡ false }
     requires awaits { AwaitsBits stream.old }
     requires most { length octets.now ≤ piece_size }
@@ -198,23 +204,23 @@ fn take_after<C: ReceiverCrew, T: ItemWatch>(
         (drop skip (plain_bits inner.now.config octets.now)) }
 {
     if !inner.is_packed() {
-        take_nearest(inner, stream, skip, crew, octets, taker);
+        take_nearest(inner, stream, skip, decoder, octets, taker);
         return;
     }
     let from = skip.min(8 * octets.len() as u64) as usize;
-    stream.receive(crew, octets, from, taker);
+    stream.receive(decoder, octets, from, taker);
 }
 
 // Gives the bits that octets are nearest to to the second stage, after the first `skip` ones.
-fn take_nearest<C: ReceiverCrew, T: ItemWatch>(
+fn take_nearest<F: Fn(&Config, &mut [Word]), T: ItemWatch>(
     inner: &InnerDecoder,
     stream: &mut BitReceiver,
     skip: u64,
-    crew: &C,
+    decoder: &F,
     octets: &[u8],
     taker: &mut T,
 )
-    requires crew { C.is_ready crew.now × C.can_decode crew.now }
+    requires decoder { IsColumnDecoder F.Fn decoder.now }
     requires plain { is_some stream.old.batch.config.inner ≡ false }
     requires awaits { AwaitsBits stream.old }
     requires most { length octets.now ≤ piece_size }
@@ -226,5 +232,5 @@ fn take_nearest<C: ReceiverCrew, T: ItemWatch>(
     let mut room = [0; PIECE];
     let bits = &mut room[..octets.len() - from];
     inner.nearest_bits(&octets[from..], bits);
-    stream.receive_bits(crew, bits, taker);
+    stream.receive_bits(decoder, bits, taker);
 }

@@ -13,9 +13,8 @@ ghost use Rattle.tm_inner.specs.Receiving.{Hands};
 ghost use Rattle.tm_inner.specs.declared.window.Window.{Window};
 ghost use Rattle.tm_sync.specs.Places.{settled_by};
 ghost use Rattle.tm_codeblock.specs.ReceivedCodeblock.{columns_of, rules_of};
-ghost use Rattle.tm_workers.specs.Batch.{EachBecomes, IsBatch};
-ghost use Rattle.tm_workers.specs.Words.{Decodes};
 ghost use Rattle.tm_viterbi.specs.WindowSizes.{stream_bound};
+ghost use Rattle.tm_channel.specs.ColumnDecoding.{AreColumns, AreColumnsDecoded, IsColumnDecoder};
 ghost use Rattle.tm_channel.specs.Items.{ItemValue};
 ghost use Rattle.tm_channel.specs.Handing.{AreReceived, AreReceivedFirst, AreReceivedPrefix};
 ghost use Rattle.tm_channel.specs.Calls.{Feeds, Finishes, Tells, TellsLast};
@@ -23,7 +22,7 @@ ghost use Rattle.tm_channel.specs.OctetReceiving.{AreSlipsSoFar, ReceiverStandsF
 ghost use Rattle.tm_channel.specs.Receiving.{run_size, waiting_bits};
 
 use crate::bit_receiver::BitReceiver;
-use crate::crew::ReceiverCrew;
+use crate::column_words::decode_columns;
 use crate::item::{ItemTaker, ItemWatch};
 use crate::origins::Origins;
 use crate::pipeline::{PIECE, end, take};
@@ -38,10 +37,9 @@ use tm_base::NoMemory;
 use tm_codeblock::{codeblock_size, columns_of, finds_polarity, has_code};
 use tm_config::Config;
 use tm_inner::{InnerDecoder, NoWatch, WindowWatch};
-use tm_rs_code::Params;
 use tm_sync::{Finder, RecentBits};
-use tm_windows::{AllError, Chosen, Threaded};
-use tm_workers::{Gate, OpenGate, Word, decode_batch};
+use tm_windows::{AllError, Chosen, Crew, Threaded};
+use tm_workers::{Gate, OpenGate, Word};
 
 /// Why a receiver refused a call.
 #[derive(Clone, Copy, Debug, PartialEq, Eq, Error)]
@@ -61,6 +59,7 @@ pub enum RecvError {
 #[derive(Drop)]
 pub struct Receiver {
     config: Config,
+    alloc: Global,
     inner: InnerDecoder,
     stream: BitReceiver,
     has_stopped: bool,
@@ -99,8 +98,8 @@ impl Receiver {
         Receiver::open_for(alloc, config, config.workers() as u8)
     }
 
-    /// A new receiver with windows of the inner code for `workers` workers, 1 to 64, whatever the configuration says.
-    /// It fails only where there isn't enough memory.
+    /// A new receiver with windows of the inner code, and codeblocks that are expected, for `workers` workers, 1 to 64,
+    /// whatever the configuration says. It fails only where there isn't enough memory.
     pub fn open_for(alloc: Global, config: Config, workers: u8) -> Result<Receiver, NoMemory>
         requires workers { (0 < workers) × (workers ≤ most_workers) }
         ensures config { IfOk result (λ r. r.config ≡ config) }
@@ -115,7 +114,7 @@ impl Receiver {
         let Ok(inner) = InnerDecoder::open(alloc, &config, workers, waiting) else {
             return Err(NoMemory);
         };
-        let Ok(batch) = Codeblocks::open(alloc, config) else {
+        let Ok(batch) = Codeblocks::open(alloc, config, workers) else {
             return Err(NoMemory);
         };
         let Ok((finder, recent)) = open_search(alloc, &config) else {
@@ -126,6 +125,7 @@ impl Receiver {
         };
         Ok(Receiver {
             config,
+            alloc,
             inner,
             stream: BitReceiver {
                 finder,
@@ -136,6 +136,11 @@ impl Receiver {
             has_stopped: false,
             by: usize::from(workers),
         })
+    }
+
+    /// The allocator of its memory, for `decode_columns`.
+    pub fn alloc(&self) -> Global {
+        self.alloc
     }
 
     /// Takes the next octets, and hands over the items that are due: those of the places in the bits received, in whole
@@ -158,15 +163,16 @@ impl Receiver {
             self.old self.new taker.old taker.new octets.now result }
         ensures by { self.old.has_stopped ≡ false → self.new.by ≡ self.old.config.workers }
     {
-        let words = |alloc: Global, params: &Params, repair: u8, words: &mut [Word], workers: u8|
-            requires { IsSync R.row × IsSync G.row × IsBatch params.now.e repair (length words.old) workers }
-            ensures { EachBecomes (Decodes params.now repair) words.old words.new }
-        { decode_batch(rt, alloc, params, repair, words, workers, gate) };
+        let alloc = self.alloc;
+        let decoder = |config: &Config, words: &mut [Word]|
+            requires { IsSync R.row × IsSync G.row × AreColumns config.now (length words.old) }
+            ensures { AreColumnsDecoded config.now words.old words.new }
+        { decode_columns(rt, alloc, config, words, gate) };
         let mut until = UntilFault {
             taker,
             has_failed: false,
         };
-        let went = self.receive(&Threaded { rt, words }, octets, &mut NoWatch, &mut until);
+        let went = self.receive(&Threaded { rt }, &decoder, octets, &mut NoWatch, &mut until);
         let UntilFault { has_failed, .. } = until;
         if !went {
             return Err(RecvError::Stopped);
@@ -185,18 +191,19 @@ impl Receiver {
         self.has_stopped = true;
     }
 
-    /// Does what `feed` does, by this crew, for what never fails, and tells of each window of the inner code that is
-    /// decoded. Calls of both kinds, and of several crews, may follow one another: the items are the same, and windows
-    /// that `feed` decodes are not told of. Returns false where an earlier call returned `Taker` or the receiver was
-    /// finished; nothing is handed over then.
-    pub fn receive<C: ReceiverCrew, W: WindowWatch, T: ItemWatch>(
+    /// Does what `feed` does, by this crew and with this decoder of codewords, for what never fails, and tells of each
+    /// window of the inner code that is decoded. Calls of both kinds, and of several crews, may follow one another: the
+    /// items are the same, and windows that `feed` decodes are not told of. Returns false where an earlier call returned
+    /// `Taker` or the receiver was finished; nothing is handed over then.
+    pub fn receive<C: Crew, F: Fn(&Config, &mut [Word]), W: WindowWatch, T: ItemWatch>(
         &mut self,
         crew: &C,
+        decoder: &F,
         octets: &[u8],
         watch: &mut W,
         items: &mut T,
     ) -> bool
-        requires crew { C.is_ready crew.now × C.can_decode crew.now }
+        requires crew { C.is_ready crew.now × IsColumnDecoder F.Fn decoder.now }
         ensures tells { Tells (on_handed T.took_phase T.took) self.old self.new items.old items.new octets.now result }
         ensures watched { self.old.stages.inner.has_ended ≡ false → IsTrue result
             → Hands W.took AreTold self.old.stages.inner self.new.stages.inner watch.old watch.new octets.now }
@@ -213,6 +220,7 @@ impl Receiver {
             &mut self.inner,
             &mut self.stream,
             crew,
+            decoder,
             octets,
             watch,
             items,
@@ -235,15 +243,16 @@ impl Receiver {
             self.old self.new taker.old taker.new result }
         ensures by { self.old.has_stopped ≡ false → self.new.by ≡ self.old.config.workers }
     {
-        let words = |alloc: Global, params: &Params, repair: u8, words: &mut [Word], workers: u8|
-            requires { IsSync R.row × IsSync G.row × IsBatch params.now.e repair (length words.old) workers }
-            ensures { EachBecomes (Decodes params.now repair) words.old words.new }
-        { decode_batch(rt, alloc, params, repair, words, workers, gate) };
+        let alloc = self.alloc;
+        let decoder = |config: &Config, words: &mut [Word]|
+            requires { IsSync R.row × IsSync G.row × AreColumns config.now (length words.old) }
+            ensures { AreColumnsDecoded config.now words.old words.new }
+        { decode_columns(rt, alloc, config, words, gate) };
         let mut until = UntilFault {
             taker,
             has_failed: false,
         };
-        let ended = self.end(&Threaded { rt, words }, &mut NoWatch, &mut until);
+        let ended = self.end(&Threaded { rt }, &decoder, &mut NoWatch, &mut until);
         let UntilFault { has_failed, .. } = until;
         let Some(totals) = ended else {
             return Err(RecvError::Stopped);
@@ -254,15 +263,17 @@ impl Receiver {
         Ok(totals)
     }
 
-    /// Does what `finish` does, by this crew, for what never fails, and tells of the windows that are left, whichever
-    /// calls were before. None comes where an earlier call returned `Taker` or the receiver was finished.
-    pub fn end<C: ReceiverCrew, W: WindowWatch, T: ItemWatch>(
+    /// Does what `finish` does, by this crew and with this decoder of codewords, for what never fails, and tells of the
+    /// windows that are left, whichever calls were before. None comes where an earlier call returned `Taker` or the
+    /// receiver was finished.
+    pub fn end<C: Crew, F: Fn(&Config, &mut [Word]), W: WindowWatch, T: ItemWatch>(
         &mut self,
         crew: &C,
+        decoder: &F,
         watch: &mut W,
         items: &mut T,
     ) -> Option<Totals>
-        requires crew { C.is_ready crew.now × C.can_decode crew.now }
+        requires crew { C.is_ready crew.now × IsColumnDecoder F.Fn decoder.now }
         ensures tells { TellsLast (on_handed T.took_phase T.took) self.old self.new items.old items.new result }
         ensures watched { IfSome result (λ _. (last : List Window) × HandedOver W.took watch.old last watch.new
             × ((given : List ℕ) (done : List Window) → AreTold self.old.stages.inner given done
@@ -275,7 +286,14 @@ impl Receiver {
         }
         self.has_stopped = true;
         self.by = workers_by(&self.config, crew);
-        Some(end(&mut self.inner, &mut self.stream, crew, watch, items))
+        Some(end(
+            &mut self.inner,
+            &mut self.stream,
+            crew,
+            decoder,
+            watch,
+            items,
+        ))
     }
 
     /// The symbol phase that was chosen: None before the choice, and where the phase is given.
@@ -298,7 +316,7 @@ impl Receiver {
 }
 
 // By how many workers of a configuration a crew decodes at most.
-fn workers_by<C: ReceiverCrew>(config: &Config, crew: &C) -> usize
+fn workers_by<C: Crew>(config: &Config, crew: &C) -> usize
     ensures { result ≡ C.share crew.now config.now.workers }
 {
     crew.share(config.workers() as usize)

@@ -2,31 +2,28 @@
 ghost use Rattle.std.specs.Prelude.{◌≢◌, ◌≡◌, ◌<◌, ◌≤◌, ◌*◌, length, map, take};
 ghost use Rattle.tm_config.specs.Configuration.{codeblock_length, most_batch};
 ghost use Rattle.tm_codeblock.specs.ReceivedCodeblock.{column_count};
+ghost use Rattle.tm_channel.specs.ColumnDecoding.{IsColumnDecoder};
 ghost use Rattle.tm_channel.specs.Items.{IsItem};
 ghost use Rattle.tm_channel.specs.Receiving.{AreItemsFor};
 ghost use Rattle.tm_channel.specs.Storing.{AreDecoded, AreRead, item_in, place_in, stored_in};
 
-use crate::column_words::read_columns;
-use crate::crew::ReceiverCrew;
+use crate::column_words::{decode_columns_alone, read_columns};
 use crate::slot::Slot;
-use std::alloc::Global;
 use std::slice::from_ref;
-use tm_codeblock::{codeblock_size, column_count, has_code, params_of};
+use tm_codeblock::{codeblock_size, column_count, has_code};
 use tm_config::{Config, OuterCode};
-use tm_windows::Alone;
 use tm_workers::Word;
 
-/// Repairs the codeblocks of the first slots by these workers, and writes their items. There are words for the
-/// columns of all.
-pub fn repair<C: ReceiverCrew>(
-    crew: &C,
-    alloc: Global,
+/// Repairs the codeblocks of the first slots by this decoder, and writes their items. There are words for the columns
+/// of all.
+pub fn repair<F: Fn(&Config, &mut [Word])>(
+    decoder: &F,
     config: &Config,
     count: usize,
     slots: &mut [Slot],
     words: &mut [Word],
 )
-    requires crew { C.can_decode crew.now }
+    requires decoder { IsColumnDecoder F.Fn decoder.now }
     requires count { count ≤ length slots.old }
     requires slots { length slots.old ≤ most_batch }
     requires words { length words.old ≡ length slots.old * column_count config.now }
@@ -41,12 +38,12 @@ pub fn repair<C: ReceiverCrew>(
     let size = count * column_count(config);
     let slots = &mut slots[..count];
     let words = &mut words[..size];
-    decode(crew, alloc, config, slots, words);
+    decode(decoder, config, slots, words);
     write_items(config, words, slots);
 }
 
 /// Repairs the codeblock of a slot, one column after another, and writes its item.
-pub fn repair_slot(alloc: Global, config: &Config, slot: &mut Slot, words: &mut [Word])
+pub fn repair_slot(config: &Config, slot: &mut Slot, words: &mut [Word])
     requires words { column_count config.now ≤ length words.old }
     ensures stored { stored_in (codeblock_length config.now) slot.new
         ≡ stored_in (codeblock_length config.now) slot.old }
@@ -57,19 +54,18 @@ pub fn repair_slot(alloc: Global, config: &Config, slot: &mut Slot, words: &mut 
 {
     let count = column_count(config);
     let words = &mut words[..count];
-    decode(&Alone, alloc, config, from_ref(slot), words);
+    decode(&decode_columns_alone, config, from_ref(slot), words);
     slot.write_item(config, words);
 }
 
 // Decodes the columns of all codeblocks.
-fn decode<C: ReceiverCrew>(
-    crew: &C,
-    alloc: Global,
+fn decode<F: Fn(&Config, &mut [Word])>(
+    decoder: &F,
     config: &Config,
     slots: &[Slot],
     words: &mut [Word],
 )
-    requires crew { C.can_decode crew.now }
+    requires decoder { IsColumnDecoder F.Fn decoder.now }
     requires slots { length slots.now ≤ most_batch }
     requires words { length words.old ≡ length slots.now * column_count config.now }
     ensures decoded { AreDecoded config.now slots.now words.new }
@@ -77,10 +73,7 @@ fn decode<C: ReceiverCrew>(
 {
     if has_code(config) {
         read_slots(config, slots, words);
-        let params = params_of(config);
-        let repair = config.repair() as u8;
-        let workers = config.workers() as u8;
-        crew.decode_words(alloc, &params, repair, words, workers);
+        decoder(config, words);
     }
 }
 

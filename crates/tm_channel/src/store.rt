@@ -5,10 +5,10 @@ ghost use Rattle.tm_base.specs.Marker.{marker_size};
 ghost use Rattle.tm_config.specs.Configuration.{longest_codeblock, most_batch, codeblock_length};
 ghost use Rattle.tm_codeblock.specs.ReceivedCodeblock.{codeblock_in, is_sound};
 ghost use Rattle.tm_conv.specs.Path.{farthest_step};
+ghost use Rattle.tm_channel.specs.ColumnDecoding.{IsColumnDecoder};
 ghost use Rattle.tm_channel.specs.Origins.{place_symbol, symbol_by};
 ghost use Rattle.tm_channel.specs.Receiving.{AreItemsFor, AreWritten, IsItemAt, stored_of, waiting_bits};
 
-use crate::crew::ReceiverCrew;
 use crate::expected::{Expected, is_sound, take_next};
 use crate::item::Item;
 use crate::origins::symbol_of;
@@ -28,7 +28,6 @@ use tm_workers::Word;
 #[derive(Drop)]
 pub struct Codeblocks {
     config: Config,
-    alloc: Global,
     // The octets of a codeblock.
     size: usize,
     slots: Vec<Slot>,
@@ -63,8 +62,8 @@ impl Model for Codeblocks {
 }
 
 impl Codeblocks {
-    /// Room for codeblocks of this configuration, with none in it. It takes all its memory here.
-    pub fn open(alloc: Global, config: Config) -> Result<Codeblocks, AllocError>
+    /// Room for codeblocks of this configuration, with none in it, for `workers` workers. It takes all its memory here.
+    pub fn open(alloc: Global, config: Config, workers: u8) -> Result<Codeblocks, AllocError>
         ensures { IfOk result (λ codeblocks. codeblocks
             ≡ record { config = config; stored = []; symbols = []; items = [] }) }
     {
@@ -82,13 +81,13 @@ impl Codeblocks {
         let room = config.batch() as usize;
         Ok(Codeblocks {
             config,
-            alloc,
             size: codeblock_size(&config),
             slots: vec![in alloc; slot; room]?,
             count: 0,
             expected: Expected {
                 count: 0,
                 most: room,
+                workers,
             },
             words: vec![in alloc; word; room * column_count(&config)]?,
         })
@@ -110,7 +109,6 @@ impl Codeblocks {
         }
         let slots = self.slots.as_mut_slice();
         is_sound(
-            self.alloc,
             &self.config,
             found,
             &mut self.expected,
@@ -122,15 +120,15 @@ impl Codeblocks {
 
     /// Keeps the codeblock of this place, which the bits begin with, and its symbol, and returns whether it is sound;
     /// where none are looked for inside codeblocks that is not asked, and it is not repaired yet. Where it was not
-    /// expected, these workers decode it, together with those expected behind it.
-    pub fn keep<C: ReceiverCrew>(
+    /// expected, this decoder decodes it, together with those expected behind it.
+    pub fn keep<F: Fn(&Config, &mut [Word])>(
         &mut self,
-        crew: &C,
+        decoder: &F,
         found: Found,
         symbol: u64,
         recent: &RecentBits,
     ) -> bool
-        requires crew { C.can_decode crew.now }
+        requires decoder { IsColumnDecoder F.Fn decoder.now }
         requires room { length self.old.stored < self.old.config.batch }
         requires whole { marker_size + 8 * codeblock_length self.old.config ≤ length recent.now.bits }
         requires written { AreWritten self.old }
@@ -154,8 +152,7 @@ impl Codeblocks {
         }
         let slots = self.slots.as_mut_slice();
         take_next(
-            crew,
-            self.alloc,
+            decoder,
             &self.config,
             found,
             symbol,
@@ -203,9 +200,9 @@ impl Codeblocks {
         waiting_bits(&self.config, (self.slots.len() - self.count) as u64)
     }
 
-    /// Repairs all codeblocks that are stored, by these workers, and writes their items, where that is not done yet.
-    pub fn repair<C: ReceiverCrew>(&mut self, crew: &C)
-        requires crew { C.can_decode crew.now }
+    /// Repairs all codeblocks that are stored, by this decoder, and writes their items, where that is not done yet.
+    pub fn repair<F: Fn(&Config, &mut [Word])>(&mut self, decoder: &F)
+        requires decoder { IsColumnDecoder F.Fn decoder.now }
         requires written { AreWritten self.old }
         ensures config { self.new.config ≡ self.old.config }
         ensures stored { self.new.stored ≡ self.old.stored }
@@ -217,8 +214,7 @@ impl Codeblocks {
         }
         self.expected.count = 0;
         repair(
-            crew,
-            self.alloc,
+            decoder,
             &self.config,
             self.count,
             self.slots.as_mut_slice(),

@@ -8,7 +8,7 @@ use std::thread::Threads;
 use tm_base::{Failed, MemSink, Sink};
 use tm_channel::{
     AllError, Alone, Answer, Config, Item, ItemTaker, ItemWatch, NoWatch, Raw, Receiver, RecvError,
-    Sender, receive_all,
+    Sender, decode_columns_alone, receive_all,
 };
 
 // The sync marker, and the codeblock of the frame 7B: the coefficients of the generator of the code that corrects 16
@@ -251,7 +251,7 @@ fn receive_by_workers(
 }
 
 fn feed_alone(receiver: &mut Receiver, octets: &[u8], taken: &mut Digest) -> Result<(), RecvError> {
-    if receiver.receive(&Alone, octets, &mut NoWatch, taken) {
+    if receiver.receive(&Alone, &decode_columns_alone, octets, &mut NoWatch, taken) {
         Ok(())
     } else {
         Err(RecvError::Stopped)
@@ -259,7 +259,7 @@ fn feed_alone(receiver: &mut Receiver, octets: &[u8], taken: &mut Digest) -> Res
 }
 
 fn finish_alone(receiver: &mut Receiver, taken: &mut Digest) -> Result<u64, RecvError> {
-    match receiver.end(&Alone, &mut NoWatch, taken) {
+    match receiver.end(&Alone, &decode_columns_alone, &mut NoWatch, taken) {
         Some(totals) => Ok(totals.bits),
         None => Err(RecvError::Stopped),
     }
