@@ -390,7 +390,7 @@ fn check_threads<R: Abort + Threads + Sync>(
     config: &Config,
     row: &Row<'_>,
 ) -> Result<(), Fail> {
-    let crew = Threaded { rt, words: () };
+    let crew = Threaded { rt };
     check_crew(rt, &crew, alloc, config, row)
 }
 
@@ -751,7 +751,7 @@ fn config_of_windows(soft: u64) -> Result<Config, Fail> {
 #[test]
 fn octets_that_wait(rt: HostRuntime) -> Result<(), Fail> {
     let octets = repeated(rt.alloc(), (127, 127), 3 * 1024 + 64 + 1)?;
-    let crew = Threaded { rt: &rt, words: () };
+    let crew = Threaded { rt: &rt };
     check_waiting(&rt, &crew, rt.alloc(), 0, &octets)?;
     check_waiting(&rt, &crew, rt.alloc(), 1, &octets)?;
     check_waiting(&rt, &Alone, rt.alloc(), 0, &octets)

@@ -160,7 +160,7 @@ fn put_all<R: Threads + Sync>(
     requires going { queue.old.has_ended ≡ false }
     requires few { reached queue.old + length octets.now < stream_bound }
 {
-    let threads = Threaded { rt, words: () };
+    let threads = Threaded { rt };
     match put_by(&threads, queue, octets, way, digest) {
         Ok(left) => Ok(left),
         Err(Failed) => Err(FeedError::Taker),
@@ -515,7 +515,7 @@ fn run_lengths<R: Abort + Threads + Sync>(
     let mut queue = opened(rt, alloc, SHORT, Start::Zero, workers, true)?;
     assert!(rt; (octets.len() as u64) < STREAM_BOUND);
     assert!(rt; queue.fill(false, octets) == octets.len());
-    let threads = Threaded { rt, words: () };
+    let threads = Threaded { rt };
     let mut lengths = Vec::new(alloc);
     while queue.decode(&threads) > 0 {
         lengths.push(queue.count())?;
