@@ -1,5 +1,5 @@
 -- What a sender keeps, and for which octets, given so far, it stands.
-use Rattle.std.specs.Prelude.{◌≡◌, ℕ, ◌+◌, ◌*◌, ◌<◌, ◌≤◌, List, ◌++◌, length, Option}
+use Rattle.std.specs.Prelude.{◌≡◌, ℕ, ◌+◌, ◌*◌, ◌/◌, ◌≤◌, List, ◌++◌, length, Option}
 use Rattle.tm_base.specs.Pieces.{Fed, FedPrefix, further}
 use Rattle.tm_config.specs.Configuration.{Configuration}
 use Rattle.tm_inner.specs.Sending.{InnerSending, InnerSenderStandsFor, most_symbols}
@@ -27,13 +27,20 @@ pub record Makes (before now : Sending) (octets symbols : List ℕ) : Type 0 whe
   pub due : (given : List ℕ) → SenderStandsFor before given
       → further (sent before.config) given octets ≡ symbols
 
--- of this many octets came no more symbols than a unit has at most, for each frame that is whole
--- with them
-pub record MakesAtMost (before now : Sending) (octets symbols : ℕ) : Type 0 where
-  pub partial : length before.held < before.config.frame_length
+-- What is held after these octets, and the unit of the frame that is whole with them, or nothing
+-- where none is.
+pub record Framed (c : Configuration) (held octets now unit : List ℕ) : Type 0 where
+  pub rest : now ≡ after_frames c.frame_length (held ++ octets)
+  pub made : unit ≡ cadus c (held ++ octets)
   pub frames : ℕ
-  pub whole : length before.held + octets ≡ frames * before.config.frame_length + length now.held
-  pub few : symbols ≤ frames * unit_size before.config * most_symbols before.config
+  pub one : frames ≤ 1
+  pub whole : length held + length octets ≡ frames * c.frame_length + length now
+  pub size : length unit ≡ frames * unit_size c
+
+-- the most symbols that come of this many octets: of a unit for each frame that is whole with them
+abbrev pub most_made : Sending → ℕ → ℕ
+most_made s octets = (length s.held + octets) / s.config.frame_length * unit_size s.config
+    * most_symbols s.config
 
 -- given these octets, a sender went on and wrote what is due for them
 pub record Sends (before now : Sending) (taken taken_now : Option (List ℕ))

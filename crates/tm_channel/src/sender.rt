@@ -1,13 +1,13 @@
 // The sender: whole frames to symbols, from octets that are given in pieces.
-ghost use Rattle.std.specs.Prelude.{◌≡◌, ◌≢◌, ◌↔◌, ℕ, ◌*◌, ◌<◌, ◌≤◌, List, [], length, take, IsTrue, OnOk, IsErrOf, false};
+ghost use Rattle.std.specs.Prelude.{◌≡◌, ◌≢◌, ◌↔◌, ℕ, ◌+◌, ◌-◌, ◌*◌, ◌<◌, ◌≤◌, List, [], length, take, IsTrue, OnOk, IsErrOf, false};
 ghost use Rattle.tm_base.specs.Outside.{Rose};
-ghost use Rattle.tm_codeblock.specs.Cadu.{cadu, unit_size};
+ghost use Rattle.tm_codeblock.specs.Cadu.{longest_cadu, unit_size};
 ghost use Rattle.tm_codeblock.specs.Frames.{after_frames};
-ghost use Rattle.tm_inner.specs.Sending.{InnerMakes, most_symbols};
-ghost use Rattle.tm_channel.specs.Sending.{Makes, MakesAtMost, SenderStandsFor, Sends, SendsPrefix};
+ghost use Rattle.tm_inner.specs.Sending.{most_symbols};
+ghost use Rattle.tm_channel.specs.Sending.{Framed, Makes, SenderStandsFor, Sends, SendsPrefix, most_made};
 
 use std::marker::Model;
-use tm_base::{Failed, Sink, put_all};
+use tm_base::Sink;
 use tm_codeblock::{LONGEST_CADU, cadu, codeblock_size};
 use tm_config::{Config, LONGEST_CODEBLOCK};
 use tm_inner::{InnerSender, SendError};
@@ -20,8 +20,7 @@ pub const ROOM: usize = 16 * LONGEST_CADU;
 #[derive(Drop)]
 pub struct Sender {
     config: Config,
-    frame: [u8; LONGEST_CODEBLOCK],
-    count: usize,
+    frame: PartialFrame,
     // Room for the unit of a frame.
     unit: [u8; LONGEST_CADU],
     inner: InnerSender,
@@ -34,9 +33,13 @@ impl Model for Sender {
 
     ghost Value = { Sending };
 
-    ghost view = { λ s. record { config = s.config; held = take s.count s.frame; inner = s.inner } };
+    ghost view = { λ s. record {
+      config = s.config;
+      held = take s.frame.count s.frame.octets;
+      inner = s.inner;
+    } };
 
-    ghost invariant = { λ s. (s.count < s.config.frame_length) × (s.config.frame_length ≤ longest_codeblock)
+    ghost invariant = { λ s. (s.frame.count < s.config.frame_length) × (s.config.frame_length ≤ longest_codeblock)
         × (s.inner.config ≡ s.config) };
 }
 
@@ -49,8 +52,10 @@ impl Sender {
     {
         Sender {
             config,
-            frame: [0; LONGEST_CODEBLOCK],
-            count: 0,
+            frame: PartialFrame {
+                octets: [0; LONGEST_CODEBLOCK],
+                count: 0,
+            },
             unit: [0; LONGEST_CADU],
             inner: InnerSender::new(&config),
         }
@@ -58,37 +63,27 @@ impl Sender {
 
     /// The configuration.
     pub fn config(&self) -> &Config
-        ensures { result.now ≡ self.now.config }
+        ensures value { result.now ≡ self.now.config }
+        ensures partial { length self.now.held < self.now.config.frame_length }
     {
         &self.config
     }
 
     /// Takes octets from the start of `octets`, up to the end of the frame. Where the frame is whole then, puts the
     /// symbols of its unit at the start of `room`. Returns how many octets were taken, and how many were put there.
-    pub fn symbols(&mut self, octets: &[u8], room: &mut [u8; ROOM]) -> (usize, usize)
+    pub fn symbols(&mut self, octets: &[u8], room: &mut [u8]) -> (usize, usize)
+        requires room { self.old.config.frame_length ≤ length self.old.held + length octets.now
+            → most_symbols self.old.config * unit_size self.old.config ≤ length room.old }
         ensures some { 0 < length octets.now → 0 < result.0 }
         ensures most { result.0 ≤ length octets.now }
-        ensures fits { result.1 ≤ ROOM }
+        ensures fits { result.1 ≤ length room.old }
         ensures failed { self.new.inner.has_failed ≡ self.old.inner.has_failed }
         ensures made { Makes self.old self.new (take result.0 octets.now) (take result.1 room.new) }
-        ensures few { MakesAtMost self.old self.new result.0 result.1 }
+        ensures few { result.1 + most_made self.new (length octets.now - result.0)
+            ≤ most_made self.old (length octets.now) }
     {
-        let length = self.config.length() as usize;
-        let taken = octets.len().min(length - self.count);
-        let end = self.count + taken;
-        self.frame[self.count..end].copy_from_slice(&octets[..taken]);
-        if end < length {
-            self.count = end;
-            return (taken, 0);
-        }
-        self.count = 0;
-        let count = put_symbols(
-            &self.config,
-            &self.frame[..end],
-            &mut self.unit,
-            &mut self.inner,
-            room,
-        );
+        let (taken, size) = self.frame.take(&self.config, octets, &mut self.unit);
+        let count = self.inner.symbols(&self.unit[..size], room);
         (taken, count)
     }
 
@@ -111,17 +106,12 @@ impl Sender {
         if self.inner.has_failed() {
             return Err(SendError::Stopped);
         }
-        let mut room = [0; ROOM];
         let mut done = 0;
         while done < octets.len() {
-            let (taken, count) = self.symbols(&octets[done..], &mut room);
-            match put_all(out, &room[..count]) {
-                Ok(()) => {}
-                Err(Failed) => {
-                    self.inner.stop();
-                    return Err(SendError::Sink);
-                }
-            }
+            let (taken, size) = self
+                .frame
+                .take(&self.config, &octets[done..], &mut self.unit);
+            self.inner.push(&self.unit[..size], out)?;
             done += taken;
         }
         Ok(())
@@ -132,7 +122,7 @@ impl Sender {
         ensures { (given : List ℕ) → SenderStandsFor self.now given
             → result ≡ length (after_frames self.now.config.frame_length given) }
     {
-        let held = &self.frame[..self.count];
+        let held = &self.frame.octets[..self.frame.count];
         held.len() as u32
     }
 
@@ -145,22 +135,42 @@ impl Sender {
     }
 }
 
-// Puts the symbols of a frame's unit, which is made in the room for it, at the start of `symbols`. Returns how many these
-// are.
-fn put_symbols(
-    config: &Config,
-    frame: &[u8],
-    room: &mut [u8; LONGEST_CADU],
-    inner: &mut InnerSender,
-    symbols: &mut [u8; ROOM],
-) -> usize
-    requires { length frame.now ≡ config.now.frame_length }
-    ensures fits { result ≤ ROOM }
-    ensures few { result ≤ most_symbols inner.old.config * unit_size config.now }
-    ensures failed { inner.new.has_failed ≡ inner.old.has_failed }
-    ensures made { InnerMakes inner.old inner.new (cadu config.now frame.now) (take result symbols.new) }
-{
-    let unit = &mut room[..codeblock_size(config) + 4];
-    cadu(config, frame, unit);
-    inner.symbols(unit, symbols)
+// The octets of a frame that is not whole yet.
+#[derive(Drop)]
+struct PartialFrame {
+    octets: [u8; LONGEST_CODEBLOCK],
+    // How many octets of the frame there are.
+    count: usize,
+}
+
+impl PartialFrame {
+    // Takes octets from the start of `octets`, up to the end of the frame. Where the frame is whole then, puts its unit
+    // at the start of `unit`. Returns how many octets were taken, and the length of the unit, or 0 where there is none.
+    fn take(
+        &mut self,
+        config: &Config,
+        octets: &[u8],
+        unit: &mut [u8; LONGEST_CADU],
+    ) -> (usize, usize)
+        requires { self.old.count < config.now.frame_length }
+        ensures some { 0 < length octets.now → 0 < result.0 }
+        ensures most { result.0 ≤ length octets.now }
+        ensures fits { result.1 ≤ longest_cadu }
+        ensures partial { self.new.count < config.now.frame_length }
+        ensures framed { Framed config.now (take self.old.count self.old.octets) (take result.0 octets.now)
+            (take self.new.count self.new.octets) (take result.1 unit.new) }
+    {
+        let length = config.length() as usize;
+        let taken = octets.len().min(length - self.count);
+        let end = self.count + taken;
+        self.octets[self.count..end].copy_from_slice(&octets[..taken]);
+        if end < length {
+            self.count = end;
+            return (taken, 0);
+        }
+        self.count = 0;
+        let size = codeblock_size(config) + 4;
+        cadu(config, &self.octets[..end], &mut unit[..size]);
+        (taken, size)
+    }
 }
