@@ -1,17 +1,16 @@
 // Frames in, symbols out into a buffer.
-ghost use Rattle.std.specs.Prelude.{◌≡◌, ℕ, ◌^◌, ◌+◌, ◌*◌, ◌/◌, ◌≤◌, List, ◌++◌, length, take, None, true, false, IfSome};
+ghost use Rattle.std.specs.Prelude.{◌≡◌, ℕ, ◌^◌, ◌≤◌, List, ◌++◌, length, None, true, false, IfSome};
 ghost use Rattle.tm_conv.specs.Octets.{most_octet_symbols};
 ghost use Rattle.tm_base.specs.Pieces.{further};
 ghost use Rattle.tm_config.specs.Accepted.{IsAccepted};
 ghost use Rattle.tm_inner.specs.Sending.{most_symbols};
-ghost use Rattle.tm_codeblock.specs.Cadu.{unit_size};
-ghost use Rattle.tm_channel.specs.Sending.{Makes, SenderStandsFor};
+ghost use Rattle.tm_channel.specs.Sending.{SenderStandsFor};
 ghost use Rattle.tm_channel.specs.Sent.{sent};
 ghost use Rattle.tm_buffers.specs.Buffer.{Fills, has_room};
 ghost use Rattle.tm_buffers.specs.Sending.{symbols_room};
 
 use crate::room::{MOST, has_room};
-use tm_channel::{ROOM, Sender};
+use tm_channel::Sender;
 use tm_codeblock::codeblock_size;
 use tm_config::Config;
 
@@ -31,28 +30,14 @@ pub fn push_symbols(sender: &mut Sender, octets: &[u8], symbols: &mut [u8]) -> O
     if !has_room(symbols_room(sender.config(), octets.len()), symbols.len()) {
         return None;
     }
-    Some(put_symbols(sender, octets, symbols))
-}
-
-// Puts the symbols of each frame that is whole with the next octets at the start of a buffer. Returns how many these
-// are.
-fn put_symbols(sender: &mut Sender, octets: &[u8], symbols: &mut [u8]) -> usize
-    requires { (length octets.now / sender.old.config.frame_length + 1) * unit_size sender.old.config
-        * most_symbols sender.old.config ≤ length symbols.old }
-    ensures within { result ≤ length symbols.old }
-    ensures made { Makes sender.old sender.new octets.now (take result symbols.new) }
-{
-    let mut room = [0; ROOM];
     let mut done = 0;
     let mut count = 0;
     while done < octets.len() {
-        let (taken, made) = sender.symbols(&octets[done..], &mut room);
-        let end = count + made;
-        symbols[count..end].copy_from_slice(&room[..made]);
-        count = end;
+        let (taken, made) = sender.symbols(&octets[done..], &mut symbols[count..]);
         done += taken;
+        count += made;
     }
-    count
+    Some(count)
 }
 
 /// For how many symbols a buffer has to have room where `count` more octets are given: one more than come of them at
