@@ -1,7 +1,6 @@
 mod OneTurn
 pub mod FedStage
 pub mod SinkTexts
-pub mod HandedAlong
 pub mod TwoSinks
 pub mod Pieces
 pub mod Answered

@@ -3,11 +3,13 @@ use Rattle.std.proofs.Common.{◌≡◌, ◌⊎◌, inl, inr, ℕ, Bool, true, f
 use Rattle.std.proofs.lemmas.List.{append-nil, take_all}
 use Rattle.tm_base.specs.Takers.{HandedOver}
 use Rattle.tm_base.specs.Written.{Wrote, WrotePrefix}
+use Rattle.tm_base.specs.declared.outside.Sink.{Ghosts}
 use Rattle.tm_base.proofs.Handing.{HandedOver-append}
-use Rattle.tm_driver.specs.Courses.{SinkCall, SinkState, SinksCourse}
+use Rattle.tm_driver.specs.Courses.{SinkCall, SinkState, SinksCourse, sink_call, sink_state}
 use Rattle.tm_driver.specs.Meaning.{Taken, WroteBoth, WrotePrefixes, taken_by}
 use Rattle.tm_driver.specs.Texts.{BrokeText, TookText}
-use Rattle.tm_driver.specs.Writing.{Text, Out, Note, AreOut, FailsAmong, FailsIn, Sinks, StopsIn, TakesText, TookOrBroke, TookOut, TookPart, WritesText, WroteTexts, notes_of, out_of, output_of}
+use Rattle.tm_driver.specs.Writing.{Text, Out, Note, AreOut, FailsAmong, FailsIn, StopsIn, TookOut, TookPart, Writes, WritesText, WroteTexts, notes_of, out_of, output_of}
+use Rattle.tm_driver.specs.declared.writer.Writer.{Writer}
 use Rattle.tm_driver.proofs.SinkTexts.{broke-later, part-prefix, prefix-of, took-more, took-none, wrote-as, wrote-nothing, wrote-prefix}
 
 -- ---- texts after texts
@@ -52,52 +54,66 @@ took_out-more took a b c x y p q = record {
 
 -- ---- texts that were written, and a sink that failed in one
 
-module _ {T : Type 0} (s : Sinks T) where
-  abbrev OutCall : T → T → SinkCall
-  OutCall a b = record { before = s.out a; now = s.out b; is_last = s.out_last b }
+module _ {O N : Type 0} (o : Ghosts O) (n : Ghosts N) where
+  abbrev OutCall : Writer O N → Writer O N → SinkCall
+  OutCall a b = sink_call o a.out.now b.out.now
 
-  abbrev NotesCall : T → T → SinkCall
-  NotesCall a b = record { before = s.notes a; now = s.notes b; is_last = s.notes_last b }
+  abbrev NotesCall : Writer O N → Writer O N → SinkCall
+  NotesCall a b = sink_call n a.notes.now b.notes.now
 
-  record TookBoth (a b : T) (texts : List Text) : Type 0 where
-    pub out : TookText (s.out a) (s.out b) (out_of texts)
-    pub notes : TookText (s.notes a) (s.notes b) (notes_of texts)
+  abbrev out-at : Writer O N → SinkState
+  out-at w = sink_state (o.taken w.out.now) (o.faults w.out.now)
+
+  abbrev notes-at : Writer O N → SinkState
+  notes-at w = sink_state (n.taken w.notes.now) (n.faults w.notes.now)
+
+  record TookBoth (a b : Writer O N) (texts : List Text) : Type 0 where
+    pub out : TookText (out-at a) (out-at b) (out_of texts)
+    pub notes : TookText (notes-at a) (notes-at b) (notes_of texts)
 
   -- what the sinks went through with these texts
-  abbrev Went : Bool → List Text → T → T → Type 0
+  abbrev Went : Bool → List Text → Writer O N → Writer O N → Type 0
   Went false texts a b = TookBoth a b texts
   Went true texts a b = FailsAmong [] texts (OutCall a b) (NotesCall a b)
 
+  -- the writer holds the same two sinks
+  pub writes-same : (texts : List Text) (a b : Writer O N) → HandedOver (Writes o n) a texts b
+      → (b.out.ghost_name ≡ a.out.ghost_name) × (b.notes.ghost_name ≡ a.notes.ghost_name)
+  writes-same [] a b over = (ap (λ w. w.out.ghost_name) (sym over), ap (λ w. w.notes.ghost_name) (sym over))
+  writes-same (text ∷ texts) a b over =
+      let later = writes-same texts over.0 b over.2 in (later.0 ∙ over.1.out, later.1 ∙ over.1.notes)
+
   -- after a fault nothing changes
-  stays : (texts : List Text) (a b : T) → s.has_failed a ≡ true → HandedOver (TakesText s) a texts b → b ≡ a
+  stays : (texts : List Text) (a b : Writer O N) → a.has_failed ≡ true → HandedOver (Writes o n) a texts b → b ≡ a
   stays [] a b failed over = sym over
   stays (text ∷ texts) a b failed over =
       let same = over.1.failed failed in
-      stays texts over.0 b (ap s.has_failed same ∙ failed) over.2 ∙ same
+      stays texts over.0 b (ap (λ w. w.has_failed) same ∙ failed) over.2 ∙ same
 
-  fails-after : (a m b : T) (first more : List Text) (next : Text) → TookBoth a m first
+  fails-after : (a m b : Writer O N) (first more : List Text) (next : Text) → TookBoth a m first
       → FailsIn more next (OutCall m b) (NotesCall m b) → FailsIn (first ++ more) next (OutCall a b) (NotesCall a b)
   fails-after a m b first more (Out text) took fails = (
-    subst (λ (l : List ℕ). BrokeText (s.out a) (s.out b) (s.out_last b) l text) (sym (out_of-append first more))
-        (broke-later (s.out a) (s.out m) (s.out b) (s.out_last b) (out_of first) (out_of more) text took.out fails.0),
-    subst (TookText (s.notes a) (s.notes b)) (sym (notes_of-append first more))
-        (took-more (s.notes a) (s.notes m) (s.notes b) (notes_of first) (notes_of more) took.notes fails.1),
+    subst (λ (l : List ℕ). BrokeText (out-at a) (out-at b) (o.is_last b.out.now) l text)
+        (sym (out_of-append first more)) (broke-later (out-at a) (out-at m) (out-at b) (o.is_last b.out.now)
+        (out_of first) (out_of more) text took.out fails.0),
+    subst (TookText (notes-at a) (notes-at b)) (sym (notes_of-append first more))
+        (took-more (notes-at a) (notes-at m) (notes-at b) (notes_of first) (notes_of more) took.notes fails.1),
   )
   fails-after a m b first more (Note text) took fails = (
-    subst (TookText (s.out a) (s.out b)) (sym (out_of-append first more))
-        (took-more (s.out a) (s.out m) (s.out b) (out_of first) (out_of more) took.out fails.0),
-    subst (λ (l : List ℕ). BrokeText (s.notes a) (s.notes b) (s.notes_last b) l text) (sym (notes_of-append first more))
-        (broke-later (s.notes a) (s.notes m) (s.notes b) (s.notes_last b) (notes_of first) (notes_of more) text
-        took.notes fails.1),
+    subst (TookText (out-at a) (out-at b)) (sym (out_of-append first more))
+        (took-more (out-at a) (out-at m) (out-at b) (out_of first) (out_of more) took.out fails.0),
+    subst (λ (l : List ℕ). BrokeText (notes-at a) (notes-at b) (n.is_last b.notes.now) l text)
+        (sym (notes_of-append first more)) (broke-later (notes-at a) (notes-at m) (notes-at b) (n.is_last b.notes.now)
+        (notes_of first) (notes_of more) text took.notes fails.1),
   )
 
-  went-after : (failed : Bool) (a m b : T) (first texts : List Text) → TookBoth a m first → Went failed texts m b
-      → Went failed (first ++ texts) a b
+  went-after : (failed : Bool) (a m b : Writer O N) (first texts : List Text) → TookBoth a m first → Went failed texts
+      m b → Went failed (first ++ texts) a b
   went-after false a m b first texts took went = record {
-    out = subst (TookText (s.out a) (s.out b)) (sym (out_of-append first texts))
-        (took-more (s.out a) (s.out m) (s.out b) (out_of first) (out_of texts) took.out went.out);
-    notes = subst (TookText (s.notes a) (s.notes b)) (sym (notes_of-append first texts))
-        (took-more (s.notes a) (s.notes m) (s.notes b) (notes_of first) (notes_of texts) took.notes went.notes);
+    out = subst (TookText (out-at a) (out-at b)) (sym (out_of-append first texts))
+        (took-more (out-at a) (out-at m) (out-at b) (out_of first) (out_of texts) took.out went.out);
+    notes = subst (TookText (notes-at a) (notes-at b)) (sym (notes_of-append first texts))
+        (took-more (notes-at a) (notes-at m) (notes-at b) (notes_of first) (notes_of texts) took.notes went.notes);
   }
   went-after true a m b first texts took went = record {
     middle = first ++ went.middle;
@@ -111,56 +127,49 @@ module _ {T : Type 0} (s : Sinks T) where
   same-text before now same = subst (λ (k : SinkState). TookText before k []) (sym same) (took-none before)
 
   -- one text, whole
-  took-one : (text : Text) (a m : T) → s.has_failed m ≡ false → WritesText s a text m → TookBoth a m (text ∷ [])
-  took-one (Out text) a m going p = record {
-    out = subst (TookText (s.out a) (s.out m)) (sym (append-nil text))
-        (subst (TookOrBroke (s.out a) (s.out m) (s.out_last m) text) going p.0);
-    notes = same-text (s.notes a) (s.notes m) p.1;
+  took-one : (text : Text) (a m : Writer O N) → WritesText false text (OutCall a m) (NotesCall a m)
+      → TookBoth a m (text ∷ [])
+  took-one (Out text) a m p = record {
+    out = subst (TookText (out-at a) (out-at m)) (sym (append-nil text)) p.0;
+    notes = same-text (notes-at a) (notes-at m) p.1;
   }
-  took-one (Note text) a m going p = record {
-    out = same-text (s.out a) (s.out m) p.1;
-    notes = subst (TookText (s.notes a) (s.notes m)) (sym (append-nil text))
-        (subst (TookOrBroke (s.notes a) (s.notes m) (s.notes_last m) text) going p.0);
+  took-one (Note text) a m p = record {
+    out = same-text (out-at a) (out-at m) p.1;
+    notes = subst (TookText (notes-at a) (notes-at m)) (sym (append-nil text)) p.0;
   }
 
   -- or its sink failed in it
-  broke-one : (text : Text) (a m : T) → s.has_failed m ≡ true → WritesText s a text m
+  broke-one : (text : Text) (a m : Writer O N) → WritesText true text (OutCall a m) (NotesCall a m)
       → FailsIn [] text (OutCall a m) (NotesCall a m)
-  broke-one (Out text) a m failed p = (
-    subst (TookOrBroke (s.out a) (s.out m) (s.out_last m) text) failed p.0,
-    same-text (s.notes a) (s.notes m) p.1,
-  )
-  broke-one (Note text) a m failed p = (
-    same-text (s.out a) (s.out m) p.1,
-    subst (TookOrBroke (s.notes a) (s.notes m) (s.notes_last m) text) failed p.0,
-  )
+  broke-one (Out text) a m p = (p.0, same-text (notes-at a) (notes-at m) p.1)
+  broke-one (Note text) a m p = (same-text (out-at a) (out-at m) p.1, p.0)
 
-  went : (failed : Bool) (texts : List Text) (a b : T) → s.has_failed a ≡ false
-      → HandedOver (TakesText s) a texts b → s.has_failed b ≡ failed → Went failed texts a b
+  went : (failed : Bool) (texts : List Text) (a b : Writer O N) → a.has_failed ≡ false
+      → HandedOver (Writes o n) a texts b → b.has_failed ≡ failed → Went failed texts a b
   went true [] a b going over is = absurd cc
-  went false [] a b going over is = subst (λ (k : T). TookBoth a k []) over
-      (record { out = took-none (s.out a); notes = took-none (s.notes a) })
+  went false [] a b going over is = subst (λ (k : Writer O N). TookBoth a k []) over
+      (record { out = took-none (out-at a); notes = took-none (notes-at a) })
   went failed (text ∷ texts) a b going over is =
-      which (s.has_failed over.0) refl (over.1.going going) (λ fine. went failed texts over.0 b fine over.2 is)
+      which over.0.has_failed refl (over.1.going going) (λ fine. went failed texts over.0 b fine over.2 is)
     where
-      which : (f : Bool) → s.has_failed over.0 ≡ f → WritesText s a text over.0
-          → (s.has_failed over.0 ≡ false → Went failed texts over.0 b) → Went failed (text ∷ texts) a b
+      which : (f : Bool) → over.0.has_failed ≡ f → WritesText f text (OutCall a over.0) (NotesCall a over.0)
+          → (over.0.has_failed ≡ false → Went failed texts over.0 b) → Went failed (text ∷ texts) a b
       which false fine step later =
-          went-after failed a over.0 b (text ∷ []) texts (took-one text a over.0 fine step) (later fine)
+          went-after failed a over.0 b (text ∷ []) texts (took-one text a over.0 step) (later fine)
       which true broken step later =
           let same = stays texts over.0 b broken over.2 in
-          subst (λ (f : Bool). Went f (text ∷ texts) a b) (sym broken ∙ ap s.has_failed (sym same) ∙ is)
-          (subst (λ (k : T). Went true (text ∷ texts) a k) (sym same) (record {
+          subst (λ (f : Bool). Went f (text ∷ texts) a b) (sym broken ∙ ap (λ w. w.has_failed) (sym same) ∙ is)
+          (subst (λ (k : Writer O N). Went true (text ∷ texts) a k) (sym same) (record {
             middle = [];
             next = text;
             rest = texts;
             split = refl;
-            fails = broke-one text a over.0 broken step;
+            fails = broke-one text a over.0 step;
           }))
 
   -- where a sink failed in the last texts, those before them were written
-  pub fails-last : (fed last : List Text) (a m b : T) → s.has_failed a ≡ false → HandedOver (TakesText s) a fed m
-      → s.has_failed m ≡ false → HandedOver (TakesText s) m last b → s.has_failed b ≡ true
+  pub fails-last : (fed last : List Text) (a m b : Writer O N) → a.has_failed ≡ false → HandedOver (Writes o n) a fed m
+      → m.has_failed ≡ false → HandedOver (Writes o n) m last b → b.has_failed ≡ true
       → FailsAmong fed last (OutCall a b) (NotesCall a b)
   fails-last fed last a m b going over fine more broken =
       let f = went true last m b fine more broken in record {
@@ -184,15 +193,15 @@ part-of-fails first (Note text) out notes fails = (
   inr ((fails.1.rose, fails.1.later), fails.0.same),
 )
 
-pub wrote-texts : {T : Type 0} (s : Sinks T) (failed : Bool) (texts : List Text) (a b : T) → s.has_failed a ≡ false
-    → HandedOver (TakesText s) a texts b → s.has_failed b ≡ failed
-    → WroteTexts failed texts (taken_by (s.out a).taken (s.out b).taken (s.notes a).taken (s.notes b).taken)
-    × SinksCourse failed (OutCall s a b) (NotesCall s a b)
-wrote-texts s false texts a b going over is =
-    let w = went s false texts a b going over is in
+pub wrote-texts : {O N : Type 0} (o : Ghosts O) (n : Ghosts N) (failed : Bool) (texts : List Text) (a b : Writer O N)
+    → a.has_failed ≡ false → HandedOver (Writes o n) a texts b → b.has_failed ≡ failed
+    → WroteTexts failed texts (taken_by (o.taken a.out.now) (o.taken b.out.now) (n.taken a.notes.now)
+    (n.taken b.notes.now)) × SinksCourse failed (sink_call o a.out.now b.out.now) (sink_call n a.notes.now b.notes.now)
+wrote-texts o n false texts a b going over is =
+    let w = went o n false texts a b going over is in
     (record { out = w.out.written; notes = w.notes.written }, (w.out.same, w.notes.same))
-wrote-texts s true texts a b going over is =
-    let w = went s true texts a b going over is in
+wrote-texts o n true texts a b going over is =
+    let w = went o n true texts a b going over is in
     let p = part-of-fails w.middle w.next _ _ w.fails in
     (record { first = w.middle; next = w.next; rest = w.rest; split = w.split; part = p.0 }, p.1)
 

@@ -2,6 +2,8 @@
 use Rattle.std.specs.Prelude.{◌≡◌, ◌⊎◌, ℕ, ◌≤◌, Bool, true, false, List, Option}
 use Rattle.std.specs.Io.KnownBytes.{IsAtEnd}
 use Rattle.tm_base.specs.Outside.{Rose}
+use Rattle.tm_base.specs.declared.outside.Sink as sink
+use Rattle.tm_base.specs.declared.outside.Source as source
 use Rattle.tm_driver.specs.declared.ending.Ending.{Ending}
 use Rattle.tm_driver.specs.declared.ending.Ending.TheVariants.{Done, Bad, BadWindow, LeftOver, SourceFault, PastLimit}
 
@@ -39,12 +41,11 @@ pub record SourceCall : Type 1 where
   pub is_last : Type 0
 
 -- by what a source says of itself
-abbrev pub source_call : {S : Type 0} → (given left : S → Option (List ℕ)) → (ended : S → Bool)
-    → (faults : S → ℕ) → (is_last : S → Type 0) → (before now : S) → SourceCall
-source_call given left ended faults is_last before now = record {
-  before = source_state (given before) (left before) (ended before) (faults before);
-  now = source_state (given now) (left now) (ended now) (faults now);
-  is_last = is_last now;
+abbrev pub source_call : {S : Type 0} → source.Ghosts S → (before now : S) → SourceCall
+source_call s before now = record {
+  before = source_state (s.given before) (s.left before) (s.ended before) (s.faults before);
+  now = source_state (s.given now) (s.left now) (s.ended now) (s.faults now);
+  is_last = s.is_last now;
 }
 
 -- and of a sink
@@ -53,12 +54,11 @@ pub record SinkCall : Type 1 where
   pub now : SinkState
   pub is_last : Type 0
 
-abbrev pub sink_call : {O : Type 0} → (taken : O → Option (List ℕ)) → (faults : O → ℕ)
-    → (is_last : O → Type 0) → (before now : O) → SinkCall
-sink_call taken faults is_last before now = record {
-  before = sink_state (taken before) (faults before);
-  now = sink_state (taken now) (faults now);
-  is_last = is_last now;
+abbrev pub sink_call : {O : Type 0} → sink.Ghosts O → (before now : O) → SinkCall
+sink_call o before now = record {
+  before = sink_state (o.taken before) (o.faults before);
+  now = sink_state (o.taken now) (o.faults now);
+  is_last = o.is_last now;
 }
 
 -- a sink that stays as it was

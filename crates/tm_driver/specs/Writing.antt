@@ -2,9 +2,11 @@
 use Rattle.std.specs.Prelude.{◌≡◌, ℕ, Bool, true, false, List, [], ◌∷◌, ◌++◌, take}
 use Rattle.tm_base.specs.Takers.{HandedOver}
 use Rattle.tm_base.specs.Written.{Wrote}
-use Rattle.tm_driver.specs.Courses.{SinkCall, SinkState}
+use Rattle.tm_base.specs.declared.outside.Sink.{Ghosts}
+use Rattle.tm_driver.specs.Courses.{SinkCall, sink_call}
 use Rattle.tm_driver.specs.Meaning.{Output, Taken, WroteBoth}
 use Rattle.tm_driver.specs.Texts.{BrokeText, TookText}
+use Rattle.tm_driver.specs.declared.writer.Writer.{Writer}
 
 -- a text for the output, or one for the notes
 pub data Text : Type 0 where
@@ -78,29 +80,21 @@ pub record FailsAmong (fed last : List Text) (out notes : SinkCall) : Type 0 whe
 
 -- ---- what a text does to a writer
 
--- where the sinks of a writer stand, that their counts of faults can't rise any more, and whether
--- one of them failed
-pub record Sinks (T : Type 0) : Type 1 where
-  pub out : T → SinkState
-  pub out_last : T → Type 0
-  pub notes : T → SinkState
-  pub notes_last : T → Type 0
-  pub has_failed : T → Bool
-
 -- a sink took a text, or it failed in it
-abbrev pub TookOrBroke : (before now : SinkState) → Type 0 → List ℕ → (failed : Bool) → Type 0
-TookOrBroke before now is_last text false = TookText before now text
-TookOrBroke before now is_last text true = BrokeText before now is_last [] text
+abbrev pub TookOrBroke : (failed : Bool) → SinkCall → List ℕ → Type 0
+TookOrBroke false sink text = TookText sink.before sink.now text
+TookOrBroke true sink text = BrokeText sink.before sink.now sink.is_last [] text
 
 -- and the other sink stays as it was
-abbrev pub WritesText : {T : Type 0} → Sinks T → T → Text → T → Type 0
-WritesText s a (Out text) b =
-    TookOrBroke (s.out a) (s.out b) (s.out_last b) text (s.has_failed b) × (s.notes b ≡ s.notes a)
-WritesText s a (Note text) b =
-    TookOrBroke (s.notes a) (s.notes b) (s.notes_last b) text (s.has_failed b)
-    × (s.out b ≡ s.out a)
+abbrev pub WritesText : (failed : Bool) → Text → (out notes : SinkCall) → Type 0
+WritesText failed (Out text) out notes = TookOrBroke failed out text × (notes.now ≡ notes.before)
+WritesText failed (Note text) out notes = TookOrBroke failed notes text × (out.now ≡ out.before)
 
--- after a fault nothing is written
-pub record TakesText {T : Type 0} (s : Sinks T) (before : T) (text : Text) (now : T) : Type 0 where
-  pub going : s.has_failed before ≡ false → WritesText s before text now
-  pub failed : s.has_failed before ≡ true → now ≡ before
+-- it holds the same two sinks, and after a fault nothing is written
+pub record Writes {O N : Type 0} (o : Ghosts O) (n : Ghosts N) (before : Writer O N) (text : Text)
+    (now : Writer O N) : Type 0 where
+  pub out : now.out.ghost_name ≡ before.out.ghost_name
+  pub notes : now.notes.ghost_name ≡ before.notes.ghost_name
+  pub going : before.has_failed ≡ false → WritesText now.has_failed text
+      (sink_call o before.out.now now.out.now) (sink_call n before.notes.now now.notes.now)
+  pub failed : before.has_failed ≡ true → now ≡ before

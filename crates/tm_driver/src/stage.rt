@@ -8,7 +8,7 @@ ghost use Rattle.tm_driver.specs.Turns.{turn_size};
 ghost use Rattle.tm_driver.specs.Meaning.{taken_by};
 ghost use Rattle.tm_driver.specs.Staged.{Halts, StagedTo, Takes, TakesEnd};
 ghost use Rattle.tm_driver.specs.Statuses.{is_sink_fault};
-ghost use Rattle.tm_driver.specs.Writing.{FailsAmong, Text, WroteTexts};
+ghost use Rattle.tm_driver.specs.Writing.{FailsAmong, Text, Writes, WroteTexts};
 ghost use Rattle.tm_driver.specs.declared.ending.Ending.TheVariants.{SinkFault};
 ghost use Rattle.tm_driver.specs.declared.ending.Outcome.{Outcome};
 
@@ -27,8 +27,8 @@ pub trait Stage {
     /// texts.
     ghost stands: { Self → Self → List ℕ → List Text → Type 0 };
 
-    /// The same, and it takes no more octets.
-    ghost stopped: { Self → Self → List ℕ → List Text → Type 0 };
+    /// The same, and it takes no more octets. Most stages never stop.
+    ghost stopped: { Self → Self → List ℕ → List Text → Type 0 } = { λ s t octets texts. ⊥ };
 
     /// The same, and it was given the end, with this outcome.
     ghost finished: { Self → Self → List ℕ → List Text → Outcome → Type 0 };
@@ -68,20 +68,19 @@ pub fn drive_stage<S: Source, T: Stage, O: Sink, N: Sink>(
         × StagedTo (T.stands stage.old) (T.stopped stage.old) (T.finished stage.old) limit stage.new result octets texts
         × WroteTexts (is_sink_fault result) texts
         (taken_by (O.taken out.old) (O.taken out.new) (N.taken notes.old) (N.taken notes.new)) }
-    ensures source { SourceCourse result (source_call S.given S.left S.ended S.faults S.is_last source.old source.new) }
-    ensures sinks { SinksCourse (is_sink_fault result) (sink_call O.taken O.faults O.is_last out.old out.new)
-        (sink_call N.taken N.faults N.is_last notes.old notes.new) }
+    ensures source { SourceCourse result (source_call S.Source source.old source.new) }
+    ensures sinks { SinksCourse (is_sink_fault result) (sink_call O.Sink out.old out.new)
+        (sink_call N.Sink notes.old notes.new) }
     ensures halts { result ≡ SinkFault → Halts (T.stands stage.old) (T.stopped stage.old) (T.finished stage.old)
         stage.new (S.ended source.new ≡ true) (S.ended source.new ≡ S.ended source.old)
-        (λ fed last. FailsAmong fed last (sink_call O.taken O.faults O.is_last out.old out.new)
-        (sink_call N.taken N.faults N.is_last notes.old notes.new)) }
+        (λ fed last. FailsAmong fed last (sink_call O.Sink out.old out.new) (sink_call N.Sink notes.old notes.new)) }
 {
     let mut writer = Writer {
         out,
         notes,
         has_failed: false,
     };
-    let ending = drive_writer(limit, source, stage, &mut writer);
+    let ending = drive_into(limit, source, stage, &mut writer);
     let Writer {
         out: _,
         notes: _,
@@ -91,57 +90,28 @@ pub fn drive_stage<S: Source, T: Stage, O: Sink, N: Sink>(
 }
 
 // Does what `drive_stage` does, with a writer none of whose sinks has failed.
-fn drive_writer<S: Source, T: Stage, O: Sink, N: Sink>(
+fn drive_into<S: Source, T: Stage, O: Sink, N: Sink>(
     limit: u64,
     source: &mut S,
     stage: &mut T,
-    writer: &mut Writer<'_, '_, O, N>,
+    texts: &mut Writer<O, N>,
 ) -> Ending
     requires ready { T.is_ready stage.old }
     requires limit { limit ≤ most_limit }
     requires fresh { T.stands stage.old stage.old [] [] }
-    requires going { writer.old.has_failed ≡ false }
-    ensures staged { (octets : List ℕ) × (texts : List Text) × Gave (S.given source.old) (S.given source.new)
-        (S.left source.old) (S.left source.new) octets × (length octets ≤ limit + 1)
-        × StagedTo (T.stands stage.old) (T.stopped stage.old) (T.finished stage.old) limit stage.new result octets texts
-        × WroteTexts (is_sink_fault result) texts (taken_by (O.taken writer.old.out.now) (O.taken writer.new.out.now)
-        (N.taken writer.old.notes.now) (N.taken writer.new.notes.now)) }
-    ensures source { SourceCourse result (source_call S.given S.left S.ended S.faults S.is_last source.old source.new) }
-    ensures sinks { SinksCourse (is_sink_fault result)
-        (sink_call O.taken O.faults O.is_last writer.old.out.now writer.new.out.now)
-        (sink_call N.taken N.faults N.is_last writer.old.notes.now writer.new.notes.now) }
-    ensures halts { result ≡ SinkFault → Halts (T.stands stage.old) (T.stopped stage.old) (T.finished stage.old)
-        stage.new (S.ended source.new ≡ true) (S.ended source.new ≡ S.ended source.old)
-        (λ fed last. FailsAmong fed last
-        (sink_call O.taken O.faults O.is_last writer.old.out.now writer.new.out.now)
-        (sink_call N.taken N.faults N.is_last writer.old.notes.now writer.new.notes.now)) }
-    ensures same { (writer.new.out.ghost_name ≡ writer.old.out.ghost_name)
-        × (writer.new.notes.ghost_name ≡ writer.old.notes.ghost_name) }
-{
-    drive_into(limit, source, stage, writer)
-}
-
-// Does what `drive_stage` does, with a taker of texts that has not failed.
-fn drive_into<S: Source, T: Stage, W: TextTaker>(
-    limit: u64,
-    source: &mut S,
-    stage: &mut T,
-    texts: &mut W,
-) -> Ending
-    requires ready { T.is_ready stage.old }
-    requires limit { limit ≤ most_limit }
-    requires fresh { T.stands stage.old stage.old [] [] }
-    requires going { W.failed texts.old ≡ false }
+    requires going { texts.old.has_failed ≡ false }
     ensures staged { (octets : List ℕ) × (all : List Text) × Gave (S.given source.old) (S.given source.new)
         (S.left source.old) (S.left source.new) octets × (length octets ≤ limit + 1)
         × StagedTo (T.stands stage.old) (T.stopped stage.old) (T.finished stage.old) limit stage.new result octets all
-        × HandedOver W.took texts.old all texts.new }
+        × HandedOver (Writes O.Sink N.Sink) texts.old all texts.new }
     ensures halts { result ≡ SinkFault → Halts (T.stands stage.old) (T.stopped stage.old) (T.finished stage.old)
         stage.new (S.ended source.new ≡ true) (S.ended source.new ≡ S.ended source.old)
-        (λ fed last. (middle : W) × HandedOver W.took texts.old fed middle × (W.failed middle ≡ false)
-        × HandedOver W.took middle last texts.new) }
-    ensures failed { W.failed texts.new ≡ is_sink_fault result }
-    ensures source { SourceCourse result (source_call S.given S.left S.ended S.faults S.is_last source.old source.new) }
+        (λ fed last. (middle : _) × HandedOver (Writes O.Sink N.Sink) texts.old fed middle
+        × (middle.has_failed ≡ false) × HandedOver (Writes O.Sink N.Sink) middle last texts.new) }
+    ensures failed { texts.new.has_failed ≡ is_sink_fault result }
+    ensures same { (texts.new.out.ghost_name ≡ texts.old.out.ghost_name)
+        × (texts.new.notes.ghost_name ≡ texts.old.notes.ghost_name) }
+    ensures source { SourceCourse result (source_call S.Source source.old source.new) }
 {
     let mut buffer = [0; TURN];
     let mut room = limit + 1;
@@ -151,7 +121,7 @@ fn drive_into<S: Source, T: Stage, W: TextTaker>(
         match source.read(turn) {
             Ok(0) => {
                 let outcome = stage.finish(texts);
-                if texts.has_failed() {
+                if texts.has_failed {
                     return Ending::SinkFault;
                 }
                 return outcome.ending();
@@ -160,7 +130,7 @@ fn drive_into<S: Source, T: Stage, W: TextTaker>(
                 room -= count as u64;
                 let kept = if room == 0 { count - 1 } else { count };
                 let goes_on = stage.feed(&buffer[..kept], texts);
-                if texts.has_failed() {
+                if texts.has_failed {
                     return Ending::SinkFault;
                 }
                 if !goes_on {

@@ -4,9 +4,11 @@ use Rattle.std.proofs.lemmas.List.{take_all}
 use Rattle.tm_base.proofs.Handing.{HandedOver-append}
 use Rattle.tm_base.proofs.Known.{append_known-nil, prepend_known-nil}
 use Rattle.tm_driver.specs.Staged.{StagedTo}
+use Rattle.tm_driver.specs.Writing.{Writes}
 use Rattle.tm_driver.specs.declared.ending.Ending.{Ending}
 use Rattle.tm_driver.proofs.OneTurn.{gave-more, turn-is, going-on}
 use Rattle.tm_driver.proofs.FedStage.{fed-either, fed-end, fed-turn, staged-end}
+use Rattle.tm_driver.proofs.Writing.{writes-same}
 use Rattle.tm_driver.proofs.stage.drive_into.Goals as goal
 use Rattle.tm_driver.proofs.stage.drive_into.Goals.{then-room-eq0, else-room-eq0}
 
@@ -42,28 +44,28 @@ loop-room-preserved g c =
         was.1 ++ t.texts,
         gave-more _ _ _ _ _ _ _ _ was.2 c.in-Ok.ensures.given c.in-Ok.ensures.left,
         omega (arith, turn.1),
-        fed-turn g.W.TextTaker.took g.T.Stage.stands c.args.stage.now c.loop-room.stage c.feed-goes_on.new.self
+        fed-turn (Writes g.O.Sink g.N.Sink) g.T.Stage.stands c.args.stage.now c.loop-room.stage c.feed-goes_on.new.self
             c.loop-room.texts c.feed-goes_on.new.texts c.args.limit was.0 was.1 was.4 c.requires.limit
             g.T.Stage.stands (take c.in-Ok.count c.read.new.buf) _ turn.0 t,
-        HandedOver-append g.W.TextTaker.took c.args.texts.now c.loop-room.texts c.feed-goes_on.new.texts was.1 t.texts
-            was.5 t.handed,
+        HandedOver-append (Writes g.O.Sink g.N.Sink) c.args.texts.now c.loop-room.texts c.feed-goes_on.new.texts was.1
+            t.texts was.5 t.handed,
       );
-      going = sym c.has_failed-in-Ok.ensures ∙ c.if-has_failed-2.false;
+      going = c.if-texts-2.false;
       ended =
           going-on _ _ c.in-Ok.count (length c.read.new.buf) (omega arith) c.in-Ok.ensures.ended
           ∙ c.loop-room.invariant.ended;
       source = grind (arith, common_steps);
     }
 
-pub returns-then-has_failed-2-clause-staged : goal.returns-then-has_failed-2-clause-staged
-returns-then-has_failed-2-clause-staged g c =
+pub returns-then-texts-2-clause-staged : goal.returns-then-texts-2-clause-staged
+returns-then-texts-2-clause-staged g c =
     let was = c.loop-room.invariant.read in
     let kept : c.if-room-eq0.kept ≡ c.in-Ok.count - (1 - (c.loop-room.room - c.in-Ok.count)) =
     elim c.if-room-eq0.branch [ then-room-eq0 w ↦ omega arith | else-room-eq0 w ↦ omega arith ] in
     let turn = turn-is c.args.limit was.0 c.read.new.buf (drop c.min-most.result c.loop-room.buffer) was.3 kept
     (omega arith) (grind (arith, common_steps, c.in-Ok.ensures.bound, c.read.auto.buf)) c.in-Ok.ensures.bound.0 in
-    let f = fed-either g.W.TextTaker.took g.T.Stage.stands c.args.stage.now c.loop-room.stage c.feed-goes_on.new.self
-    c.loop-room.texts c.feed-goes_on.new.texts c.args.limit was.0 was.1 was.4 c.requires.limit
+    let f = fed-either (Writes g.O.Sink g.N.Sink) g.T.Stage.stands c.args.stage.now c.loop-room.stage
+    c.feed-goes_on.new.self c.loop-room.texts c.feed-goes_on.new.texts c.args.limit was.0 was.1 was.4 c.requires.limit
     g.T.Stage.stopped c.feed-goes_on.result (take c.in-Ok.count c.read.new.buf) _ turn.0
     c.feed-goes_on.ensures.goes_on c.feed-goes_on.ensures.stops in (
       was.0 ++ take c.in-Ok.count c.read.new.buf,
@@ -71,19 +73,19 @@ returns-then-has_failed-2-clause-staged g c =
       gave-more _ _ _ _ _ _ _ _ was.2 c.in-Ok.ensures.given c.in-Ok.ensures.left,
       omega (arith, turn.1),
       elim f.1 [ inl stands ↦ inl stands | inr stops ↦ inr (inl stops) ],
-      HandedOver-append g.W.TextTaker.took c.args.texts.now c.loop-room.texts c.feed-goes_on.new.texts was.1 f.0 was.5
-          f.2,
+      HandedOver-append (Writes g.O.Sink g.N.Sink) c.args.texts.now c.loop-room.texts c.feed-goes_on.new.texts was.1
+          f.0 was.5 f.2,
     )
 
-pub returns-then-has_failed-2-clause-halts : goal.returns-then-has_failed-2-clause-halts
-returns-then-has_failed-2-clause-halts g c is =
+pub returns-then-texts-2-clause-halts : goal.returns-then-texts-2-clause-halts
+returns-then-texts-2-clause-halts g c is =
     let was = c.loop-room.invariant.read in
     let kept : c.if-room-eq0.kept ≡ c.in-Ok.count - (1 - (c.loop-room.room - c.in-Ok.count)) =
     elim c.if-room-eq0.branch [ then-room-eq0 w ↦ omega arith | else-room-eq0 w ↦ omega arith ] in
     let turn = turn-is c.args.limit was.0 c.read.new.buf (drop c.min-most.result c.loop-room.buffer) was.3 kept
     (omega arith) (grind (arith, common_steps, c.in-Ok.ensures.bound, c.read.auto.buf)) c.in-Ok.ensures.bound.0 in
-    let f = fed-either g.W.TextTaker.took g.T.Stage.stands c.args.stage.now c.loop-room.stage c.feed-goes_on.new.self
-    c.loop-room.texts c.feed-goes_on.new.texts c.args.limit was.0 was.1 was.4 c.requires.limit
+    let f = fed-either (Writes g.O.Sink g.N.Sink) g.T.Stage.stands c.args.stage.now c.loop-room.stage
+    c.feed-goes_on.new.self c.loop-room.texts c.feed-goes_on.new.texts c.args.limit was.0 was.1 was.4 c.requires.limit
     g.T.Stage.stopped c.feed-goes_on.result (take c.in-Ok.count c.read.new.buf) _ turn.0
     c.feed-goes_on.ensures.goes_on c.feed-goes_on.ensures.stops in
     let unended = going-on _ _ c.in-Ok.count (length c.read.new.buf) (omega arith) c.in-Ok.ensures.ended
@@ -107,36 +109,36 @@ returns-then-not-goes_on-clause-staged g c =
       was.1 ++ t.texts,
       gave-more _ _ _ _ _ _ _ _ was.2 c.in-Ok.ensures.given c.in-Ok.ensures.left,
       omega (arith, turn.1),
-      fed-turn g.W.TextTaker.took g.T.Stage.stands c.args.stage.now c.loop-room.stage c.feed-goes_on.new.self
+      fed-turn (Writes g.O.Sink g.N.Sink) g.T.Stage.stands c.args.stage.now c.loop-room.stage c.feed-goes_on.new.self
           c.loop-room.texts c.feed-goes_on.new.texts c.args.limit was.0 was.1 was.4 c.requires.limit
           g.T.Stage.stopped (take c.in-Ok.count c.read.new.buf) _ turn.0 t,
-      HandedOver-append g.W.TextTaker.took c.args.texts.now c.loop-room.texts c.feed-goes_on.new.texts was.1 t.texts
-          was.5 t.handed,
+      HandedOver-append (Writes g.O.Sink g.N.Sink) c.args.texts.now c.loop-room.texts c.feed-goes_on.new.texts was.1
+          t.texts was.5 t.handed,
     )
 
-pub returns-then-has_failed-clause-staged : goal.returns-then-has_failed-clause-staged
-returns-then-has_failed-clause-staged g c =
+pub returns-then-texts-clause-staged : goal.returns-then-texts-clause-staged
+returns-then-texts-clause-staged g c =
     let was = c.loop-room.invariant.read in
     let t = c.finish-outcome.ensures in
-    let f = fed-end g.W.TextTaker.took g.T.Stage.stands c.args.stage.now c.loop-room.stage c.finish-outcome.new.self
-    c.loop-room.texts c.finish-outcome.new.texts c.args.limit was.0 was.1 was.4 c.requires.limit g.T.Stage.finished
-    c.finish-outcome.result t in (
+    let f = fed-end (Writes g.O.Sink g.N.Sink) g.T.Stage.stands c.args.stage.now c.loop-room.stage
+    c.finish-outcome.new.self c.loop-room.texts c.finish-outcome.new.texts c.args.limit was.0 was.1 was.4
+    c.requires.limit g.T.Stage.finished c.finish-outcome.result t in (
       was.0,
       was.1 ++ t.texts,
       grind (arith, common_steps),
       omega (arith, was.3),
       inr (inr (c.finish-outcome.result, f)),
-      HandedOver-append g.W.TextTaker.took c.args.texts.now c.loop-room.texts c.finish-outcome.new.texts was.1 t.texts
-          was.5 t.handed,
+      HandedOver-append (Writes g.O.Sink g.N.Sink) c.args.texts.now c.loop-room.texts c.finish-outcome.new.texts was.1
+          t.texts was.5 t.handed,
     )
 
-pub returns-then-has_failed-clause-halts : goal.returns-then-has_failed-clause-halts
-returns-then-has_failed-clause-halts g c is =
+pub returns-then-texts-clause-halts : goal.returns-then-texts-clause-halts
+returns-then-texts-clause-halts g c is =
     let was = c.loop-room.invariant.read in
     let t = c.finish-outcome.ensures in
-    let f = fed-end g.W.TextTaker.took g.T.Stage.stands c.args.stage.now c.loop-room.stage c.finish-outcome.new.self
-    c.loop-room.texts c.finish-outcome.new.texts c.args.limit was.0 was.1 was.4 c.requires.limit g.T.Stage.finished
-    c.finish-outcome.result t in
+    let f = fed-end (Writes g.O.Sink g.N.Sink) g.T.Stage.stands c.args.stage.now c.loop-room.stage
+    c.finish-outcome.new.self c.loop-room.texts c.finish-outcome.new.texts c.args.limit was.0 was.1 was.4
+    c.requires.limit g.T.Stage.finished c.finish-outcome.result t in
     record {
       fed = was.1;
       last = t.texts;
@@ -158,9 +160,9 @@ returns-in-Ok-eq0-clause-staged g c =
     let was = c.loop-room.invariant.read in
     let within : length was.0 ≤ c.args.limit = omega (arith, was.3, c.loop-room-test.true) in
     let t = c.finish-outcome.ensures in
-    let f = fed-end g.W.TextTaker.took g.T.Stage.stands c.args.stage.now c.loop-room.stage c.finish-outcome.new.self
-    c.loop-room.texts c.finish-outcome.new.texts c.args.limit was.0 was.1 was.4 c.requires.limit g.T.Stage.finished
-    c.finish-outcome.result t in (
+    let f = fed-end (Writes g.O.Sink g.N.Sink) g.T.Stage.stands c.args.stage.now c.loop-room.stage
+    c.finish-outcome.new.self c.loop-room.texts c.finish-outcome.new.texts c.args.limit was.0 was.1 was.4
+    c.requires.limit g.T.Stage.finished c.finish-outcome.result t in (
       was.0,
       was.1 ++ t.texts,
       grind (arith, common_steps),
@@ -173,6 +175,28 @@ returns-in-Ok-eq0-clause-staged g c =
           (was.1 ++ t.texts) within
           (subst (λ (o : List ℕ). g.T.Stage.finished c.args.stage.now c.finish-outcome.new.self o (was.1 ++ t.texts)
           c.finish-outcome.result) (take_all c.args.limit was.0 within) f)),
-      HandedOver-append g.W.TextTaker.took c.args.texts.now c.loop-room.texts c.finish-outcome.new.texts was.1 t.texts
-          was.5 t.handed,
+      HandedOver-append (Writes g.O.Sink g.N.Sink) c.args.texts.now c.loop-room.texts c.finish-outcome.new.texts was.1
+          t.texts was.5 t.handed,
     )
+
+pub returns-then-texts-2-clause-same : goal.returns-then-texts-2-clause-same
+returns-then-texts-2-clause-same g c =
+    let d = returns-then-texts-2-clause-staged g c in writes-same g.O.Sink g.N.Sink d.1 _ _ d.5
+
+pub returns-then-not-goes_on-clause-same : goal.returns-then-not-goes_on-clause-same
+returns-then-not-goes_on-clause-same g c =
+    let d = returns-then-not-goes_on-clause-staged g c in writes-same g.O.Sink g.N.Sink d.1 _ _ d.5
+
+pub returns-then-texts-clause-same : goal.returns-then-texts-clause-same
+returns-then-texts-clause-same g c =
+    let d = returns-then-texts-clause-staged g c in writes-same g.O.Sink g.N.Sink d.1 _ _ d.5
+
+pub returns-in-Ok-eq0-clause-same : goal.returns-in-Ok-eq0-clause-same
+returns-in-Ok-eq0-clause-same g c =
+    let d = returns-in-Ok-eq0-clause-staged g c in writes-same g.O.Sink g.N.Sink d.1 _ _ d.5
+
+pub returns-in-Err-clause-same : goal.returns-in-Err-clause-same
+returns-in-Err-clause-same g c = writes-same g.O.Sink g.N.Sink _ _ _ c.loop-room.invariant.read.5
+
+pub returns-clause-same : goal.returns-clause-same
+returns-clause-same g c = writes-same g.O.Sink g.N.Sink _ _ _ c.loop-room.invariant.read.5
