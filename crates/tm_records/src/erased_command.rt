@@ -124,8 +124,6 @@ impl<'a, R: Threads + Sync> Stage for Erasing<'a, R> {
 
     ghost stands = { λ s t octets texts. HasSpace t.records × Erases s t octets texts };
 
-    ghost stopped = { λ s t octets texts. ⊥ };
-
     ghost finished = { λ s t octets texts outcome. ErasesAll s.records.coding octets texts outcome };
 
     ghost is_ready = { λ t. IsSync R.row × HasSpace t.records };
@@ -175,9 +173,8 @@ pub fn erased<R: Threads + Sync, S: Source, O: Sink, N: Sink>(
 ) -> Result<Ending, NoMemory>
     requires { config.now.code ≢ OuterCode.Uncoded }
     ensures answered { IfOk result (λ ending. Answered true ending (erased_meaning config.now) config.now.limit
-        (source_call S.given S.left S.ended S.faults S.is_last source.old source.new)
-        (sink_call O.taken O.faults O.is_last out.old out.new)
-        (sink_call N.taken N.faults N.is_last notes.old notes.new)) }
+        (source_call S.Source source.old source.new) (sink_call O.Sink out.old out.new)
+        (sink_call N.Sink notes.old notes.new)) }
     ensures memory { OnErr result ((source.new ≡ source.old) × (out.new ≡ out.old) × (notes.new ≡ notes.old)) }
 {
     let Ok(records) = records_by(alloc, config) else {

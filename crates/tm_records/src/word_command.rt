@@ -130,7 +130,7 @@ pub fn word<O: Sink>(config: &Config, text: &[u8], out: &mut O) -> Ending
     ensures ends { (noted : Option (List ℕ)) → Ends result (word_meaning text.now config.now) config.now.limit []
         (taken_by (O.taken out.old) (O.taken out.new) noted noted) }
     ensures answers { (result ≡ Ending.Done) ⊎ (result ≡ Ending.Bad) ⊎ (result ≡ Ending.SinkFault) }
-    ensures sink { SinkCourse (is_sink_fault result) (sink_call O.taken O.faults O.is_last out.old out.new) }
+    ensures sink { SinkCourse (is_sink_fault result) (sink_call O.Sink out.old out.new) }
 {
     let mut room = [0; LONGEST_WORD];
     let octets = &mut room[..text.len() / 2];

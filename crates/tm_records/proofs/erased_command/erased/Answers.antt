@@ -1,5 +1,4 @@
 use Rattle.std.proofs.Common.{◌≡◌, ap, rules}
-use Rattle.tm_driver.specs.Meaning.{taken_by}
 use Rattle.tm_driver.proofs.Answered.{answered}
 use Rattle.tm_records.specs.Batch.{Batch, opened}
 use Rattle.tm_records.specs.Erased.{coding_of}
@@ -18,13 +17,10 @@ pub returns-clause-answered : goal.returns-clause-answered
 returns-clause-answered g c =
     let d = c.drive_stage.ensures.staged in
     let config = c.args.config.now in
-    let now = c.drive_stage.new in
-    let new : c.in-Ok.records ≡ opened (coding_of config) config.workers = search rules in
-    let taken = taken_by (g.O.Sink.taken c.args.out.now) (g.O.Sink.taken now.out) (g.N.Sink.taken c.args.notes.now)
-    (g.N.Sink.taken now.notes) in (
+    let new : c.in-Ok.records ≡ opened (coding_of config) config.workers = search rules in (
       d.0,
       answered d.0 _ _ _ _ _ _ _ c.limit.ensures.value d.2 d.3
-          (erased-ends config c.in-Ok.records.coding (ap (λ (b : Batch). b.coding) new) c.limit.result
-          c.limit.ensures.value now.stage c.drive_stage.result d.0 d.1 taken d.4 d.5) c.drive_stage.ensures.source
-          c.drive_stage.ensures.sinks,
+          (erased-ends config _ (ap (λ (b : Batch). b.coding) new) _ c.limit.ensures.value c.drive_stage.new.stage _
+          d.0 d.1 _ d.4 d.5)
+          c.drive_stage.ensures.source c.drive_stage.ensures.sinks,
     )
