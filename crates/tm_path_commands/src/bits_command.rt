@@ -154,8 +154,6 @@ impl Stage for BitsOf {
 
     ghost stands = { λ s t octets texts. GivesBits s.inner.config t.inner t.packer t.windows octets texts };
 
-    ghost stopped = { λ s t octets texts. ⊥ };
-
     ghost finished = { λ s t octets texts outcome. (outcome ≡ Done) × GivesAllBits s.inner.config octets texts };
 
     ghost is_ready = { λ t. t.inner.has_ended ≡ false };
@@ -246,9 +244,8 @@ pub fn bits<S: Source, O: Sink, N: Sink>(
     notes: &mut N,
 ) -> Result<Ending, NoMemory>
     ensures answered { IfOk result (λ ending. Answered true ending (bits_meaning config.now) config.now.limit
-        (source_call S.given S.left S.ended S.faults S.is_last source.old source.new)
-        (sink_call O.taken O.faults O.is_last out.old out.new)
-        (sink_call N.taken N.faults N.is_last notes.old notes.new)) }
+        (source_call S.Source source.old source.new) (sink_call O.Sink out.old out.new)
+        (sink_call N.Sink notes.old notes.new)) }
     ensures memory { OnErr result ((source.new ≡ source.old) × (out.new ≡ out.old) × (notes.new ≡ notes.old)) }
 {
     handed_law();

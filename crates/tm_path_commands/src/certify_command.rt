@@ -41,8 +41,6 @@ impl Stage for Certifying {
 
     ghost stands = { λ s t octets texts. CertifiesDue s.inner.config (certifier t.inner t.start) octets texts };
 
-    ghost stopped = { λ s t octets texts. ⊥ };
-
     ghost finished = { λ s t octets texts outcome. (outcome ≡ Done) × CertifiesAll s.inner.config octets texts };
 
     ghost is_ready = { λ t. (t.inner.has_ended ≡ false) × IfSome t.start (λ register. register < registers) };
@@ -157,8 +155,7 @@ pub fn certify<S: Source, O: Sink>(
     out: &mut O,
 ) -> Result<Ending, NoMemory>
     ensures answered { IfOk result (λ ending. AnsweredAlone true ending (certify_meaning config.now) config.now.limit
-        (source_call S.given S.left S.ended S.faults S.is_last source.old source.new)
-        (sink_call O.taken O.faults O.is_last out.old out.new)) }
+        (source_call S.Source source.old source.new) (sink_call O.Sink out.old out.new)) }
     ensures memory { OnErr result ((source.new ≡ source.old) × (out.new ≡ out.old)) }
 {
     certified_law();

@@ -118,9 +118,8 @@ pub fn check<S: Source, O: Sink, N: Sink>(
 ) -> Result<Ending, NoMemory>
     requires { config.now.inner ≢ None }
     ensures answered { IfOk result (λ ending. Answered true ending (check_meaning config.now) config.now.limit
-        (source_call S.given S.left S.ended S.faults S.is_last source.old source.new)
-        (sink_call O.taken O.faults O.is_last out.old out.new)
-        (sink_call N.taken N.faults N.is_last notes.old notes.new)) }
+        (source_call S.Source source.old source.new) (sink_call O.Sink out.old out.new)
+        (sink_call N.Sink notes.old notes.new)) }
     ensures memory { OnErr result ((source.new ≡ source.old) × (out.new ≡ out.old) × (notes.new ≡ notes.old)) }
     ensures not_bad { IfOk result (λ ending. ending ≡ Ending.Bad → ⊥) }
 {

@@ -1,11 +1,8 @@
 use Rattle.std.proofs.Common.{◌∙◌, ◌<◌, Bool, List, [], length, arith, refl, sym, subst}
 use Rattle.std.proofs.lemmas.List.Elements.{All-nil}
 use Rattle.tm_config.specs.Accepted.{IsAccepted}
-use Rattle.tm_driver.specs.Courses.{sink_call, source_call}
-use Rattle.tm_driver.specs.Meaning.{taken_by}
 use Rattle.tm_driver.proofs.Answered.{answered}
 use Rattle.tm_inner.proofs.PlainBits.{bits-nil}
-use Rattle.tm_path_commands.specs.Bits.{bits_meaning}
 use Rattle.tm_path_commands.specs.declared.bits_command.BitsOf.{BitsOf}
 use Rattle.tm_path_commands.proofs.BitsEndings.{bits-ends}
 use Rattle.tm_path_commands.proofs.bits_command.bits.Goals as goal
@@ -32,19 +29,10 @@ drive_stage-requires g c =
 
 pub returns-clause-answered : goal.returns-clause-answered
 returns-clause-answered g c =
-    let d = c.drive_stage.ensures.staged in
-    let config = c.args.config.now in
-    let by = c.drive_stage.result in
-    let new = c.drive_stage.new in
-    let source = source_call g.S.Source.given g.S.Source.left g.S.Source.ended g.S.Source.faults g.S.Source.is_last
-    c.args.source.now new.source in
-    let out = sink_call g.O.Sink.taken g.O.Sink.faults g.O.Sink.is_last c.args.out.now new.out in
-    let notes = sink_call g.N.Sink.taken g.N.Sink.faults g.N.Sink.is_last c.args.notes.now new.notes in (
+    let d = c.drive_stage.ensures.staged in (
       d.0,
-      answered d.0 by (bits_meaning config) config.limit c.limit.result source out notes c.limit.ensures.value d.2 d.3
-          (bits-ends c.handed_law.ensures (λ (t : BitsOf). t.inner) (λ t. t.packer) (λ t. t.windows) config
-          c.in-Ok.inner.config c.limit.result c.in-Ok.ensures.config c.limit.ensures.value new.stage by d.0 d.1
-          (taken_by (g.O.Sink.taken c.args.out.now) (g.O.Sink.taken new.out) (g.N.Sink.taken c.args.notes.now)
-          (g.N.Sink.taken new.notes)) d.4 d.5)
+      answered d.0 _ _ _ _ _ _ _ c.limit.ensures.value d.2 d.3
+          (bits-ends c.handed_law.ensures (λ (t : BitsOf). t.inner) (λ t. t.packer) (λ t. t.windows) _ _ _
+          c.in-Ok.ensures.config c.limit.ensures.value _ _ d.0 d.1 _ d.4 d.5)
           c.drive_stage.ensures.source c.drive_stage.ensures.sinks,
     )

@@ -1,13 +1,11 @@
 use Rattle.std.proofs.Common.{None, ◌∙◌, ap, arith}
-use Rattle.tm_config.specs.Configuration.{Configuration, unfollowed}
-use Rattle.tm_driver.specs.Courses.{sink_call, sink_state, source_call}
+use Rattle.tm_config.specs.Configuration.{Configuration}
+use Rattle.tm_driver.specs.Courses.{sink_state}
 use Rattle.tm_driver.specs.Meaning.{taken_by}
-use Rattle.tm_driver.specs.Statuses.{is_sink_fault}
 use Rattle.tm_driver.proofs.Answered.{answered-alone}
 use Rattle.tm_driver.proofs.TwoSinks.{first-alone}
 use Rattle.tm_viterbi.specs.Starts.{first_start}
 use Rattle.tm_path_commands.specs.declared.certify_command.Certifying.{Certifying}
-use Rattle.tm_path_commands.specs.Certify.{certified_meaning}
 use Rattle.tm_path_commands.proofs.CertifyEndings.{certify-ends}
 use Rattle.tm_path_commands.proofs.CertifyStage.{certifies-new, some-small}
 use Rattle.tm_path_commands.proofs.certify_command.certify.Goals as goal
@@ -26,18 +24,10 @@ drive_stage-requires g c = record {
 pub returns-clause-answered : goal.returns-clause-answered
 returns-clause-answered g c =
     let d = c.drive_stage.ensures.staged in
-    let config = unfollowed c.args.config.now in
     let law = c.certified_law.ensures in
-    let by = c.drive_stage.result in
-    let now = c.drive_stage.new.stage in
-    let out = c.drive_stage.new.out in
     let limit = c.limit.ensures.value ∙ ap (λ (k : Configuration). k.limit) c.unfollowed-found.ensures.value in
-    let source = source_call g.S.Source.given g.S.Source.left g.S.Source.ended g.S.Source.faults g.S.Source.is_last
-    c.args.source.now c.drive_stage.new.source in
-    let sink = sink_call g.O.Sink.taken g.O.Sink.faults g.O.Sink.is_last c.args.out.now out in
-    answered-alone d.0 by (certified_meaning config) config.limit c.limit.result source sink limit d.2 d.3
+    answered-alone d.0 _ _ _ _ _ _ limit d.2 d.3
     (λ noted. certify-ends c.handed_law.ensures law.exists law.one law.longer (λ (t : Certifying). t.inner)
-    (λ t. t.start) config c.in-Ok.inner.config c.limit.result
-    (c.in-Ok.ensures.config ∙ c.unfollowed-found.ensures.value) limit now by d.0 d.1
-    (taken_by (g.O.Sink.taken c.args.out.now) (g.O.Sink.taken out) None None) noted d.4 d.5)
-    c.drive_stage.ensures.source (first-alone (is_sink_fault by) sink (sink_state None 0) c.drive_stage.ensures.sinks)
+    (λ t. t.start) _ _ _ (c.in-Ok.ensures.config ∙ c.unfollowed-found.ensures.value) limit _ _ d.0 d.1
+    (taken_by _ _ None None) noted d.4 d.5)
+    c.drive_stage.ensures.source (first-alone _ _ (sink_state None 0) c.drive_stage.ensures.sinks)

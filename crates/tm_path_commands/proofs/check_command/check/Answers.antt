@@ -1,6 +1,4 @@
 use Rattle.std.proofs.Common.{◌≡◌, [], refl, rules, arith}
-use Rattle.tm_driver.specs.Courses.{source_call}
-use Rattle.tm_driver.specs.Meaning.{taken_by}
 use Rattle.tm_driver.proofs.Answered.{answered}
 use Rattle.tm_path_commands.specs.Check.{ReadAt}
 use Rattle.tm_path_commands.specs.declared.check_command.Checking.{Checking}
@@ -28,22 +26,17 @@ pub returns-clause-answered : goal.returns-clause-answered
 returns-clause-answered g c =
     let d = c.drive_stage.ensures.staged in
     let config = c.args.config.now in
-    let now = c.drive_stage.new in
     let new : Checking = record { reader = c.in-Ok.reader; tally = record { blocks = 0; bits = 0 } } in
     let once : ReadOnce = record {
       exists = c.read_law.ensures.exists;
       one = c.read_law.ensures.one;
       longer = c.read_law.ensures.longer;
     } in
-    let rules_are : ReadAt (λ k. c.in-Ok.reader.rules ≡ k) config.inner config = search rules in
-    let taken = taken_by (g.O.Sink.taken c.args.out.now) (g.O.Sink.taken now.out) (g.N.Sink.taken c.args.notes.now)
-    (g.N.Sink.taken now.notes) in
-    let source = source_call g.S.Source.given g.S.Source.left g.S.Source.ended g.S.Source.faults g.S.Source.is_last
-    c.args.source.now now.source in (
+    let rules_are : ReadAt (λ k. c.in-Ok.reader.rules ≡ k) config.inner config = search rules in (
       d.0,
-      answered d.0 _ _ _ _ source _ _ c.limit.ensures.value d.2 d.3
-          (check-ends once config new rules_are c.limit.result c.limit.ensures.value now.stage c.drive_stage.result d.0 d.1
-          taken d.4 d.5) c.drive_stage.ensures.source c.drive_stage.ensures.sinks,
+      answered d.0 _ _ _ _ _ _ _ c.limit.ensures.value d.2 d.3
+          (check-ends once config new rules_are _ c.limit.ensures.value _ _ d.0 d.1 _ d.4 d.5)
+          c.drive_stage.ensures.source c.drive_stage.ensures.sinks,
     )
 
 pub returns-clause-not_bad : goal.returns-clause-not_bad
