@@ -28,8 +28,6 @@ impl<'a, R: Threads + Sync> Stage for Decoding<'a, R> {
 
     ghost stands = { λ s t octets texts. Decodes s.receiver.config t.receiver t.counts octets texts };
 
-    ghost stopped = { λ s t octets texts. ⊥ };
-
     ghost finished = { λ s t octets texts outcome. DecodesAll s.receiver.config octets texts outcome };
 
     ghost is_ready = { λ t. IsSync R.row × (t.receiver.has_stopped ≡ false) × IsByAll t.receiver };
@@ -69,9 +67,8 @@ pub fn decode<R: Threads + Sync, S: Source, O: Sink, N: Sink>(
     notes: &mut N,
 ) -> Result<Ending, NoMemory>
     ensures answered { IfOk result (λ ending. Answered true ending (decode_meaning config.now) config.now.limit
-        (source_call S.given S.left S.ended S.faults S.is_last source.old source.new)
-        (sink_call O.taken O.faults O.is_last out.old out.new)
-        (sink_call N.taken N.faults N.is_last notes.old notes.new)) }
+        (source_call S.Source source.old source.new) (sink_call O.Sink out.old out.new)
+        (sink_call N.Sink notes.old notes.new)) }
     ensures memory { OnErr result ((source.new ≡ source.old) × (out.new ≡ out.old) × (notes.new ≡ notes.old)) }
 {
     received_law();
@@ -95,8 +92,7 @@ pub fn report<R: Threads + Sync, S: Source, O: Sink>(
     out: &mut O,
 ) -> Result<Ending, NoMemory>
     ensures answered { IfOk result (λ ending. AnsweredAlone true ending (report_meaning config.now) config.now.limit
-        (source_call S.given S.left S.ended S.faults S.is_last source.old source.new)
-        (sink_call O.taken O.faults O.is_last out.old out.new)) }
+        (source_call S.Source source.old source.new) (sink_call O.Sink out.old out.new)) }
     ensures memory { OnErr result ((source.new ≡ source.old) × (out.new ≡ out.old)) }
 {
     let mut frames = SureSink::new();

@@ -31,16 +31,14 @@ pub fn dispatch<R: Threads + Sync, S: Source, O: Sink, N: Sink>(
     requires { refusal_of_command config.now (command_of job.now) ≡ None }
     ensures answered { IfOk result (λ ending. Answered (reads (command_of job.now)) ending
         (meaning_of (command_of job.now) config.now) config.now.limit
-        (source_call S.given S.left S.ended S.faults S.is_last source.old source.new)
-        (sink_call O.taken O.faults O.is_last out.old out.new)
-        (sink_call N.taken N.faults N.is_last notes.old notes.new)) }
+        (source_call S.Source source.old source.new) (sink_call O.Sink out.old out.new)
+        (sink_call N.Sink notes.old notes.new)) }
     ensures memory { OnErr result ((source.new ≡ source.old) × (out.new ≡ out.old) × (notes.new ≡ notes.old)) }
     ensures unread { reads (command_of job.now) ≡ false → source.new ≡ source.old }
     ensures unnoted { has_notes (command_of job.now) ≡ false → notes.new ≡ notes.old }
     ensures stops { job.now.kind ≡ JobKind.Encode → IfOk result (λ ending. ending ≡ Ending.SinkFault
-        → StopsAtSink (source_call S.given S.left S.ended S.faults S.is_last source.old source.new)
-        (sink_call O.taken O.faults O.is_last out.old out.new)
-        (sink_call N.taken N.faults N.is_last notes.old notes.new)) }
+        → StopsAtSink (source_call S.Source source.old source.new) (sink_call O.Sink out.old out.new)
+        (sink_call N.Sink notes.old notes.new)) }
     ensures not_bad { job.now.kind ≡ JobKind.Check → IfOk result (λ ending. ending ≡ Ending.Bad → ⊥) }
 {
     match job.kind {

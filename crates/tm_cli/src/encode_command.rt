@@ -24,8 +24,6 @@ impl Stage for Encoding {
 
     ghost stands = { Encodes };
 
-    ghost stopped = { λ s t octets texts. ⊥ };
-
     ghost finished = { λ s t octets texts outcome. EncodesAll s.sender.config octets texts
         × (outcome ≡ outcome_by (left_over s.sender.config octets)) };
 
@@ -55,13 +53,11 @@ pub fn encode<S: Source, O: Sink, N: Sink>(
     notes: &mut N,
 ) -> Ending
     ensures answered { Answered true result (encode_meaning config.now) config.now.limit
-        (source_call S.given S.left S.ended S.faults S.is_last source.old source.new)
-        (sink_call O.taken O.faults O.is_last out.old out.new)
-        (sink_call N.taken N.faults N.is_last notes.old notes.new) }
+        (source_call S.Source source.old source.new) (sink_call O.Sink out.old out.new)
+        (sink_call N.Sink notes.old notes.new) }
     ensures stops { result ≡ SinkFault
-        → StopsAtSink (source_call S.given S.left S.ended S.faults S.is_last source.old source.new)
-        (sink_call O.taken O.faults O.is_last out.old out.new)
-        (sink_call N.taken N.faults N.is_last notes.old notes.new) }
+        → StopsAtSink (source_call S.Source source.old source.new) (sink_call O.Sink out.old out.new)
+        (sink_call N.Sink notes.old notes.new) }
 {
     let mut encoding = Encoding {
         sender: Sender::new(*config),

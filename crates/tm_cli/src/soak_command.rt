@@ -153,7 +153,7 @@ pub fn soak<R: Threads + Sync, O: Sink>(
     ensures answers { IfOk result (λ ending. (ending ≡ Ending.Done) ⊎ (ending ≡ Ending.Bad) ⊎
         (ending ≡ Ending.SinkFault)) }
     ensures sink { IfOk result (λ ending. SinkCourse (is_sink_fault ending)
-        (sink_call O.taken O.faults O.is_last out.old out.new)) }
+        (sink_call O.Sink out.old out.new)) }
 {
     received_law();
     let Ok(mut receiver) = Receiver::open(alloc, *config) else {

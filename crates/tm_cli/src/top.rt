@@ -47,16 +47,16 @@ pub fn run<R: Threads + Sync, S: Source, O: Sink, N: Sink>(
     ensures refused { IsSome (refusal_of (map string_bytes words.now))
         → (result ≡ 2) ⊎ (result ≡ 5) }
     ensures refusal { result ≡ 2 → IsRefused (map string_bytes words.now)
-        (sink_call N.taken N.faults N.is_last notes.old notes.new) }
+        (sink_call N.Sink notes.old notes.new) }
     ensures unread { (result ≡ 2) ⊎ (result ≡ 5) → (source.new ≡ source.old) × (out.new ≡ out.old) }
     ensures memory { result ≡ 5 → notes.new ≡ notes.old }
 
     // They are accepted, and ask for a job.
     ensures answered { (job : Job) → AreParsedAs (map string_bytes words.now) job → (result ≡ 5 → ⊥)
         → Answers result (command_of job) (configuration_of job.raw) (record {
-          source = source_call S.given S.left S.ended S.faults S.is_last source.old source.new;
-          out = sink_call O.taken O.faults O.is_last out.old out.new;
-          notes = sink_call N.taken N.faults N.is_last notes.old notes.new;
+          source = source_call S.Source source.old source.new;
+          out = sink_call O.Sink out.old out.new;
+          notes = sink_call N.Sink notes.old notes.new;
         }) }
     ensures only_words { (job : Job) → AreParsedAs (map string_bytes words.now) job
         → reads (command_of job) ≡ false → source.new ≡ source.old }

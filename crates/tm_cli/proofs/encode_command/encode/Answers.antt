@@ -17,5 +17,4 @@ returns-clause-answered g c =
 
 pub returns-clause-stops : goal.returns-clause-stops
 returns-clause-stops g c is =
-    stops-at _ _ (source_call g.S.Source.given g.S.Source.left g.S.Source.ended g.S.Source.faults g.S.Source.is_last
-    c.args.source.now c.drive_stage.new.source) _ _ (c.drive_stage.ensures.halts is)
+    stops-at _ _ (source_call g.S.Source c.args.source.now c.drive_stage.new.source) _ _ (c.drive_stage.ensures.halts is)

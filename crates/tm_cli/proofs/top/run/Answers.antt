@@ -28,10 +28,9 @@ returns-in-Ok-clause-answered g c = λ job asked _.
     let h = c.in-Ok.ensures.answered in
     let ending = c.in-Ok.ending in
     let call : Call = record {
-      source = source_call g.S.Source.given g.S.Source.left g.S.Source.ended g.S.Source.faults g.S.Source.is_last
-          c.args.source.now c.dispatch.new.source;
-      out = sink_call g.O.Sink.taken g.O.Sink.faults g.O.Sink.is_last c.args.out.now c.dispatch.new.out;
-      notes = sink_call g.N.Sink.taken g.N.Sink.faults g.N.Sink.is_last c.args.notes.now c.dispatch.new.notes;
+      source = source_call g.S.Source c.args.source.now c.dispatch.new.source;
+      out = sink_call g.O.Sink c.args.out.now c.dispatch.new.out;
+      notes = sink_call g.N.Sink c.args.notes.now c.dispatch.new.notes;
     } in
     let all = taken_in call in
     let is = c.status.ensures in
