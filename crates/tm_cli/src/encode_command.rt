@@ -17,7 +17,8 @@ struct Encoding {
 }
 
 impl Stage for Encoding {
-    ghost use Rattle.std.specs.Prelude.{◌≡◌, ◌<◌};
+    ghost use Rattle.std.specs.Prelude.{◌≡◌};
+    ghost use Rattle.tm_config.specs.Accepted.{IsAccepted};
     ghost use Rattle.tm_cli.specs.Encode.{left_over};
     ghost use Rattle.tm_cli.specs.Encoding.{Encodes, EncodesAll};
     ghost use Rattle.tm_driver.specs.Lines.{outcome_by};
@@ -27,7 +28,7 @@ impl Stage for Encoding {
     ghost finished = { λ s t octets texts outcome. EncodesAll s.sender.config octets texts
         × (outcome ≡ outcome_by (left_over s.sender.config octets)) };
 
-    ghost is_ready = { λ t. 0 < t.sender.config.frame_length };
+    ghost is_ready = { λ t. IsAccepted t.sender.config };
 
     fn feed<W: TextTaker>(&mut self, piece: &[u8], texts: &mut W) -> bool {
         let mut at = 0;

@@ -1,3 +1,5 @@
+use Rattle.std.proofs.Common.{subst, sym}
+use Rattle.tm_config.specs.Accepted.{IsAccepted}
 use Rattle.tm_driver.specs.Courses.{source_call}
 use Rattle.tm_driver.proofs.Answered.{answered}
 use Rattle.tm_cli.proofs.Encoded.{encode-ends, encodes-none, stops-at}
@@ -5,6 +7,9 @@ use Rattle.tm_cli.proofs.encode_command.encode.Goals as goal
 
 pub drive_stage-requires-clause-fresh : goal.drive_stage-requires-clause-fresh
 drive_stage-requires-clause-fresh g c = encodes-none _ c.new.ensures.stands
+
+pub drive_stage-requires-clause-ready : goal.drive_stage-requires-clause-ready
+drive_stage-requires-clause-ready g c = subst IsAccepted (sym c.new.ensures.config) c.limit.ensures.accepted
 
 pub returns-clause-answered : goal.returns-clause-answered
 returns-clause-answered g c =
