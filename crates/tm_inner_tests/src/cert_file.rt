@@ -65,5 +65,5 @@ fn a_window_is_written(rt: HostRuntime) {
 
 fn check_part(rt: &impl Abort, octets: &[u8], from: usize, wanted: &[u8]) {
     assert!(rt; from <= octets.len());
-    assert!(rt; octets[from..].starts_with(wanted), "from {from}");
+    assert!(rt; octets[from..].starts_with(wanted));
 }

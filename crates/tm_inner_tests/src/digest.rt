@@ -5,7 +5,7 @@ ghost use Rattle.tm_base.specs.Count.{last_count};
 use tm_base::Failed;
 use tm_viterbi::{Block, BlockTaker};
 
-#[derive(Debug, PartialEq, Eq, Drop)]
+#[derive(Clone, Copy, PartialEq, Eq)]
 pub struct Digest {
     pub blocks: u64,
     pub value: u64,

@@ -211,12 +211,17 @@ static BITS_NOT_PACKED: [Row; 3] = [
 
 // Two octets, many times.
 fn repeated(alloc: Global, pair: (u8, u8), count: usize) -> Result<Vec<u8>, AllocError> {
-    let mut octets = Vec::new(alloc);
-    for _ in 0..count {
-        octets.push(pair.0)?;
-        octets.push(pair.1)?;
-    }
+    let mut octets = vec![in alloc; pair.0; count.wrapping_mul(2)]?;
+    make_odd_ones(octets.as_mut_slice(), pair.1);
     Ok(octets)
+}
+
+fn make_odd_ones(octets: &mut [u8], octet: u8) {
+    for i in 0..octets.len() {
+        if i % 2 == 1 {
+            octets[i] = octet;
+        }
+    }
 }
 
 fn config_of(row: &Row<'_>) -> Result<Config, Fail> {
@@ -329,6 +334,34 @@ fn put_last<C: Crew>(
     Ok(end)
 }
 
+fn put_all<C: Crew>(
+    crew: &C,
+    decoder: &mut InnerDecoder,
+    octets: &[u8],
+    taker: &mut Collector,
+) -> Result<InnerEnd, Failed>
+    requires ready { C.is_ready crew.now }
+    requires drained { IsDrained decoder.old.queue }
+{
+    put(crew, decoder, octets, taker)?;
+    put_last(crew, decoder, taker)
+}
+
+// Decodes the octets by three workers.
+fn decode<C: Crew>(
+    rt: &impl Abort,
+    crew: &C,
+    alloc: Global,
+    config: &Config,
+    octets: &[u8],
+    taker: &mut Collector,
+) -> Result<InnerEnd, Fail>
+    requires ready { C.is_ready crew.now }
+{
+    let mut decoder = opened_for(rt, alloc, config, 3)?;
+    Ok(put_all(crew, &mut decoder, octets, taker)?)
+}
+
 fn check_rows<R: Abort + Threads + Sync>(
     rt: &R,
     alloc: Global,
@@ -344,9 +377,9 @@ fn check_rows<R: Abort + Threads + Sync>(
 fn check<R: Abort + Threads + Sync>(rt: &R, alloc: Global, row: &Row<'_>) -> Result<(), Fail> {
     let config = config_of(row)?;
     check_at_once(rt, alloc, &config, row)?;
-    check_pieces(rt, alloc, &config, 1, row)?;
-    check_pieces(rt, alloc, &config, 2, row)?;
-    check_pieces(rt, alloc, &config, 300, row)?;
+    for size in [1, 2, 300] {
+        check_pieces(rt, alloc, &config, size, row)?;
+    }
     check_threads(rt, alloc, &config, row)?;
     check_workers(rt, alloc, &config, row)
 }
@@ -373,14 +406,33 @@ fn check_pieces(
     requires { 1 ≤ size }
 {
     let mut taker = Collector::new(alloc, 9);
-    let mut receiver = opened(alloc, config)?;
-    for piece in row.octets.chunks(size) {
-        feed(&mut receiver, piece, &mut taker)?;
-    }
-    let end = finish(&mut receiver, &mut taker)?;
+    let end = receive(
+        rt,
+        &mut opened(alloc, config)?,
+        size,
+        row.octets,
+        &mut taker,
+    )?;
     check_end(rt, end, &taker, row);
-    check_stopped(rt, &mut receiver, row.octets, &mut taker);
     Ok(())
+}
+
+// Feeds a receiver the octets in pieces, and finishes it. A finished receiver is stopped.
+fn receive(
+    rt: &impl Abort,
+    receiver: &mut InnerReceiver,
+    size: usize,
+    octets: &[u8],
+    taker: &mut Collector,
+) -> Result<InnerEnd, FeedError>
+    requires { 1 ≤ size }
+{
+    for piece in octets.chunks(size) {
+        feed(receiver, piece, taker)?;
+    }
+    let end = finish(receiver, taker)?;
+    check_stopped(rt, receiver, octets, taker);
+    Ok(end)
 }
 
 // Three workers, with threads.
@@ -404,9 +456,7 @@ fn check_crew<C: Crew>(
     requires ready { C.is_ready crew.now }
 {
     let mut taker = Collector::new(alloc, 9);
-    let mut decoder = opened_for(rt, alloc, config, 3)?;
-    put(crew, &mut decoder, row.octets, &mut taker)?;
-    let end = put_last(crew, &mut decoder, &mut taker)?;
+    let end = decode(rt, crew, alloc, config, row.octets, &mut taker)?;
     check_end(rt, end, &taker, row);
     Ok(())
 }
@@ -422,13 +472,18 @@ fn check_workers(
 }
 
 fn check_end(rt: &impl Abort, end: InnerEnd, taker: &Collector, row: &Row<'_>) {
+    check_totals(rt, end, taker, row);
+    assert!(rt; taker.kept() == row.blocks);
+}
+
+fn check_totals(rt: &impl Abort, end: InnerEnd, taker: &Collector, row: &Row<'_>) {
     let wanted = InnerEnd {
         bits: row.bits,
         slips: None,
         leftover: row.leftover,
     };
-    assert!(rt; (end, taker.phase()) == (wanted, row.chosen));
-    assert!(rt; taker.kept() == row.blocks);
+    assert!(rt; end == wanted);
+    assert!(rt; taker.phase() == row.chosen);
 }
 
 fn check_stopped(
@@ -529,17 +584,18 @@ fn bits_without_an_inner_code(rt: HostRuntime) -> Result<(), Fail> {
 // The bits to skip, fewer with each octet.
 fn check_skipping(rt: &impl Abort, alloc: Global) -> Result<(), Fail> {
     let config = config_of(&BITS[2])?;
+    check_inner_code(rt, alloc, &config, false)?;
     let mut decoder = opened_for(rt, alloc, &config, 1)?;
-    assert!(rt; !decoder.has_inner_code());
     for left in [15, 7, 0, 0] {
-        check_to_skip(rt, &decoder, left);
-        assert!(rt; decoder.fill(&[0xFF]) == 1);
+        check_to_skip(rt, &mut decoder, left);
     }
     Ok(())
 }
 
-fn check_to_skip(rt: &impl Abort, decoder: &InnerDecoder, left: u64) {
+// There are `left` bits to skip before an octet more.
+fn check_to_skip(rt: &impl Abort, decoder: &mut InnerDecoder, left: u64) {
     assert!(rt; decoder.bits_to_skip() == left);
+    assert!(rt; decoder.fill(&[0xFF]) == 1);
 }
 
 #[test]
@@ -550,13 +606,20 @@ fn bits_that_are_not_packed(rt: HostRuntime) -> Result<(), Fail> {
 // A taker that fails at the first block stops the receiver.
 #[test]
 fn a_taker_that_fails(rt: HostRuntime) -> Result<(), Fail> {
-    let octets = repeated(rt.alloc(), (0x00, 0xFF), 8449)?;
     let config = config_of(&NOTHING)?;
-    let mut taker = Collector::new(rt.alloc(), 0);
-    let mut receiver = opened(rt.alloc(), &config)?;
-    assert!(rt; opened_for(&rt, rt.alloc(), &config, 1)?.has_inner_code());
-    check_fails(&rt, &mut receiver, &octets, &mut taker);
-    check_stopped(&rt, &mut receiver, &[], &mut taker);
+    check_inner_code(&rt, rt.alloc(), &config, true)?;
+    let octets = repeated(rt.alloc(), (0x00, 0xFF), 8449)?;
+    check_failing(&rt, rt.alloc(), &config, &octets)
+}
+
+fn check_inner_code(
+    rt: &impl Abort,
+    alloc: Global,
+    config: &Config,
+    wanted: bool,
+) -> Result<(), Fail> {
+    let decoder = opened_for(rt, alloc, config, 1)?;
+    assert!(rt; decoder.has_inner_code() == wanted);
     Ok(())
 }
 
@@ -567,6 +630,7 @@ fn check_fails(
     taker: &mut Collector,
 ) {
     assert!(rt; feed(receiver, octets, taker) == Err(FeedError::Taker));
+    check_stopped(rt, receiver, &[], taker);
 }
 
 // An octet before the undisturbed symbols of the marker 1A CF FC 1D, with each second one inverted.
@@ -612,12 +676,19 @@ fn check_choice(rt: &impl Abort, alloc: Global) -> Result<(), Fail> {
         ahead: 0,
         ..Raw::default()
     })?;
-    let mut taker = Collector::new(alloc, 9);
     let mut receiver = opened(alloc, &config)?;
-    feed_pairs(&mut receiver, &mut taker)?;
-    check_chosen(rt, &receiver, &taker, None);
-    feed(&mut receiver, &[0xFF], &mut taker)?;
-    check_chosen(rt, &receiver, &taker, Some((1, 0)));
+    check_pairs(rt, &mut receiver, &mut Collector::new(alloc, 9))
+}
+
+fn check_pairs(
+    rt: &impl Abort,
+    receiver: &mut InnerReceiver,
+    taker: &mut Collector,
+) -> Result<(), Fail> {
+    feed_pairs(receiver, taker)?;
+    check_chosen(rt, receiver, taker, None);
+    feed(receiver, &[0xFF], taker)?;
+    check_chosen(rt, receiver, taker, Some((1, 0)));
     Ok(())
 }
 
@@ -651,6 +722,14 @@ const NOTHING_FOUND: Row<'static> = Row {
     ..NOTHING
 };
 
+static TIE: Row = Row {
+    start: 1,
+    octets: &[0xFF, 0x00, 0xFF, 0x00, 0xFF, 0x00, 0xFF],
+    bits: 3,
+    leftover: 1,
+    ..NOTHING_FOUND
+};
+
 // Both phases cost nothing, and so do no octets.
 #[test]
 fn phase_of_a_tie(rt: HostRuntime) -> Result<(), Fail> {
@@ -659,20 +738,10 @@ fn phase_of_a_tie(rt: HostRuntime) -> Result<(), Fail> {
 }
 
 fn check_tie(rt: &impl Abort, alloc: Global) -> Result<(), Fail> {
-    let config = config_of(&Row {
-        start: 1,
-        phase: 1,
-        ..NOTHING
-    })?;
-    let octets = [0xFF, 0x00, 0xFF, 0x00, 0xFF, 0x00, 0xFF];
+    let config = config_of(&TIE)?;
     let mut taker = Collector::new(alloc, 9);
-    let end = inner_all(alloc, &config, &octets, &mut taker)?;
-    let wanted = InnerEnd {
-        bits: 3,
-        slips: None,
-        leftover: 1,
-    };
-    assert!(rt; (end, taker.phase()) == (wanted, Some((0, 0))));
+    let end = inner_all(alloc, &config, TIE.octets, &mut taker)?;
+    check_totals(rt, end, &taker, &TIE);
     assert!(rt; taker.kept().len() == 1);
     check_free(rt, taker.kept());
     Ok(())
@@ -687,31 +756,43 @@ fn check_free(rt: &impl Abort, blocks: &[Kept]) {
 // With no inner code the phase is 0, from the first octet on. A taker that fails at it stops the receiver.
 #[test]
 fn phase_without_an_inner_code(rt: HostRuntime) -> Result<(), Fail> {
-    let row = Row {
-        inner: 0,
-        ..NOTHING_FOUND
-    };
-    check(&rt, rt.alloc(), &row)?;
-    let config = config_of(&row)?;
-    check_first_octet(&rt, rt.alloc(), &config)?;
-    check_failing(&rt, rt.alloc(), &config)
+    check(&rt, rt.alloc(), &NOTHING_UNCODED)?;
+    let config = config_of(&NOTHING_UNCODED)?;
+    check_phase_of_bits(&rt, rt.alloc(), &config)?;
+    check_failing(&rt, rt.alloc(), &config, &[0x55])
 }
 
-fn check_first_octet(rt: &impl Abort, alloc: Global, config: &Config) -> Result<(), Fail> {
-    let mut taker = Collector::new(alloc, 9);
+static NOTHING_UNCODED: Row = Row {
+    inner: 0,
+    ..NOTHING_FOUND
+};
+
+fn check_phase_of_bits(rt: &impl Abort, alloc: Global, config: &Config) -> Result<(), Fail> {
     let mut receiver = opened(alloc, config)?;
-    feed(&mut receiver, &[], &mut taker)?;
-    check_chosen(rt, &receiver, &taker, None);
-    feed(&mut receiver, &[0x55], &mut taker)?;
-    check_chosen(rt, &receiver, &taker, Some((0, 0)));
+    check_first_octet(rt, &mut receiver, &mut Collector::new(alloc, 9))
+}
+
+fn check_first_octet(
+    rt: &impl Abort,
+    receiver: &mut InnerReceiver,
+    taker: &mut Collector,
+) -> Result<(), Fail> {
+    feed(receiver, &[], taker)?;
+    check_chosen(rt, receiver, taker, None);
+    feed(receiver, &[0x55], taker)?;
+    check_chosen(rt, receiver, taker, Some((0, 0)));
     Ok(())
 }
 
-fn check_failing(rt: &impl Abort, alloc: Global, config: &Config) -> Result<(), Fail> {
-    let mut taker = Collector::new(alloc, 0);
+// A taker that takes nothing stops a receiver at these octets.
+fn check_failing(
+    rt: &impl Abort,
+    alloc: Global,
+    config: &Config,
+    octets: &[u8],
+) -> Result<(), Fail> {
     let mut receiver = opened(alloc, config)?;
-    check_fails(rt, &mut receiver, &[0x55], &mut taker);
-    assert!(rt; feed(&mut receiver, &[], &mut taker) == Err(FeedError::Stopped));
+    check_fails(rt, &mut receiver, octets, &mut Collector::new(alloc, 0));
     Ok(())
 }
 
@@ -727,13 +808,27 @@ fn check_waiting<C: Crew>(
     requires ready { C.is_ready crew.now }
 {
     let config = config_of_windows(soft)?;
-    let mut taker = Collector::new(alloc, 9);
     let mut decoder = opened_for(rt, alloc, &config, 2)?;
+    check_filled(rt, &mut decoder, octets);
+    check_due(rt, crew, &mut decoder, &mut Collector::new(alloc, 9))
+}
+
+fn check_filled(rt: &impl Abort, decoder: &mut InnerDecoder, octets: &[u8]) {
     assert!(rt; decoder.fill(octets) == octets.len());
     assert!(rt; decoder.may_wait(3 * 1024) && !decoder.may_wait(3 * 1024 - 1));
-    hand_due(crew, &mut decoder, &mut taker)?;
+}
+
+fn check_due<C: Crew>(
+    rt: &impl Abort,
+    crew: &C,
+    decoder: &mut InnerDecoder,
+    taker: &mut Collector,
+) -> Result<(), Fail>
+    requires ready { C.is_ready crew.now }
+{
+    hand_due(crew, decoder, taker)?;
     assert!(rt; (taker.kept().len(), decoder.may_wait(0)) == (3, true));
-    let end = put_last(crew, &mut decoder, &mut taker)?;
+    let end = put_last(crew, decoder, taker)?;
     assert!(rt; (end.bits, taker.kept().len()) == (3 * 1024 + 64 + 1, 4));
     Ok(())
 }
@@ -767,9 +862,7 @@ fn check_windows(
 ) -> Result<(), Fail> {
     let config = Config::check(raw)?;
     let mut taker = Collector::new(alloc, 9);
-    let mut decoder = opened_for(rt, alloc, &config, 3)?;
-    put(&Alone, &mut decoder, octets, &mut taker)?;
-    put_last(&Alone, &mut decoder, &mut taker)?;
+    decode(rt, &Alone, alloc, &config, octets, &mut taker)?;
     assert!(rt; taker.windows() == windows);
     Ok(())
 }

@@ -2,7 +2,7 @@
 use std::alloc::{AllocError, Global};
 use tm_conv::{Encoder, Rate, Symbols};
 
-#[derive(Clone, Copy, Debug)]
+#[derive(Clone, Copy)]
 pub enum Kind {
     /// The symbols of drawn bits, each at its surest.
     Clean,
@@ -44,18 +44,34 @@ pub fn soft_octets(
     kind: Kind,
     steps: usize,
 ) -> Result<Vec<u8>, AllocError> {
-    let mut octets = Vec::new(alloc);
+    let mut octets = vec![in alloc; 0; steps.wrapping_mul(2)]?;
+    let count = fill(octets.as_mut_slice(), rate, kind, steps);
+    octets.truncate(count);
+    Ok(octets)
+}
+
+// Writes the octets of the symbols of `steps` steps. Returns how many they are.
+fn fill(octets: &mut [u8], rate: Rate, kind: Kind, steps: usize) -> usize {
+    let mut count = 0;
     let mut encoder = Encoder::new(rate, false);
     let mut x = 1;
     for _ in 0..steps {
         x = drawn(x);
-        match encoder.step(x >> 63 == 1) {
-            Symbols::One(symbol) => octets.push(soft(kind, symbol, drawn(x)))?,
+        count = match encoder.step(x >> 63 == 1) {
+            Symbols::One(symbol) => put(octets, count, soft(kind, symbol, drawn(x))),
             Symbols::Two(first, second) => {
-                octets.push(soft(kind, first, drawn(x)))?;
-                octets.push(soft(kind, second, drawn(drawn(x))))?;
+                let place = put(octets, count, soft(kind, first, drawn(x)));
+                put(octets, place, soft(kind, second, drawn(drawn(x))))
             }
-        }
+        };
     }
-    Ok(octets)
+    count
+}
+
+// Writes an octet. Returns the next place.
+fn put(octets: &mut [u8], place: usize, octet: u8) -> usize {
+    if place < octets.len() {
+        octets[place] = octet;
+    }
+    place.wrapping_add(1)
 }

@@ -22,8 +22,19 @@ fn verdict(sum: u32, bit: u8, metric: u64) -> Verdict
 
 #[test]
 fn one_step(rt: HostRuntime) {
-    assert!(rt; verdict(127, 1, 127) == Verdict::Yes);
-    assert!(rt; verdict(127, 0, 127) == Verdict::Sum(383));
-    assert!(rt; verdict(384, 1, 127) == Verdict::No(1, 0));
-    assert!(rt; verdict(127, 1, 128) == Verdict::No(1, 0));
+    let verdicts = [
+        verdict(127, 1, 127),
+        verdict(127, 0, 127),
+        verdict(384, 1, 127),
+        verdict(127, 1, 128),
+    ];
+    assert!(rt;
+        verdicts
+            == [
+                Verdict::Yes,
+                Verdict::Sum(383),
+                Verdict::No(1, 0),
+                Verdict::No(1, 0)
+            ]
+    );
 }

@@ -37,11 +37,32 @@ enum Way {
 
 const WAYS: [Way; 3] = [Way::Once, Way::Gathered, Way::Alone];
 
-// What came of a stream: the blocks, and what the last call returned.
-#[derive(Debug, PartialEq, Eq, Drop)]
+// A stream, how it is decoded, and how many blocks are taken.
+#[derive(Clone, Copy)]
+struct Stream<'a> {
+    octets: &'a [u8],
+    shape: WindowShape,
+    start: Start,
+    follow: bool,
+    room: u64,
+}
+
+fn stream_of(shape: WindowShape, octets: &[u8]) -> Stream<'_> {
+    Stream {
+        octets,
+        shape,
+        start: Start::Zero,
+        follow: false,
+        room: u64::MAX,
+    }
+}
+
+// What came of a stream: the blocks, what the last call returned, and how often octets were dropped.
+#[derive(Clone, Copy, PartialEq, Eq)]
 struct Outcome {
     digest: Digest,
     answer: Result<u8, FeedError>,
+    slips: u64,
 }
 
 // Decodes all windows that are closed, and hands over their blocks.
@@ -177,20 +198,18 @@ fn feed_alone(decoder: &mut Decoder, octets: &[u8], digest: &mut Digest) -> Resu
 fn opened(
     rt: &impl Abort,
     alloc: Global,
-    shape: WindowShape,
-    start: Start,
+    stream: &Stream<'_>,
     workers: u8,
-    follow: bool,
 ) -> Result<WindowQueue, Fail>
     ensures fresh { IfOk result (λ q. (q.find ≡ false) × (q.has_ended ≡ false) × (reached q ≡ 0)) }
 {
-    let WindowShape { keep, ahead, .. } = shape;
+    let WindowShape { keep, ahead, .. } = stream.shape;
     assert!(rt; 64 <= keep && keep <= 65536 && ahead <= 4096 && 0 < workers && workers <= 64);
     let settings = QueueSettings {
-        shape,
-        start,
+        shape: stream.shape,
+        start: stream.start,
         find: false,
-        follow,
+        follow: stream.follow,
     };
     Ok(WindowQueue::open(alloc, settings, workers, MOST_WAITING)?)
 }
@@ -198,35 +217,53 @@ fn opened(
 fn with_workers<R: Abort + Threads + Sync>(
     rt: &R,
     alloc: Global,
-    shape: WindowShape,
-    start: Start,
+    stream: &Stream<'_>,
     workers: u8,
-    octets: &[u8],
     way: Way,
-    room: u64,
 ) -> Result<Outcome, Fail> {
-    let mut queue = opened(rt, alloc, shape, start, workers, false)?;
-    assert!(rt; (octets.len() as u64) < STREAM_BOUND);
-    let mut digest = with_room(room);
-    let answer = put_all(rt, &mut queue, octets, way, &mut digest);
-    Ok(Outcome { digest, answer })
+    let mut queue = opened(rt, alloc, stream, workers)?;
+    assert!(rt; (stream.octets.len() as u64) < STREAM_BOUND);
+    let mut digest = with_room(stream.room);
+    let answer = put_all(rt, &mut queue, stream.octets, way, &mut digest);
+    Ok(Outcome {
+        digest,
+        answer,
+        slips: queue.slips(),
+    })
 }
 
-fn alone(
-    rt: &impl Abort,
+// By these numbers of workers, in each way, a stream comes to just this.
+fn check_workers<R: Abort + Threads + Sync>(
+    rt: &R,
     alloc: Global,
-    shape: WindowShape,
-    start: Start,
-    octets: &[u8],
-    room: u64,
-) -> Result<Outcome, Fail> {
-    assert!(rt; 64 <= shape.keep && shape.keep <= 65536 && shape.ahead <= 4096);
-    let keep = shape.keep as u32;
-    let ahead = shape.ahead as u32;
-    let mut decoder = Decoder::open(alloc, shape.rate, shape.invert, start, keep, ahead)?;
-    let mut digest = with_room(room);
-    let answer = feed_alone(&mut decoder, octets, &mut digest);
-    Ok(Outcome { digest, answer })
+    stream: &Stream<'_>,
+    counts: &[u8],
+    wanted: &Outcome,
+) -> Result<(), Fail> {
+    for workers in counts {
+        for way in WAYS {
+            assert!(rt; with_workers(rt, alloc, stream, *workers, way)? == *wanted);
+        }
+    }
+    Ok(())
+}
+
+fn alone(rt: &impl Abort, alloc: Global, stream: &Stream<'_>) -> Result<Outcome, Fail> {
+    let WindowShape {
+        rate,
+        invert,
+        keep,
+        ahead,
+    } = stream.shape;
+    assert!(rt; 64 <= keep && keep <= 65536 && ahead <= 4096);
+    let mut decoder = Decoder::open(alloc, rate, invert, stream.start, keep as u32, ahead as u32)?;
+    let mut digest = with_room(stream.room);
+    let answer = feed_alone(&mut decoder, stream.octets, &mut digest);
+    Ok(Outcome {
+        digest,
+        answer,
+        slips: 0,
+    })
 }
 
 // The octets of some windows and half a window more, without the last one.
@@ -274,15 +311,13 @@ fn check_stream<R: Abort + Threads + Sync>(
     start: Start,
 ) -> Result<(), Fail> {
     let octets = octets_for(rt, alloc, kind, shape)?;
-    let wanted = alone(rt, alloc, shape, start, &octets, u64::MAX)?;
+    let stream = Stream {
+        start,
+        ..stream_of(shape, &octets)
+    };
+    let wanted = alone(rt, alloc, &stream)?;
     assert!(rt; wanted.digest.blocks == WINDOWS as u64 + 1);
-    for workers in [1, 2, 7] {
-        for way in WAYS {
-            let outcome = with_workers(rt, alloc, shape, start, workers, &octets, way, u64::MAX)?;
-            assert!(rt; outcome == wanted);
-        }
-    }
-    Ok(())
+    check_workers(rt, alloc, &stream, &[1, 2, 7], &wanted)
 }
 
 const SHARED: WindowShape = WindowShape {
@@ -296,77 +331,89 @@ const SHARED: WindowShape = WindowShape {
 fn more_workers_than_windows(rt: HostRuntime) -> Result<(), Fail> {
     let alloc = rt.alloc();
     let octets = octets_for(&rt, alloc, Kind::Ties, SHARED)?;
-    let wanted = alone(&rt, alloc, SHARED, Start::Any, &octets, u64::MAX)?;
-    let outcome = with_workers(
-        &rt,
-        alloc,
-        SHARED,
-        Start::Any,
-        64,
-        &octets,
-        Way::Gathered,
-        u64::MAX,
-    )?;
-    assert!(rt; outcome == wanted);
+    let stream = Stream {
+        start: Start::Any,
+        ..stream_of(SHARED, &octets)
+    };
+    let wanted = alone(&rt, alloc, &stream)?;
+    assert!(rt; with_workers(&rt, alloc, &stream, 64, Way::Gathered)? == wanted);
     Ok(())
 }
 
 #[test]
 fn a_taker_fails_at_each_block(rt: HostRuntime) -> Result<(), Fail> {
-    let alloc = rt.alloc();
-    let octets = octets_for(&rt, alloc, Kind::Noisy, SHARED)?;
+    let octets = octets_for(&rt, rt.alloc(), Kind::Noisy, SHARED)?;
     for room in 0..=WINDOWS as u64 {
-        let wanted = alone(&rt, alloc, SHARED, Start::Zero, &octets, room)?;
-        assert!(rt; wanted.digest.blocks == room);
-        assert!(rt; wanted.answer == Err(FeedError::Taker));
-        for way in WAYS {
-            let outcome = with_workers(&rt, alloc, SHARED, Start::Zero, 3, &octets, way, room)?;
-            assert!(rt; outcome == wanted);
-        }
+        let stream = Stream {
+            room,
+            ..stream_of(SHARED, &octets)
+        };
+        check_failing(&rt, rt.alloc(), &stream)?;
     }
     Ok(())
 }
 
+fn check_failing<R: Abort + Threads + Sync>(
+    rt: &R,
+    alloc: Global,
+    stream: &Stream<'_>,
+) -> Result<(), Fail> {
+    let wanted = alone(rt, alloc, stream)?;
+    assert!(rt; wanted.digest.blocks == stream.room);
+    assert!(rt; wanted.answer == Err(FeedError::Taker));
+    check_workers(rt, alloc, stream, &[3], &wanted)
+}
+
 #[test]
 fn gathered_octets_wait(rt: HostRuntime) -> Result<(), Fail> {
-    let alloc = rt.alloc();
-    let octets = octets_for(&rt, alloc, Kind::Clean, SHARED)?;
-    let mut queue = opened(&rt, alloc, SHARED, Start::Zero, 2, false)?;
+    let octets = octets_for(&rt, rt.alloc(), Kind::Clean, SHARED)?;
     assert!(rt; (octets.len() as u64) < STREAM_BOUND);
-    let mut digest = empty();
+    let mut queue = opened(&rt, rt.alloc(), &stream_of(SHARED, &octets), 2)?;
     assert!(rt; queue.fill(false, &octets) == octets.len());
+    check_gathered(&rt, &mut queue)
+}
+
+fn check_gathered(rt: &impl Abort, queue: &mut WindowQueue) -> Result<(), Fail>
+    requires given { queue.old.find ≡ false }
+    requires few { reached queue.old < stream_bound }
+{
+    let mut digest = empty();
     assert!(rt; queue.count_closed() == WINDOWS);
     assert!(rt; queue.may_wait(4096) && !queue.may_wait(4095));
-    hand_closed(&Alone, &mut queue, &mut digest)?;
-    assert!(rt; digest.blocks == WINDOWS as u64);
-    assert!(rt; queue.count_closed() == 0);
-    put_last(&Alone, &mut queue, &mut digest)?;
+    hand_closed(&Alone, queue, &mut digest)?;
+    assert!(rt; (digest.blocks, queue.count_closed()) == (WINDOWS as u64, 0));
+    put_last(&Alone, queue, &mut digest)?;
     assert!(rt; digest.blocks == WINDOWS as u64 + 1);
     Ok(())
 }
+
+const NARROW: WindowShape = WindowShape {
+    rate: Rate::R12,
+    invert: false,
+    keep: 64,
+    ahead: 0,
+};
 
 // There is room for the octets that close a window for each worker, though too few steps stand ahead to share them out.
 #[test]
 fn room_ends_with_the_run(rt: HostRuntime) -> Result<(), Fail> {
     let alloc = rt.alloc();
-    let shape = WindowShape {
-        rate: Rate::R12,
-        invert: false,
-        keep: 64,
-        ahead: 0,
-    };
-    let mut queue = opened(&rt, alloc, shape, Start::Zero, 1, false)?;
-    let mut digest = empty();
-    assert!(rt; queue.fill(false, &[127; 129]) == 129);
-    assert!(rt; queue.count_closed() == 0);
-    assert!(rt; queue.fill(false, &[127; 2]) == 1);
-    assert!(rt; queue.fill(false, &[127]) == 0);
+    check_narrow(&rt, &mut opened(&rt, alloc, &stream_of(NARROW, &[]), 1)?)?;
+    let mut many = opened(&rt, alloc, &stream_of(NARROW, &[]), 7)?;
+    assert!(rt; (many.fill(false, &[127; 899]), many.count_closed()) == (898, 7));
+    Ok(())
+}
+
+fn check_narrow(rt: &impl Abort, queue: &mut WindowQueue) -> Result<(), Fail>
+    requires going { queue.old.has_ended ≡ false }
+    requires few { reached queue.old ≡ 0 }
+{
+    assert!(rt; (queue.fill(false, &[127; 129]), queue.count_closed()) == (129, 0));
+    assert!(rt; (queue.fill(false, &[127; 2]), queue.fill(false, &[127])) == (1, 0));
     assert!(rt; queue.count_closed() == 1);
-    put(&Alone, &mut queue, &[127; 128], &mut digest)?;
+    let mut digest = empty();
+    put(&Alone, queue, &[127; 128], &mut digest)?;
     assert!(rt; digest.blocks == 2);
-    let mut many = opened(&rt, alloc, shape, Start::Zero, 7, false)?;
-    assert!(rt; many.fill(false, &[127; 899]) == 898);
-    assert!(rt; many.count_closed() == 7);
     Ok(())
 }
 
@@ -374,40 +421,68 @@ fn room_ends_with_the_run(rt: HostRuntime) -> Result<(), Fail> {
 // one each where few steps stand ahead.
 #[test]
 fn room_is_for_what_may_wait(rt: HostRuntime) -> Result<(), Fail> {
-    let alloc = rt.alloc();
-    for (keep, ahead, windows) in [(64, 64, 626), (64, 4096, 504), (64, 63, 2), (1024, 64, 40)] {
-        let shape = WindowShape {
-            rate: Rate::R12,
-            invert: false,
-            keep,
-            ahead,
-        };
-        let mut queue = opened(&rt, alloc, shape, Start::Zero, 2, false)?;
-        let room = 2 * (windows * keep + ahead + 1);
-        let octets = vec![in alloc; 127; room + 1]?;
-        assert!(rt; (octets.len() as u64) < STREAM_BOUND);
-        assert!(rt; queue.fill(false, &octets) == room);
-        assert!(rt; queue.count_closed() == windows);
-    }
+    check_room(&rt, rt.alloc(), 64, 64, 626)?;
+    check_room(&rt, rt.alloc(), 64, 4096, 504)?;
+    check_room(&rt, rt.alloc(), 64, 63, 2)?;
+    check_room(&rt, rt.alloc(), 1024, 64, 40)
+}
+
+fn check_room(
+    rt: &impl Abort,
+    alloc: Global,
+    keep: usize,
+    ahead: usize,
+    windows: usize,
+) -> Result<(), Fail> {
+    let shape = WindowShape {
+        keep,
+        ahead,
+        ..NARROW
+    };
+    assert!(rt; keep <= 1024 && ahead <= 4096 && windows <= 1024);
+    let room = 2 * (windows * keep + ahead + 1);
+    let octets = vec![in alloc; 127; room + 1]?;
+    check_filling(rt, alloc, &stream_of(shape, &octets), room, windows)
+}
+
+// Two workers have room for `room` octets, which close `windows` windows.
+fn check_filling(
+    rt: &impl Abort,
+    alloc: Global,
+    stream: &Stream<'_>,
+    room: usize,
+    windows: usize,
+) -> Result<(), Fail> {
+    let mut queue = opened(rt, alloc, stream, 2)?;
+    assert!(rt; (stream.octets.len() as u64) < STREAM_BOUND);
+    assert!(rt; (queue.fill(false, stream.octets), queue.count_closed()) == (room, windows));
     Ok(())
 }
 
 // Signed octets are those of the unsigned form.
 #[test]
 fn signed_octets(rt: HostRuntime) -> Result<(), Fail> {
-    let alloc = rt.alloc();
-    let mut octets = octets_for(&rt, alloc, Kind::Noisy, SHARED)?;
-    let wanted = alone(&rt, alloc, SHARED, Start::Zero, &octets, u64::MAX)?;
-    for k in 0..octets.len() {
-        octets[k] ^= 0x80;
+    let mut octets = octets_for(&rt, rt.alloc(), Kind::Noisy, SHARED)?;
+    let wanted = alone(&rt, rt.alloc(), &stream_of(SHARED, &octets))?;
+    for octet in octets.as_mut_slice().iter_mut() {
+        *octet ^= 0x80;
     }
-    let mut queue = opened(&rt, alloc, SHARED, Start::Zero, 2, false)?;
+    check_signed(&rt, rt.alloc(), &octets, &wanted.digest)
+}
+
+fn check_signed(
+    rt: &impl Abort,
+    alloc: Global,
+    octets: &[u8],
+    wanted: &Digest,
+) -> Result<(), Fail> {
+    let mut queue = opened(rt, alloc, &stream_of(SHARED, octets), 2)?;
     assert!(rt; (octets.len() as u64) < STREAM_BOUND);
+    assert!(rt; queue.fill(true, octets) == octets.len());
     let mut digest = empty();
-    assert!(rt; queue.fill(true, &octets) == octets.len());
     hand_closed(&Alone, &mut queue, &mut digest)?;
     put_last(&Alone, &mut queue, &mut digest)?;
-    assert!(rt; digest == wanted.digest);
+    assert!(rt; digest == *wanted);
     Ok(())
 }
 
@@ -418,65 +493,83 @@ const UPRIGHT: WindowShape = WindowShape {
     ahead: 64,
 };
 
-// What comes of a stream whose phase is followed, and how often octets were dropped.
-fn followed<R: Abort + Threads + Sync>(
+// A stream whose phase is followed.
+fn followed(shape: WindowShape, octets: &[u8]) -> Stream<'_> {
+    Stream {
+        follow: true,
+        ..stream_of(shape, octets)
+    }
+}
+
+// A stream whose phase is followed, by one worker: as many windows, before as many of which octets are dropped.
+fn check_followed<R: Abort + Threads + Sync>(
     rt: &R,
     alloc: Global,
-    shape: WindowShape,
-    workers: u8,
-    octets: &[u8],
-    way: Way,
-    room: u64,
-) -> Result<(Outcome, u64), Fail> {
-    let mut queue = opened(rt, alloc, shape, Start::Zero, workers, true)?;
-    assert!(rt; (octets.len() as u64) < STREAM_BOUND);
-    let mut digest = with_room(room);
-    let answer = put_all(rt, &mut queue, octets, way, &mut digest);
-    Ok((Outcome { digest, answer }, queue.slips()))
+    stream: &Stream<'_>,
+    blocks: u64,
+    slips: u64,
+) -> Result<Outcome, Fail> {
+    let outcome = with_workers(rt, alloc, stream, 1, Way::Once)?;
+    assert!(rt; (outcome.digest.blocks, outcome.slips) == (blocks, slips));
+    Ok(outcome)
 }
 
 // Undisturbed octets drop none. Where a symbol is lost in the second window, one is dropped before the third, the other
 // symbol of its step.
 #[test]
 fn followed_streams_drop_octets(rt: HostRuntime) -> Result<(), Fail> {
-    let alloc = rt.alloc();
-    let mut octets = octets_for(&rt, alloc, Kind::Clean, UPRIGHT)?;
-    let whole = alone(&rt, alloc, UPRIGHT, Start::Zero, &octets, u64::MAX)?;
-    let (outcome, slips) = followed(&rt, alloc, UPRIGHT, 1, &octets, Way::Once, u64::MAX)?;
-    assert!(rt; outcome == whole);
-    assert!(rt; slips == 0);
+    let mut octets = octets_for(&rt, rt.alloc(), Kind::Clean, UPRIGHT)?;
+    check_undisturbed(&rt, rt.alloc(), &followed(UPRIGHT, &octets))?;
     assert!(rt; octets.len() > 3000);
     octets.remove(3000);
-    let (wanted, slips) = followed(&rt, alloc, UPRIGHT, 1, &octets, Way::Once, u64::MAX)?;
-    assert!(rt; wanted.digest.blocks == WINDOWS as u64 + 1);
-    assert!(rt; slips == 1);
-    for workers in [1, 2, 7] {
-        for way in WAYS {
-            let (outcome, slips) = followed(&rt, alloc, UPRIGHT, workers, &octets, way, u64::MAX)?;
-            assert!(rt; outcome == wanted);
-            assert!(rt; slips == 1);
-        }
-    }
+    check_lost(&rt, rt.alloc(), &followed(UPRIGHT, &octets))
+}
+
+fn check_undisturbed<R: Abort + Threads + Sync>(
+    rt: &R,
+    alloc: Global,
+    stream: &Stream<'_>,
+) -> Result<(), Fail> {
+    let whole = alone(rt, alloc, stream)?;
+    assert!(rt; with_workers(rt, alloc, stream, 1, Way::Once)? == whole);
     Ok(())
+}
+
+fn check_lost<R: Abort + Threads + Sync>(
+    rt: &R,
+    alloc: Global,
+    stream: &Stream<'_>,
+) -> Result<(), Fail> {
+    let wanted = check_followed(rt, alloc, stream, WINDOWS as u64 + 1, 1)?;
+    check_workers(rt, alloc, stream, &[1, 2, 7], &wanted)
 }
 
 // Before a lost symbol stand enough windows to be shared out; and the taker fails at one of them.
 #[test]
 fn followed_streams_are_shared_out(rt: HostRuntime) -> Result<(), Fail> {
-    let alloc = rt.alloc();
-    let mut octets = soft_octets(alloc, Rate::R12, Kind::Clean, 68 * 1024 + 500)?;
+    let mut octets = soft_octets(rt.alloc(), Rate::R12, Kind::Clean, 68 * 1024 + 500)?;
     assert!(rt; octets.len() > 135_000);
     octets.remove(135_000);
-    let (wanted, slips) = followed(&rt, alloc, UPRIGHT, 1, &octets, Way::Once, u64::MAX)?;
-    assert!(rt; wanted.digest.blocks == 69);
-    assert!(rt; slips == 1);
-    let (outcome, slips) = followed(&rt, alloc, UPRIGHT, 3, &octets, Way::Gathered, u64::MAX)?;
-    assert!(rt; outcome == wanted);
-    assert!(rt; slips == 1);
-    let (outcome, slips) = followed(&rt, alloc, UPRIGHT, 2, &octets, Way::Once, 40)?;
-    assert!(rt; outcome.digest.blocks == 40);
-    assert!(rt; outcome.answer == Err(FeedError::Taker));
-    assert!(rt; slips == 0);
+    check_shared_out(&rt, rt.alloc(), &followed(UPRIGHT, &octets))
+}
+
+fn check_shared_out<R: Abort + Threads + Sync>(
+    rt: &R,
+    alloc: Global,
+    stream: &Stream<'_>,
+) -> Result<(), Fail> {
+    let wanted = check_followed(rt, alloc, stream, 69, 1)?;
+    assert!(rt; with_workers(rt, alloc, stream, 3, Way::Gathered)? == wanted);
+    let few = Stream {
+        room: 40,
+        ..*stream
+    };
+    let Outcome {
+        digest,
+        answer,
+        slips,
+    } = with_workers(rt, alloc, &few, 2, Way::Once)?;
+    assert!(rt; (digest.blocks, answer, slips) == (40, Err(FeedError::Taker), 0));
     Ok(())
 }
 
@@ -505,37 +598,51 @@ fn octets_with_drops(rt: &impl Abort, alloc: Global) -> Result<Vec<u8>, Fail> {
     Ok(octets)
 }
 
-// How many windows each run has.
-fn run_lengths<R: Abort + Threads + Sync>(
+// The runs have as many windows as stand between drops.
+fn check_runs<R: Abort + Threads + Sync>(
     rt: &R,
     alloc: Global,
+    stream: &Stream<'_>,
     workers: u8,
-    octets: &[u8],
-) -> Result<Vec<usize>, Fail> {
-    let mut queue = opened(rt, alloc, SHORT, Start::Zero, workers, true)?;
-    assert!(rt; (octets.len() as u64) < STREAM_BOUND);
-    assert!(rt; queue.fill(false, octets) == octets.len());
+) -> Result<(), Fail> {
+    let mut queue = opened(rt, alloc, stream, workers)?;
+    assert!(rt; (stream.octets.len() as u64) < STREAM_BOUND);
+    assert!(rt; queue.fill(false, stream.octets) == stream.octets.len());
+    assert!(rt; run_lengths(rt, &mut queue) == [1, 95, 96, 127, 128, 3]);
+    Ok(())
+}
+
+// How many windows each run has, of six.
+fn run_lengths<R: Abort + Threads + Sync>(rt: &R, queue: &mut WindowQueue) -> [usize; 6]
+    requires few { reached queue.old < stream_bound }
+{
     let threads = Threaded { rt };
-    let mut lengths = Vec::new(alloc);
+    let mut lengths = [0; 6];
+    let mut count = 0usize;
     while queue.decode(&threads) > 0 {
-        lengths.push(queue.count())?;
+        assert!(rt; count < 6);
+        lengths[count] = queue.count();
+        count += 1;
     }
-    Ok(lengths)
+    assert!(rt; count == 6);
+    lengths
 }
 
 #[test]
 fn drops_at_the_ends_of_parts_and_rounds(rt: HostRuntime) -> Result<(), Fail> {
-    let alloc = rt.alloc();
-    let octets = octets_with_drops(&rt, alloc)?;
-    let (wanted, slips) = followed(&rt, alloc, SHORT, 1, &octets, Way::Once, u64::MAX)?;
-    assert!(rt; wanted.digest.blocks == 451);
-    assert!(rt; slips == DROPS.len() as u64);
+    let octets = octets_with_drops(&rt, rt.alloc())?;
+    check_drops(&rt, rt.alloc(), &followed(SHORT, &octets))
+}
+
+fn check_drops<R: Abort + Threads + Sync>(
+    rt: &R,
+    alloc: Global,
+    stream: &Stream<'_>,
+) -> Result<(), Fail> {
+    let wanted = check_followed(rt, alloc, stream, 451, DROPS.len() as u64)?;
     for workers in [2, 3, 7, 64] {
-        let (outcome, slips) = followed(&rt, alloc, SHORT, workers, &octets, Way::Once, u64::MAX)?;
-        assert!(rt; outcome == wanted);
-        assert!(rt; slips == DROPS.len() as u64);
-        let lengths = run_lengths(&rt, alloc, workers, &octets)?;
-        assert!(rt; lengths.as_slice() == [1, 95, 96, 127, 128, 3].as_slice());
+        assert!(rt; with_workers(rt, alloc, stream, workers, Way::Once)? == wanted);
+        check_runs(rt, alloc, stream, workers)?;
     }
     Ok(())
 }

@@ -8,7 +8,7 @@ use tm_inner::{InnerDecoder, Window, WindowWatch};
 use tm_viterbi::{Block, BlockTaker};
 
 // A block that was handed over, with the first of its bits.
-#[derive(Clone, Copy, Debug, PartialEq, Eq)]
+#[derive(Clone, Copy, PartialEq, Eq)]
 pub(super) struct Kept {
     pub(super) start: u8,
     pub(super) steps: u32,
