@@ -1,5 +1,5 @@
 // Values of the options, accepted and refused.
-use crate::values::{changed, numbers_of};
+use crate::values::{changed, check_row, numbers_of};
 use std::alloc::{AllocError, Global};
 use std::process::Abort;
 use std::test::Fail;
@@ -49,17 +49,20 @@ verify=8 rescan=2|verify\n\
 rescan=2 bad=2|rescan\n\
 bad=2|bad\n";
 
+// The reason why values are refused.
+fn reason_of(alloc: Global, raw: &Raw) -> Result<String, AllocError> {
+    match Config::check(raw) {
+        Ok(_) => "none".to_string(alloc),
+        Err(error) => format!(in alloc; "{error}"),
+    }
+}
+
 fn check_refused(rt: &impl Abort, alloc: Global) -> Result<(), AllocError> {
     for row in REFUSED.lines() {
         let (changes, wanted) = row.split_once('|').expect(rt, "a row");
         let raw = changed(plain(), changes).expect(rt, "values");
-        match Config::check(&raw) {
-            Ok(_) => assert!(rt; false, "accepted: {row}"),
-            Err(error) => {
-                let text = format!(in alloc; "{error}")?;
-                assert!(rt; text.as_str() == wanted, "at {row}");
-            }
-        }
+        let reason = reason_of(alloc, &raw)?;
+        check_row(rt, reason.as_str() == wanted, row);
     }
     Ok(())
 }
@@ -74,19 +77,17 @@ fn refuses_the_first_value_out_of_range(rt: HostRuntime) -> Result<(), Fail> {
 #[test]
 fn takes_each_inner_code(rt: HostRuntime) {
     for inner in 0..=100 {
-        let raw = Raw { inner, ..plain() };
-        let is_listed = [0, 12, 23, 34, 56, 78].contains(&inner);
-        match Config::check(&raw) {
-            Ok(config) => {
-                assert!(rt; is_listed, "accepted: {inner}");
-                assert!(rt; config.inner() == inner);
-            }
-            Err(error) => {
-                assert!(rt; !is_listed, "refused: {inner}");
-                assert!(rt; error == ConfigError::Inner);
-            }
-        }
+        let wanted = if [0, 12, 23, 34, 56, 78].contains(&inner) {
+            Ok(inner)
+        } else {
+            Err(ConfigError::Inner)
+        };
+        assert!(rt; inner_of(&Raw { inner, ..plain() }) == wanted);
     }
+}
+
+fn inner_of(raw: &Raw) -> Result<u64, ConfigError> {
+    Ok(Config::check(raw)?.inner())
 }
 
 // In each row values that differ from the plain ones; after them length, word length and repair as they are then.
@@ -99,8 +100,9 @@ code=16 depth=5 length=5|5 33 16\n\
 code=0 depth=1|2040 2040 0\n\
 code=0 depth=1 length=2 repair=0|2 2 0\n";
 
-fn resolved(config: &Config) -> [u64; 3] {
-    [config.length(), config.word_length(), config.repair()]
+fn resolved(raw: &Raw) -> Result<[u64; 3], ConfigError> {
+    let config = Config::check(raw)?;
+    Ok([config.length(), config.word_length(), config.repair()])
 }
 
 fn check_resolved(rt: &impl Abort) {
@@ -108,10 +110,7 @@ fn check_resolved(rt: &impl Abort) {
         let (changes, wanted) = row.split_once('|').expect(rt, "a row");
         let raw = changed(plain(), changes).expect(rt, "values");
         let numbers = numbers_of(wanted).expect(rt, "numbers");
-        match Config::check(&raw) {
-            Ok(config) => assert!(rt; resolved(&config) == numbers, "at {row}"),
-            Err(error) => assert!(rt; false, "{error} at {row}"),
-        }
+        check_row(rt, resolved(&raw) == Ok(numbers), row);
     }
 }
 
@@ -149,10 +148,7 @@ fn answers_each_value(rt: HostRuntime) {
         rescan: 1,
         bad: 1,
     };
-    match Config::check(&raw) {
-        Ok(config) => check_values(&rt, &config),
-        Err(error) => assert!(rt; false, "{error}"),
-    }
+    check_values(&rt, &Config::check(&raw).expect(&rt, "a configuration"));
 }
 
 fn check_values(rt: &impl Abort, config: &Config) {

@@ -1,5 +1,5 @@
 // The forms of the lines, what the takers write after one another, and sinks that fail.
-use std::alloc::{AllocError, Global};
+use std::alloc::Global;
 use std::process::Abort;
 use std::test::Fail;
 use tm_base::{Failed, MemSink};
@@ -175,59 +175,113 @@ fn sink(rt: &impl Abort, alloc: Global, room: usize) -> MemSink {
     MemSink::new(alloc, room, Vec::new(alloc)).expect(rt, "memory")
 }
 
-// The lines, one after another.
-fn lines_of(alloc: Global, rows: &[Row]) -> Result<Vec<u8>, AllocError> {
-    let mut text = Vec::new(alloc);
+// A sink took the lines of these rows, one after another, and then a last one.
+fn check_lines(rt: &impl Abort, sink: &MemSink, rows: &[Row], last: &str) {
+    let mut rest = sink.octets();
     for row in rows {
-        text.extend_from_slice(row.line.as_bytes())?;
+        rest = after_line(rt, rest, row.line.as_bytes());
     }
-    Ok(text)
+    assert!(rt; rest == last.as_bytes());
+}
+
+// What follows a line.
+fn after_line<'a>(rt: &impl Abort, octets: &'a [u8], line: &[u8]) -> &'a [u8] {
+    let (start, rest) = octets.split_at(line.len().min(octets.len()));
+    assert!(rt; start == line);
+    rest
+}
+
+// Octets are those with which the lines of these rows begin.
+fn check_begin(rt: &impl Abort, octets: &[u8], rows: &[Row]) {
+    let mut rest = octets;
+    for row in rows {
+        let line = row.line.as_bytes();
+        let (start, after) = rest.split_at(line.len().min(rest.len()));
+        assert!(rt; line.starts_with(start));
+        rest = after;
+    }
+    assert!(rt; rest.is_empty());
+}
+
+// A sink took just these octets, in `calls` pieces.
+fn check_taken(rt: &impl Abort, sink: &MemSink, calls: u64, octets: &[u8]) {
+    assert!(rt; sink.calls() == calls);
+    assert!(rt; sink.octets() == octets);
+}
+
+// The calls that write lines, of which the tests below know nothing.
+fn put_frames(out: &mut MemSink, numbers: [u64; 4]) -> Result<(), Failed> {
+    frames_line(out, numbers[0], numbers[1], numbers[2], numbers[3])
+}
+
+fn put_block(out: &mut MemSink, tally: Tally, block: &Block<'_>) -> Result<(), Failed> {
+    block_line(out, tally, block)
+}
+
+fn put_blocks(out: &mut MemSink, tally: Tally, leftover: u8) -> Result<(), Failed> {
+    blocks_line(out, tally.blocks, tally.bits, leftover)
+}
+
+fn put_phase(out: &mut MemSink, skip: u8, cost: u64) -> Result<(), Failed> {
+    phase_text(skip, cost).put(out)
 }
 
 #[test]
 fn writes_the_line_of_an_item(rt: HostRuntime) -> Result<(), Fail> {
     for row in &ROWS {
         let item = item_of(&rt, row);
-        let mut out = sink(&rt, rt.alloc(), 256);
-        assert!(rt; frame_line(&mut out, row.number, &item) == Ok(()));
-        assert!(rt; out.octets() == row.line.as_bytes());
-        assert!(rt; out.calls() == 1, "a line is one piece");
-        let mut narrow = sink(&rt, rt.alloc(), 9);
-        assert!(rt; frame_line(&mut narrow, row.number, &item) == Err(Failed));
-        assert!(rt; narrow.octets().len() == 9);
-        assert!(rt; row.line.as_bytes().starts_with(narrow.octets()));
+        check_line(&rt, &mut sink(&rt, rt.alloc(), 256), row, &item);
+        check_narrow(&rt, &mut sink(&rt, rt.alloc(), 9), row, &item);
     }
     Ok(())
+}
+
+fn check_line(rt: &impl Abort, out: &mut MemSink, row: &Row<'_>, item: &Item<'_>) {
+    assert!(rt; frame_line(out, row.number, item) == Ok(()));
+    check_taken(rt, out, 1, row.line.as_bytes());
+}
+
+fn check_narrow(rt: &impl Abort, narrow: &mut MemSink, row: &Row<'_>, item: &Item<'_>) {
+    assert!(rt; frame_line(narrow, row.number, item) == Err(Failed));
+    assert!(rt; narrow.octets().len() == 9);
+    assert!(rt; row.line.as_bytes().starts_with(narrow.octets()));
 }
 
 #[test]
 fn writes_the_other_lines(rt: HostRuntime) -> Result<(), Fail> {
     let mut out = sink(&rt, rt.alloc(), 1024);
-    assert!(rt; frames_line(&mut out, 1, 0, 16, 296) == Ok(()));
-    assert!(rt; frames_line(&mut out, MOST, MOST, MOST, MOST) == Ok(()));
-    assert!(rt; block_line(&mut out, after(1, 8192), &block_of(8448, 8192, 127)) == Ok(()));
-    assert!(rt;
-        block_line(
-            &mut out,
-            after(MOST, MOST),
-            &block_of(4_294_967_295, 4_294_967_295, MOST)
-        ) == Ok(())
-    );
-    assert!(rt; blocks_line(&mut out, 2, 8449, 1) == Ok(()));
-    assert!(rt; blocks_line(&mut out, MOST, MOST, 255) == Ok(()));
-    assert!(rt; phase_text(1, 0).put(&mut out) == Ok(()));
-    assert!(rt; phase_text(255, MOST).put(&mut out) == Ok(()));
-    assert!(rt; out.calls() == 8, "a line is one piece");
+    check_least(&rt, &mut out);
+    check_most(&rt, &mut out);
     let text = "frames 1 bad 0 fixed 16 bits 296\n\
-        frames 18446744073709551615 bad 18446744073709551615 fixed 18446744073709551615 bits 18446744073709551615\n\
         block 1 steps 8448 kept 8192 metric 127\n\
-        block 18446744073709551615 steps 4294967295 kept 4294967295 metric 18446744073709551615\n\
         blocks 2 bits 8449 leftover 1\n\
-        blocks 18446744073709551615 bits 18446744073709551615 leftover 255\n\
         phase 1 cost 0\n\
+        frames 18446744073709551615 bad 18446744073709551615 fixed 18446744073709551615 bits 18446744073709551615\n\
+        block 18446744073709551615 steps 4294967295 kept 4294967295 metric 18446744073709551615\n\
+        blocks 18446744073709551615 bits 18446744073709551615 leftover 255\n\
         phase 255 cost 18446744073709551615\n";
-    assert!(rt; out.octets() == text.as_bytes());
+    check_taken(&rt, &out, 8, text.as_bytes());
     Ok(())
+}
+
+fn check_least(rt: &impl Abort, out: &mut MemSink) {
+    let answers = [
+        put_frames(out, [1, 0, 16, 296]),
+        put_block(out, after(1, 8192), &block_of(8448, 8192, 127)),
+        put_blocks(out, after(2, 8449), 1),
+        put_phase(out, 1, 0),
+    ];
+    assert!(rt; answers == [Ok(()); 4]);
+}
+
+fn check_most(rt: &impl Abort, out: &mut MemSink) {
+    let answers = [
+        put_frames(out, [MOST; 4]),
+        put_block(out, after(MOST, MOST), &block_of(u32::MAX, u32::MAX, MOST)),
+        put_blocks(out, after(MOST, MOST), 255),
+        put_phase(out, 255, MOST),
+    ];
+    assert!(rt; answers == [Ok(()); 4]);
 }
 
 // Octets that are dropped before a window are reported in a line before its own, and how often in one before the last.
@@ -236,17 +290,17 @@ fn writes_where_octets_were_dropped(rt: HostRuntime) -> Result<(), Fail> {
     let mut out = sink(&rt, rt.alloc(), 1024);
     let mut block = block_of(8448, 8192, 127);
     block.dropped = 7;
-    assert!(rt; block_line(&mut out, after(1, 8192), &block) == Ok(()));
-    assert!(rt; block_line(&mut out, after(0, 0), &block_of(300, 64, 0)) == Ok(()));
+    let first = put_block(&mut out, after(1, 8192), &block);
+    let second = put_block(&mut out, after(0, 0), &block_of(300, 64, 0));
     block.dropped = 1;
-    assert!(rt; block_line(&mut out, after(1, 64), &block) == Ok(()));
-    assert!(rt; out.calls() == 3, "both lines are one piece");
+    let third = put_block(&mut out, after(1, 64), &block);
+    assert!(rt; [first, second, third] == [Ok(()); 3]);
     let text = "slip 7 at 8192\n\
         block 1 steps 8448 kept 8192 metric 127\n\
         block 0 steps 300 kept 64 metric 0\n\
         slip 1 at 64\n\
         block 1 steps 8448 kept 8192 metric 127\n";
-    assert!(rt; out.octets() == text.as_bytes());
+    check_taken(&rt, &out, 3, text.as_bytes());
     Ok(())
 }
 
@@ -254,9 +308,22 @@ fn writes_where_octets_were_dropped(rt: HostRuntime) -> Result<(), Fail> {
 fn reports_how_often_octets_were_dropped(rt: HostRuntime) -> Result<(), Fail> {
     let mut out = sink(&rt, rt.alloc(), 1024);
     let mut notes = sink(&rt, rt.alloc(), 1024);
+    check_done(&rt, &mut out, &mut notes, 2);
+    check_done(&rt, &mut out, &mut notes, 0);
+    let text = "slips 2\n\
+        frames 1 bad 0 fixed 16 bits 296\n\
+        slips 0\n\
+        frames 1 bad 0 fixed 16 bits 296\n";
+    check_taken(&rt, &notes, 2, text.as_bytes());
+    check_taken(&rt, &out, 0, &[]);
+    Ok(())
+}
+
+// A report ends whose octets were dropped before `slips` windows.
+fn check_done(rt: &impl Abort, out: &mut MemSink, notes: &mut MemSink, slips: u64) {
     let mut writer = Writer {
-        out: &mut out,
-        notes: &mut notes,
+        out,
+        notes,
         has_failed: false,
     };
     let counts = Counts {
@@ -264,40 +331,29 @@ fn reports_how_often_octets_were_dropped(rt: HostRuntime) -> Result<(), Fail> {
         bad: 0,
         fixed: 16,
     };
-    let followed = Totals {
+    let totals = Totals {
         bits: 296,
-        slips: Some(2),
+        slips: Some(slips),
     };
-    let first = end_report(&mut writer, counts, followed);
-    let none = Totals {
-        slips: Some(0),
-        ..followed
-    };
-    let second = end_report(&mut writer, counts, none);
+    let outcome = end_report(&mut writer, counts, totals);
     let Writer {
         out: _,
         notes: _,
         has_failed,
     } = writer;
-    assert!(rt; !has_failed);
-    assert!(rt; first == Outcome::Done && second == Outcome::Done);
-    assert!(rt; notes.calls() == 2, "both lines are one piece");
-    let text = "slips 2\n\
-        frames 1 bad 0 fixed 16 bits 296\n\
-        slips 0\n\
-        frames 1 bad 0 fixed 16 bits 296\n";
-    assert!(rt; notes.octets() == text.as_bytes());
-    assert!(rt; out.octets().is_empty());
-    Ok(())
+    assert!(rt; !has_failed && outcome == Outcome::Done);
 }
 
 #[test]
 fn lines_meet_a_full_sink(rt: HostRuntime) -> Result<(), Fail> {
     let mut out = sink(&rt, rt.alloc(), 3);
-    assert!(rt; frames_line(&mut out, 1, 2, 3, 4) == Err(Failed));
-    assert!(rt; block_line(&mut out, after(1, 2), &block_of(2, 2, 0)) == Err(Failed));
-    assert!(rt; blocks_line(&mut out, 1, 2, 3) == Err(Failed));
-    assert!(rt; phase_text(1, 2).put(&mut out) == Err(Failed));
+    let answers = [
+        put_frames(&mut out, [1, 2, 3, 4]),
+        put_block(&mut out, after(1, 2), &block_of(2, 2, 0)),
+        put_blocks(&mut out, after(1, 2), 3),
+        put_phase(&mut out, 1, 2),
+    ];
+    assert!(rt; answers == [Err(Failed); 4]);
     assert!(rt; out.octets() == "fra".as_bytes());
     Ok(())
 }
@@ -318,12 +374,24 @@ fn report_rows<W: TextTaker>(rt: &impl Abort, rows: &[Row], texts: &mut W) -> Co
 fn decodes_frames_and_their_report(rt: HostRuntime) -> Result<(), Fail> {
     let mut out = sink(&rt, rt.alloc(), 1024);
     let mut notes = sink(&rt, rt.alloc(), 1024);
+    report_eight(&rt, &mut out, &mut notes);
+    assert!(rt; out.octets() == [0x7B, 0x7C, 0x7D, 0x7E, 1, 2, 3, 4].as_slice());
+    check_lines(
+        &rt,
+        &notes,
+        &ROWS[..8],
+        "frames 5 bad 3 fixed 62 bits 1000296\n",
+    );
+    Ok(())
+}
+
+fn report_eight(rt: &impl Abort, out: &mut MemSink, notes: &mut MemSink) {
     let mut writer = Writer {
-        out: &mut out,
-        notes: &mut notes,
+        out,
+        notes,
         has_failed: false,
     };
-    let counts = report_rows(&rt, &ROWS[..8], &mut writer);
+    let counts = report_rows(rt, &ROWS[..8], &mut writer);
     let outcome = end_report(&mut writer, counts, plain(1_000_296));
     let Writer {
         out: _,
@@ -337,11 +405,6 @@ fn decodes_frames_and_their_report(rt: HostRuntime) -> Result<(), Fail> {
     };
     assert!(rt; counts == wanted);
     assert!(rt; outcome == Outcome::Bad && !has_failed);
-    assert!(rt; out.octets() == [0x7B, 0x7C, 0x7D, 0x7E, 1, 2, 3, 4].as_slice());
-    let mut text = lines_of(rt.alloc(), &ROWS[..8])?;
-    text.extend_from_slice("frames 5 bad 3 fixed 62 bits 1000296\n".as_bytes())?;
-    assert!(rt; notes.octets() == text.as_slice());
-    Ok(())
 }
 
 #[test]
@@ -395,8 +458,7 @@ fn out_fails_in_a_frame(rt: HostRuntime) -> Result<(), Fail> {
     let mut notes = sink(&rt, rt.alloc(), 1024);
     assert!(rt; write_three(&rt, &mut out, &mut notes));
     assert!(rt; out.octets() == [0x7B, 0x7C].as_slice());
-    let text = lines_of(rt.alloc(), &ROWS[..2])?;
-    assert!(rt; notes.octets() == text.as_slice());
+    check_lines(&rt, &notes, &ROWS[..2], "");
     Ok(())
 }
 
@@ -406,8 +468,7 @@ fn notes_fail_in_a_line(rt: HostRuntime) -> Result<(), Fail> {
     let mut notes = sink(&rt, rt.alloc(), 70);
     assert!(rt; write_three(&rt, &mut out, &mut notes));
     assert!(rt; out.octets() == [0x7B, 0x7C, 0x7D].as_slice());
-    let text = lines_of(rt.alloc(), &ROWS[..3])?;
     assert!(rt; notes.octets().len() == 70);
-    assert!(rt; text.starts_with(notes.octets()));
+    check_begin(&rt, notes.octets(), &ROWS[..3]);
     Ok(())
 }

@@ -1,56 +1,84 @@
 // Each public function of tm_base once, the faults of the fakes, and what the adapters make of uneven streams.
 ghost use Rattle.std.specs.Prelude.{IfOk, ◌≤◌};
 
+use std::alloc::{AllocError, Global};
 use std::io::{self, ErrorKind, Read, Write};
+use std::process::Abort;
 use std::test::Fail;
 use tm_base::{
     BitReader, Failed, MARKER, MemSink, MemSource, Sink, Source, StdSink, StdSource, SureSink,
     SureSource, marker, put_all,
 };
 
+// The next read returns just this, and leaves these octets.
+fn check_read<S: Source>(
+    rt: &impl Abort,
+    source: &mut S,
+    buf: &mut [u8],
+    answer: Result<usize, Failed>,
+    octets: &[u8],
+) {
+    assert!(rt; source.read(buf) == answer);
+    assert!(rt; *buf == *octets);
+}
+
+fn check_put<S: Sink>(rt: &impl Abort, sink: &mut S, octets: &[u8], answer: Result<(), Failed>) {
+    assert!(rt; put_all(sink, octets) == answer);
+}
+
+fn check_write(rt: &impl Abort, sink: &mut MemSink, octets: &[u8], answer: Result<usize, Failed>) {
+    assert!(rt; sink.write(octets) == answer);
+}
+
+// Reads cut after two octets, and then wherever they end, the second of which fails.
+fn cut_source(alloc: Global) -> Result<MemSource, AllocError> {
+    let content = [1, 2, 3, 4, 5, 6].to_vec(alloc)?;
+    let cuts = [2, 9, 0].to_vec(alloc)?;
+    Ok(MemSource::new(content, cuts, [1].to_vec(alloc)?))
+}
+
 #[test]
 fn source_cuts_and_fails(rt: HostRuntime) -> Result<(), Fail> {
-    let content = [1, 2, 3, 4, 5, 6].to_vec(rt.alloc())?;
-    let cuts = [2, 9, 0].to_vec(rt.alloc())?;
-    let fails = [1].to_vec(rt.alloc())?;
-    let mut source = MemSource::new(content, cuts, fails);
-    let mut buf = [0; 3];
-    assert!(rt; source.read(&mut buf) == Ok(2));
-    assert!(rt; buf == [1, 2, 0]);
-    assert!(rt; source.read(&mut buf) == Err(Failed));
-    assert!(rt; source.read(&mut buf) == Ok(1));
-    assert!(rt; buf == [3, 2, 0]);
-    assert!(rt; source.read(&mut buf) == Ok(3));
-    assert!(rt; buf == [4, 5, 6]);
-    assert!(rt; source.read(&mut buf) == Ok(0));
+    let mut source = cut_source(rt.alloc())?;
+    check_cut_reads(&rt, &mut source, &mut [0; 3]);
     assert!(rt; source.calls() == 5);
     Ok(())
+}
+
+fn check_cut_reads(rt: &impl Abort, source: &mut MemSource, buf: &mut [u8; 3]) {
+    check_read(rt, source, buf, Ok(2), &[1, 2, 0]);
+    assert!(rt; source.read(buf) == Err(Failed));
+    check_read(rt, source, buf, Ok(1), &[3, 2, 0]);
+    check_read(rt, source, buf, Ok(3), &[4, 5, 6]);
+    assert!(rt; source.read(buf) == Ok(0));
 }
 
 #[test]
 fn sink_fills_and_fails(rt: HostRuntime) -> Result<(), Fail> {
     let fails = [1].to_vec(rt.alloc())?;
     let mut sink = MemSink::new(rt.alloc(), 3, fails).expect(&rt, "memory");
-    assert!(rt; put_all(&mut sink, &[1, 2]) == Ok(()));
-    assert!(rt; put_all(&mut sink, &[3]) == Err(Failed));
-    assert!(rt; sink.write(&[3, 4]) == Ok(1));
-    assert!(rt; sink.write(&[]) == Ok(0));
-    assert!(rt; put_all(&mut sink, &[4]) == Err(Failed));
+    check_filling(&rt, &mut sink);
     assert!(rt; sink.calls() == 5);
     assert!(rt; sink.octets() == [1, 2, 3].as_slice());
     Ok(())
+}
+
+fn check_filling(rt: &impl Abort, sink: &mut MemSink) {
+    check_put(rt, sink, &[1, 2], Ok(()));
+    check_put(rt, sink, &[3], Err(Failed));
+    check_write(rt, sink, &[3, 4], Ok(1));
+    check_write(rt, sink, &[], Ok(0));
+    check_put(rt, sink, &[4], Err(Failed));
 }
 
 #[test]
 fn sure_ones_never_fail(rt: HostRuntime) -> Result<(), Fail> {
     let mut source = SureSource::new([7, 8, 9].to_vec(rt.alloc())?);
     let mut buf = [0; 2];
-    assert!(rt; source.read(&mut buf) == Ok(2));
-    assert!(rt; buf == [7, 8]);
-    assert!(rt; source.read(&mut buf) == Ok(1));
-    assert!(rt; buf == [9, 8]);
+    check_read(&rt, &mut source, &mut buf, Ok(2), &[7, 8]);
+    check_read(&rt, &mut source, &mut buf, Ok(1), &[9, 8]);
     let mut sink = SureSink::new();
-    assert!(rt; put_all(&mut sink, &[1, 2, 3]) == Ok(()));
+    check_put(&rt, &mut sink, &[1, 2, 3], Ok(()));
     assert!(rt; sink.count() == 3);
     Ok(())
 }
@@ -101,53 +129,86 @@ impl<W: Write> Write for Uneven<W> {
 fn std_source_reads_as_its_reader(rt: HostRuntime) {
     let end = (Ok(0), [0; 4]);
     let fault = (Err(Failed), [0; 4]);
-    for (most, fails, reads) in [
-        (4, 9, [(Ok(3), [7, 8, 9, 0]), end, end]),
-        (2, 9, [(Ok(2), [7, 8, 0, 0]), (Ok(1), [9, 0, 0, 0]), end]),
-        (2, 1, [(Ok(2), [7, 8, 0, 0]), fault, (Ok(1), [9, 0, 0, 0])]),
-        (0, 9, [end, end, end]),
-    ] {
-        let mut source = StdSource::new(Uneven {
-            stream: [7, 8, 9].as_slice(),
-            most,
-            fails,
-            calls: 0,
-        });
-        for (answer, octets) in reads {
-            let mut buf = [0; 4];
-            assert!(rt; source.read(&mut buf) == answer);
-            assert!(rt; buf == octets);
-        }
+    check_reads(&rt, 4, 9, &[(Ok(3), [7, 8, 9, 0]), end, end]);
+    check_reads(
+        &rt,
+        2,
+        9,
+        &[(Ok(2), [7, 8, 0, 0]), (Ok(1), [9, 0, 0, 0]), end],
+    );
+    check_reads(
+        &rt,
+        2,
+        1,
+        &[(Ok(2), [7, 8, 0, 0]), fault, (Ok(1), [9, 0, 0, 0])],
+    );
+    check_reads(&rt, 0, 9, &[end, end, end]);
+}
+
+fn check_reads(
+    rt: &impl Abort,
+    most: usize,
+    fails: u64,
+    reads: &[(Result<usize, Failed>, [u8; 4])],
+) {
+    let mut source = StdSource::new(Uneven {
+        stream: [7, 8, 9].as_slice(),
+        most,
+        fails,
+        calls: 0,
+    });
+    for (answer, octets) in reads {
+        check_read(rt, &mut source, &mut [0; 4], *answer, octets);
     }
 }
 
 // Each write is one call of the writer: it takes what that call takes, and fails where it does.
 #[test]
 fn std_sink_writes_as_its_writer(rt: HostRuntime) {
-    for (most, fails, writes, held) in [
-        (9, 9, [Ok(2), Ok(2), Ok(2)], [1, 2, 1, 2, 1, 2].as_slice()),
-        (1, 9, [Ok(1), Ok(1), Ok(1)], [1, 1, 1].as_slice()),
-        (1, 1, [Ok(1), Err(Failed), Ok(1)], [1, 1].as_slice()),
-        (0, 9, [Ok(0), Ok(0), Ok(0)], [].as_slice()),
-    ] {
-        let mut writer = Uneven {
-            stream: Vec::<u8>::new(rt.alloc()),
-            most,
-            fails,
-            calls: 0,
-        };
-        let mut sink = StdSink::new(&mut writer);
-        for answer in writes {
-            assert!(rt; sink.write(&[1, 2]) == answer);
-        }
-        assert!(rt; writer.stream.as_slice() == held);
+    let alloc = rt.alloc();
+    check_writes(
+        &rt,
+        alloc,
+        9,
+        9,
+        &[Ok(2), Ok(2), Ok(2)],
+        &[1, 2, 1, 2, 1, 2],
+    );
+    check_writes(&rt, alloc, 1, 9, &[Ok(1), Ok(1), Ok(1)], &[1, 1, 1]);
+    check_writes(&rt, alloc, 1, 1, &[Ok(1), Err(Failed), Ok(1)], &[1, 1]);
+    check_writes(&rt, alloc, 0, 9, &[Ok(0), Ok(0), Ok(0)], &[]);
+}
+
+fn check_writes(
+    rt: &impl Abort,
+    alloc: Global,
+    most: usize,
+    fails: u64,
+    writes: &[Result<usize, Failed>],
+    held: &[u8],
+) {
+    let mut writer = empty_writer(alloc, most, fails);
+    let mut sink = StdSink::new(&mut writer);
+    for answer in writes {
+        assert!(rt; sink.write(&[1, 2]) == *answer);
+    }
+    assert!(rt; writer.stream.as_slice() == held);
+}
+
+// A writer that holds nothing.
+fn empty_writer(alloc: Global, most: usize, fails: u64) -> Uneven<Vec<u8>> {
+    Uneven {
+        stream: Vec::new(alloc),
+        most,
+        fails,
+        calls: 0,
     }
 }
 
 // A piece of five octets: how many of them the writer then holds, and after how many calls.
 #[test]
 fn pieces_are_written_up_to_a_fault(rt: HostRuntime) {
-    let piece = [1, 2, 3, 4, 5];
+    let alloc = rt.alloc();
     for (most, fails, held, calls) in [
         (9, 9, 5, 1),
         (2, 9, 5, 3),
@@ -155,17 +216,15 @@ fn pieces_are_written_up_to_a_fault(rt: HostRuntime) {
         (2, 0, 0, 1),
         (0, 9, 0, 1),
     ] {
-        let mut writer = Uneven {
-            stream: Vec::<u8>::new(rt.alloc()),
-            most,
-            fails,
-            calls: 0,
-        };
-        let written = put_all(&mut StdSink::new(&mut writer), &piece);
-        assert!(rt; written.is_ok() == (held == 5));
-        assert!(rt; writer.stream.as_slice() == &piece[..held]);
-        assert!(rt; writer.calls == calls);
+        check_piece(&rt, &mut empty_writer(alloc, most, fails), held, calls);
     }
+}
+
+fn check_piece(rt: &impl Abort, writer: &mut Uneven<Vec<u8>>, held: usize, calls: u64) {
+    let written = put_all(&mut StdSink::new(&mut *writer), &[1, 2, 3, 4, 5]);
+    assert!(rt; written.is_ok() == (held == 5));
+    assert!(rt; (writer.stream.len(), writer.calls) == (held, calls));
+    assert!(rt; [1, 2, 3, 4, 5].starts_with(writer.stream.as_slice()));
 }
 
 #[test]

@@ -1,75 +1,110 @@
 // Values as the rows write them.
+use std::process::Abort;
 use tm_config::Raw;
+
+/// Fails with the row where `holds` is false.
+pub fn check_row(rt: &impl Abort, holds: bool, row: &str) {
+    assert!(rt; holds, "at {row}");
+}
 
 /// The values with changes, as `code=17 depth=6`. None where a change has no name of a value, or no number.
 pub fn changed(raw: Raw, changes: &str) -> Option<Raw> {
-    let mut raw = raw;
+    let mut numbers = numbers_in(&raw);
+    let mut options = [raw.length, raw.invert, raw.repair];
     for change in changes.split_whitespace() {
         let (name, number) = change.split_once('=')?;
-        raw = with(raw, name, parsed(number)?)?;
+        put(&mut numbers, &mut options, place_of(name)?, parsed(number)?);
     }
-    Some(raw)
+    Some(raw_of(numbers, options))
 }
 
-// The values with the one of this name replaced.
-fn with(raw: Raw, name: &str, number: u64) -> Option<Raw> {
-    let mut raw = raw;
-    match name {
-        "code" => raw.code = number,
-        "depth" => raw.depth = number,
-        "length" => raw.length = Some(number),
-        "inner" => raw.inner = number,
-        "invert" => raw.invert = Some(number),
-        "randomize" => raw.randomize = number,
-        "basis" => raw.basis = number,
-        "repair" => raw.repair = Some(number),
-        _ => return with_reception(raw, name, number),
+fn put(numbers: &mut [u64; 21], options: &mut [Option<u64>; 3], place: usize, number: u64) {
+    if place < 21 {
+        numbers[place] = number;
+    } else {
+        options[(place - 21).min(2)] = Some(number);
     }
-    Some(raw)
 }
 
-// The values with the one of this name replaced, of those that only receiving looks at.
-fn with_reception(raw: Raw, name: &str, number: u64) -> Option<Raw> {
-    let mut raw = raw;
-    match name {
-        "tolerance" => raw.tolerance = number,
-        "soft" => raw.soft = number,
-        "start" => raw.start = number,
-        "skip" => raw.skip = number,
-        "fly" => raw.fly = number,
-        "phase" => raw.phase = number,
-        "polarity" => raw.polarity = number,
-        "verify" => raw.verify = number,
-        "rescan" => raw.rescan = number,
-        "bad" => raw.bad = number,
-        _ => return with_size(raw, name, number),
+// The options that always have a number, and then those that may have none.
+static NAMES: &str =
+    "code depth inner randomize basis tolerance soft start skip workers limit fly keep ahead phase \
+polarity batch pack verify rescan bad length invert repair";
+
+fn place_of(name: &str) -> Option<usize> {
+    let mut place = 0usize;
+    for known in NAMES.split_whitespace() {
+        if known == name {
+            return Some(place);
+        }
+        place = place.wrapping_add(1);
     }
-    Some(raw)
+    None
 }
 
-// The values with the one of this name replaced, of the limit, the packing, and those that say how much is worked on
-// at a time.
-fn with_size(raw: Raw, name: &str, number: u64) -> Option<Raw> {
-    let mut raw = raw;
-    match name {
-        "workers" => raw.workers = number,
-        "limit" => raw.limit = number,
-        "keep" => raw.keep = number,
-        "ahead" => raw.ahead = number,
-        "batch" => raw.batch = number,
-        "pack" => raw.pack = number,
-        _ => return None,
+fn numbers_in(raw: &Raw) -> [u64; 21] {
+    [
+        raw.code,
+        raw.depth,
+        raw.inner,
+        raw.randomize,
+        raw.basis,
+        raw.tolerance,
+        raw.soft,
+        raw.start,
+        raw.skip,
+        raw.workers,
+        raw.limit,
+        raw.fly,
+        raw.keep,
+        raw.ahead,
+        raw.phase,
+        raw.polarity,
+        raw.batch,
+        raw.pack,
+        raw.verify,
+        raw.rescan,
+        raw.bad,
+    ]
+}
+
+fn raw_of(numbers: [u64; 21], options: [Option<u64>; 3]) -> Raw {
+    Raw {
+        code: numbers[0],
+        depth: numbers[1],
+        inner: numbers[2],
+        randomize: numbers[3],
+        basis: numbers[4],
+        tolerance: numbers[5],
+        soft: numbers[6],
+        start: numbers[7],
+        skip: numbers[8],
+        workers: numbers[9],
+        limit: numbers[10],
+        fly: numbers[11],
+        keep: numbers[12],
+        ahead: numbers[13],
+        phase: numbers[14],
+        polarity: numbers[15],
+        batch: numbers[16],
+        pack: numbers[17],
+        verify: numbers[18],
+        rescan: numbers[19],
+        bad: numbers[20],
+        length: options[0],
+        invert: options[1],
+        repair: options[2],
     }
-    Some(raw)
 }
 
 /// The three numbers of a text.
 pub fn numbers_of(text: &str) -> Option<[u64; 3]> {
     let mut fields = text.split_whitespace();
-    let first = parsed(fields.next()?)?;
-    let second = parsed(fields.next()?)?;
-    let third = parsed(fields.next()?)?;
-    Some([first, second, third])
+    let mut numbers = [0; 3];
+    for i in 0..3usize {
+        numbers[i] = parsed(fields.next()?)?;
+    }
+    Some(numbers)
 }
 
 fn parsed(number: &str) -> Option<u64> {

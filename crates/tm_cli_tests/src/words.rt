@@ -1,6 +1,6 @@
 // Command lines, accepted with their jobs and refused. A text that is no number and no word of its option becomes
 // 2^64 - 1, 18446744073709551615.
-use crate::values::{changed, numbers_of};
+use crate::values::{changed, check_row, numbers_of};
 use std::alloc::{AllocError, Global};
 use std::process::Abort;
 use std::test::Fail;
@@ -25,9 +25,18 @@ fn words_of(alloc: Global, line: &str) -> Result<Vec<String>, AllocError> {
 }
 
 // The job of a line.
-fn read(alloc: Global, line: &str) -> Result<Result<Job, WordsError>, AllocError> {
+fn job_of(alloc: Global, line: &str) -> Result<Job, Fail> {
     let words = words_of(alloc, line)?;
-    Ok(read_words(alloc, words.as_slice()))
+    Ok(read_words(alloc, words.as_slice())?)
+}
+
+fn raw_of(alloc: Global, line: &str) -> Result<Raw, Fail> {
+    Ok(job_of(alloc, line)?.raw)
+}
+
+// Why a line is refused.
+fn refusal(alloc: Global, words: &[String]) -> Option<WordsError> {
+    read_words(alloc, words).err()
 }
 
 // In each row the words, and the values that they change.
@@ -71,14 +80,11 @@ tmchan encode --limit 18446744073709551614|limit=18446744073709551614\n\
 tmchan encode --limit 18446744073709551616|limit=18446744073709551615\n\
 tmchan encode --limit 99999999999999999999|limit=18446744073709551615\n";
 
-fn check_values(rt: &impl Abort, alloc: Global, rows: &str) -> Result<(), AllocError> {
+fn check_values(rt: &impl Abort, alloc: Global, rows: &str) -> Result<(), Fail> {
     for row in rows.lines() {
         let (line, changes) = row.split_once('|').expect(rt, "a row");
         let wanted = changed(Raw::default(), changes).expect(rt, "values");
-        match read(alloc, line)? {
-            Ok(job) => assert!(rt; job.raw == wanted, "at {row}"),
-            Err(error) => assert!(rt; false, "{error} at {row}"),
-        }
+        check_row(rt, raw_of(alloc, line)? == wanted, row);
     }
     Ok(())
 }
@@ -86,15 +92,13 @@ fn check_values(rt: &impl Abort, alloc: Global, rows: &str) -> Result<(), AllocE
 #[test]
 fn reads_each_option(rt: HostRuntime) -> Result<(), Fail> {
     assert!(rt; EACH_OPTION.lines().count() == 10);
-    check_values(&rt, rt.alloc(), EACH_OPTION)?;
-    Ok(())
+    check_values(&rt, rt.alloc(), EACH_OPTION)
 }
 
 #[test]
 fn reads_each_form_of_a_value(rt: HostRuntime) -> Result<(), Fail> {
     assert!(rt; EACH_FORM.lines().count() == 20);
-    check_values(&rt, rt.alloc(), EACH_FORM)?;
-    Ok(())
+    check_values(&rt, rt.alloc(), EACH_FORM)
 }
 
 // In each row the words, the command, the word to be repaired, and seed, frames and hits.
@@ -127,45 +131,48 @@ tmchan soak --skip 3 --seed 007 --hits x|Soak||7 100 18446744073709551615\n\
 tmchan soak --skip 3 --seed= --frames 18446744073709551615|Soak||18446744073709551615 18446744073709551615 0\n\
 tmchan soak --skip 3 --hits 000000000000000000001|Soak||1 100 18446744073709551615\n";
 
-fn check_jobs(rt: &impl Abort, alloc: Global, rows: &str) -> Result<(), AllocError> {
+fn check_jobs(rt: &impl Abort, alloc: Global, rows: &str) -> Result<(), Fail> {
     for row in rows.lines() {
-        let (line, job) = row.split_once('|').expect(rt, "words");
-        let (kind, rest) = job.split_once('|').expect(rt, "a command");
-        let (hex, rest) = rest.split_once('|').expect(rt, "a word");
-        let numbers = numbers_of(rest).expect(rt, "numbers");
-        match read(alloc, line)? {
-            Ok(job) => {
-                let found = format!(in alloc; "{:?}", job.kind)?;
-                assert!(rt; found.as_str() == kind, "at {row}");
-                assert!(rt; job.raw.skip == 3, "at {row}");
-                assert!(rt; job.hex.as_bytes() == hex.as_bytes(), "at {row}");
-                assert!(rt; [job.seed, job.frames, job.hits] == numbers, "at {row}");
-            }
-            Err(error) => assert!(rt; false, "{error} at {row}"),
-        }
+        let (line, wanted) = row.split_once('|').expect(rt, "words");
+        check_row(
+            rt,
+            is_wanted(rt, alloc, &job_of(alloc, line)?, wanted)?,
+            row,
+        );
     }
     Ok(())
+}
+
+// Whether a job is what a row says.
+fn is_wanted(rt: &impl Abort, alloc: Global, job: &Job, wanted: &str) -> Result<bool, AllocError> {
+    let (kind, rest) = wanted.split_once('|').expect(rt, "a command");
+    let (hex, rest) = rest.split_once('|').expect(rt, "a word");
+    let numbers = numbers_of(rest).expect(rt, "numbers");
+    let found = format!(in alloc; "{:?}", job.kind)?;
+    Ok(
+        found.as_str() == kind
+            && job.hex.as_bytes() == hex.as_bytes()
+            && [job.raw.skip, job.seed, job.frames, job.hits]
+                == [3, numbers[0], numbers[1], numbers[2]],
+    )
 }
 
 #[test]
 fn gives_a_whole_job(rt: HostRuntime) -> Result<(), Fail> {
     assert!(rt; WHOLE_JOBS.lines().count() == 8);
-    check_jobs(&rt, rt.alloc(), WHOLE_JOBS)?;
-    Ok(())
+    check_jobs(&rt, rt.alloc(), WHOLE_JOBS)
 }
 
 #[test]
 fn gives_the_word(rt: HostRuntime) -> Result<(), Fail> {
     assert!(rt; WITH_A_WORD.lines().count() == 6);
-    check_jobs(&rt, rt.alloc(), WITH_A_WORD)?;
-    Ok(())
+    check_jobs(&rt, rt.alloc(), WITH_A_WORD)
 }
 
 #[test]
 fn gives_the_values_of_soak(rt: HostRuntime) -> Result<(), Fail> {
     assert!(rt; OF_SOAK.lines().count() == 7);
-    check_jobs(&rt, rt.alloc(), OF_SOAK)?;
-    Ok(())
+    check_jobs(&rt, rt.alloc(), OF_SOAK)
 }
 
 // Words that are refused.
@@ -220,15 +227,14 @@ tmchan bits 00\n";
 
 fn check_refused(rt: &impl Abort, alloc: Global) -> Result<(), AllocError> {
     for line in REFUSED.lines() {
-        match read(alloc, line)? {
-            Ok(_) => assert!(rt; false, "taken: {line}"),
-            Err(error) => assert!(rt; error == WordsError::Words, "at {line}"),
-        }
+        let words = words_of(alloc, line)?;
+        check_row(rt, refusal(alloc, &words) == Some(WordsError::Words), line);
     }
-    match read_words(alloc, &[]) {
-        Ok(_) => assert!(rt; false, "taken: no words"),
-        Err(error) => assert!(rt; error == WordsError::Words),
-    }
+    check_row(
+        rt,
+        refusal(alloc, &[]) == Some(WordsError::Words),
+        "no words",
+    );
     Ok(())
 }
 
