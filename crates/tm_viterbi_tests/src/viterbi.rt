@@ -35,28 +35,35 @@ fn drawn(seed: u64) -> (u8, u64) {
 }
 
 fn drawn_octets(alloc: Global, count: usize, seed: u64) -> Result<Vec<u8>, AllocError> {
-    let mut octets = Vec::new(alloc);
-    let mut now = seed;
-    for _ in 0..count {
-        let (octet, next) = drawn(now);
-        octets.push(octet)?;
-        now = next;
-    }
+    let mut octets = vec![in alloc; 0; count]?;
+    draw(octets.as_mut_slice(), seed);
     Ok(octets)
+}
+
+fn draw(octets: &mut [u8], seed: u64) {
+    let mut now = seed;
+    for octet in octets.iter_mut() {
+        (*octet, now) = drawn(now);
+    }
 }
 
 // Two octets, many times.
 fn repeated(alloc: Global, pair: (u8, u8), count: usize) -> Result<Vec<u8>, AllocError> {
-    let mut octets = Vec::new(alloc);
-    for _ in 0..count {
-        octets.push(pair.0)?;
-        octets.push(pair.1)?;
-    }
+    let mut octets = vec![in alloc; pair.0; count.wrapping_mul(2)]?;
+    make_odd_ones(octets.as_mut_slice(), pair.1);
     Ok(octets)
 }
 
+fn make_odd_ones(octets: &mut [u8], octet: u8) {
+    for i in 0..octets.len() {
+        if i % 2 == 1 {
+            octets[i] = octet;
+        }
+    }
+}
+
 // What a row says of a block.
-#[derive(Clone, Copy, Debug, PartialEq, Eq)]
+#[derive(Clone, Copy, PartialEq, Eq)]
 struct Expected {
     steps: u32,
     kept: u32,
@@ -71,15 +78,8 @@ fn row(steps: u32, kept: u32, metric: u64) -> Expected {
     }
 }
 
-fn check_expected(rt: &impl Abort, found: &[Kept], wanted: &[Expected]) {
-    assert!(rt; found.len() == wanted.len());
-    for (block, expected) in found.iter().zip(wanted) {
-        assert!(rt; row(block.steps, block.kept, block.metric) == *expected);
-    }
-}
-
 // How a stream is decoded in a row.
-#[derive(Clone, Copy, Debug)]
+#[derive(Clone, Copy)]
 struct Link {
     rate: Rate,
     invert: bool,
@@ -97,7 +97,7 @@ const DEFAULT: Link = Link {
 };
 
 // The octets of each piece: a fixed number, or drawn, from none to 69, by a sequence from this number on.
-#[derive(Clone, Copy, Debug)]
+#[derive(Clone, Copy)]
 enum Cuts {
     Even(usize),
     Drawn(u64),
@@ -161,33 +161,43 @@ fn check_stopped(rt: &impl Abort, decoder: &mut Decoder, octets: &[u8], blocks: 
     assert!(rt; finish(decoder, blocks) == Err(FeedError::Stopped));
 }
 
-// Feeds a new decoder the octets in pieces, and finishes it: the blocks, and the octets left over. A finished decoder
-// is stopped.
-fn decoded(
+// Feeds a new decoder the octets in pieces, and finishes it. A finished decoder is stopped. Returns how many octets are
+// left over.
+fn decode(
     rt: &impl Abort,
     alloc: Global,
     link: Link,
     octets: &[u8],
     cuts: Cuts,
-) -> Result<(Collector, u8), Fail> {
-    let mut blocks = Collector::new(alloc, u64::MAX);
+    blocks: &mut Collector,
+) -> Result<u8, Fail> {
     let mut decoder = opened(rt, alloc, link)?;
-    feed_cut(rt, &mut decoder, octets, cuts, &mut blocks)?;
-    let left = finish(&mut decoder, &mut blocks)?;
-    check_stopped(rt, &mut decoder, &[0], &mut blocks);
-    Ok((blocks, left))
+    decode_by(rt, &mut decoder, octets, cuts, blocks)
 }
 
-// Decodes the octets in one call: the blocks, and the octets left over.
-fn decoded_at_once(
+fn decode_by(
+    rt: &impl Abort,
+    decoder: &mut Decoder,
+    octets: &[u8],
+    cuts: Cuts,
+    blocks: &mut Collector,
+) -> Result<u8, Fail> {
+    feed_cut(rt, decoder, octets, cuts, blocks)?;
+    let left = finish(decoder, blocks)?;
+    check_stopped(rt, decoder, &[0], blocks);
+    Ok(left)
+}
+
+// Decodes the octets in one call. Returns how many are left over.
+fn decode_at_once(
     rt: &impl Abort,
     alloc: Global,
     link: Link,
     octets: &[u8],
-) -> Result<(Collector, u8), Fail> {
+    blocks: &mut Collector,
+) -> Result<u8, AllError> {
     assert!(rt; 64 <= link.keep && link.keep <= 65536 && link.ahead <= 4096);
-    let mut blocks = Collector::new(alloc, u64::MAX);
-    let left = decode_all(
+    decode_all(
         alloc,
         link.rate,
         link.invert,
@@ -195,26 +205,8 @@ fn decoded_at_once(
         link.keep,
         link.ahead,
         octets,
-        &mut blocks,
-    )?;
-    Ok((blocks, left))
-}
-
-fn check_decoded(
-    rt: &impl Abort,
-    alloc: Global,
-    link: Link,
-    octets: &[u8],
-    wanted: &[Expected],
-    wanted_left: u8,
-) -> Result<(), Fail> {
-    let (blocks, left) = decoded(rt, alloc, link, octets, Cuts::Even(4096))?;
-    check_expected(rt, blocks.kept(), wanted);
-    assert!(rt; left == wanted_left);
-    let (blocks, left) = decoded_at_once(rt, alloc, link, octets)?;
-    check_expected(rt, blocks.kept(), wanted);
-    assert!(rt; left == wanted_left);
-    Ok(())
+        blocks,
+    )
 }
 
 // Octets, and what comes of them: of each block what is said of a block, and of how many octets are left over.
@@ -224,6 +216,41 @@ struct Case<'a> {
     octets: &'a [u8],
     blocks: &'a [Expected],
     left: u8,
+}
+
+fn check_case(rt: &impl Abort, alloc: Global, case: &Case<'_>) -> Result<(), Fail> {
+    check_pieces(rt, alloc, case)?;
+    check_at_once(rt, alloc, case)
+}
+
+fn check_pieces(rt: &impl Abort, alloc: Global, case: &Case<'_>) -> Result<(), Fail> {
+    let mut blocks = Collector::new(alloc, u64::MAX);
+    let left = decode(
+        rt,
+        alloc,
+        case.link,
+        case.octets,
+        Cuts::Even(4096),
+        &mut blocks,
+    )?;
+    check_expected(rt, &blocks, left, case);
+    Ok(())
+}
+
+fn check_at_once(rt: &impl Abort, alloc: Global, case: &Case<'_>) -> Result<(), Fail> {
+    let mut blocks = Collector::new(alloc, u64::MAX);
+    let left = decode_at_once(rt, alloc, case.link, case.octets, &mut blocks)?;
+    check_expected(rt, &blocks, left, case);
+    Ok(())
+}
+
+fn check_expected(rt: &impl Abort, blocks: &Collector, left: u8, case: &Case<'_>) {
+    let (found, wanted) = (blocks.kept(), case.blocks);
+    assert!(rt; (left, found.len()) == (case.left, wanted.len()));
+    for i in 0..wanted.len() {
+        let block = &found[i];
+        assert!(rt; row(block.steps, block.kept, block.metric) == wanted[i]);
+    }
 }
 
 // From any register.
@@ -306,8 +333,8 @@ static SHORT: [Case; 6] = [
 
 #[test]
 fn short_inputs(rt: HostRuntime) -> Result<(), Fail> {
-    for row in &SHORT {
-        check_decoded(&rt, rt.alloc(), row.link, row.octets, row.blocks, row.left)?;
+    for case in &SHORT {
+        check_case(&rt, rt.alloc(), case)?;
     }
     check_only(&rt, rt.alloc(), DEFAULT, [0x80, 0x00], 1, (0, 1, 32))?;
     check_only(&rt, rt.alloc(), DEFAULT, [0x00, 0x00], 1, (0, 0, 0))?;
@@ -323,40 +350,71 @@ fn check_only(
     size: usize,
     wanted: (u8, u8, u8),
 ) -> Result<(), Fail> {
-    let (blocks, _) = decoded(rt, alloc, link, &octets, Cuts::Even(size))?;
+    let mut blocks = Collector::new(alloc, u64::MAX);
+    decode(rt, alloc, link, &octets, Cuts::Even(size), &mut blocks)?;
     assert!(rt; blocks.only(rt) == wanted);
     Ok(())
 }
 
 #[test]
 fn windows_of_every_size(rt: HostRuntime) -> Result<(), Fail> {
-    let long = repeated(rt.alloc(), (0x00, 0xFF), 8449)?;
-    check_default_windows(&rt, rt.alloc(), &long)?;
-    check_one_by_one(&rt, rt.alloc(), &long)?;
+    check_long_windows(&rt, rt.alloc())?;
     check_least_windows(&rt, rt.alloc())?;
     check_punctured_windows(&rt, rt.alloc())
 }
 
-fn check_default_windows(rt: &impl Abort, alloc: Global, long: &[u8]) -> Result<(), Fail> {
-    let (short, _) = long.split_at(16896.min(long.len()));
-    check_decoded(rt, alloc, DEFAULT, short, &[row(8448, 8448, 0)], 0)?;
-    let more = [row(8448, 8192, 0), row(257, 257, 0)];
-    check_decoded(rt, alloc, DEFAULT, long, &more, 0)
+// Two octets, `count` times, and what comes of the first `size` of these octets.
+fn check_repeated(
+    rt: &impl Abort,
+    alloc: Global,
+    link: Link,
+    pair: (u8, u8),
+    count: usize,
+    size: usize,
+    blocks: &[Expected],
+) -> Result<(), Fail> {
+    let octets = repeated(alloc, pair, count)?;
+    assert!(rt; size <= octets.len());
+    let case = Case {
+        link,
+        octets: &octets[..size],
+        blocks,
+        left: 0,
+    };
+    check_case(rt, alloc, &case)
+}
+
+fn check_long_windows(rt: &impl Abort, alloc: Global) -> Result<(), Fail> {
+    let pair = (0x00, 0xFF);
+    let one = [row(8448, 8448, 0)];
+    check_repeated(rt, alloc, DEFAULT, pair, 8449, 16896, &one)?;
+    let two = [row(8448, 8192, 0), row(257, 257, 0)];
+    check_repeated(rt, alloc, DEFAULT, pair, 8449, 16898, &two)?;
+    check_one_by_one(rt, alloc, &repeated(alloc, pair, 8449)?)
 }
 
 fn check_one_by_one(rt: &impl Abort, alloc: Global, long: &[u8]) -> Result<(), Fail> {
-    let (blocks, left) = decoded(rt, alloc, DEFAULT, long, Cuts::Even(1))?;
-    assert!(rt; left == 0);
-    assert!(rt; blocks.kept().len() == 2);
-    assert!(rt; (blocks.kept()[1].start, blocks.kept()[1].end_state) == (0, 0));
+    let mut blocks = Collector::new(alloc, u64::MAX);
+    let left = decode(rt, alloc, DEFAULT, long, Cuts::Even(1), &mut blocks)?;
+    assert!(rt; (left, blocks.kept().len()) == (0, 2));
+    let last = &blocks.kept()[1];
+    assert!(rt; (last.start, last.end_state) == (0, 0));
     Ok(())
 }
 
 fn check_least_windows(rt: &impl Abort, alloc: Global) -> Result<(), Fail> {
-    let few = repeated(alloc, (0x00, 0xFF), 65)?;
-    check_decoded(rt, alloc, LEAST, &few, &[row(64, 64, 0), row(1, 1, 0)], 0)?;
+    let two = [row(64, 64, 0), row(1, 1, 0)];
+    check_repeated(rt, alloc, LEAST, (0x00, 0xFF), 65, 130, &two)?;
     let one_ahead = Link { ahead: 1, ..LEAST };
-    check_decoded(rt, alloc, one_ahead, &few, &[row(65, 65, 0)], 0)
+    check_repeated(
+        rt,
+        alloc,
+        one_ahead,
+        (0x00, 0xFF),
+        65,
+        130,
+        &[row(65, 65, 0)],
+    )
 }
 
 fn check_punctured_windows(rt: &impl Abort, alloc: Global) -> Result<(), Fail> {
@@ -364,12 +422,10 @@ fn check_punctured_windows(rt: &impl Abort, alloc: Global) -> Result<(), Fail> {
         start: Start::Any,
         ..PUNCTURED
     };
-    let ones = repeated(alloc, (0x80, 0x80), 6338)?;
-    let (whole, _) = ones.as_slice().split_at(12672.min(ones.len()));
-    check_decoded(rt, alloc, any, whole, &[row(8448, 8448, 1609344)], 0)?;
-    let (more, _) = ones.as_slice().split_at(12675.min(ones.len()));
-    let blocks = [row(8448, 8192, 1609344), row(258, 258, 49149)];
-    check_decoded(rt, alloc, any, more, &blocks, 0)
+    let one = [row(8448, 8448, 1609344)];
+    check_repeated(rt, alloc, any, (0x80, 0x80), 6338, 12672, &one)?;
+    let two = [row(8448, 8192, 1609344), row(258, 258, 49149)];
+    check_repeated(rt, alloc, any, (0x80, 0x80), 6338, 12675, &two)
 }
 
 // Sums and branch metrics that are drawn, each below 2^(31 - shift), and the next number of the sequence.
@@ -426,7 +482,7 @@ fn columns_by_lanes(rt: HostRuntime) {
             seed = next;
             assert!(rt; are_small(&sums) && are_small(&metrics));
             let [plain, lanes] = columns(&sums, &metrics);
-            assert!(rt; lanes == plain, "{sums:?} {metrics:?}");
+            assert!(rt; lanes == plain);
         }
     }
 }
@@ -443,12 +499,15 @@ fn cost_at(rate: Rate, invert: bool, start: Start, octets: [u8; 24]) -> u64 {
 
 #[test]
 fn least_costs(rt: HostRuntime) -> Result<(), Fail> {
-    assert!(rt; cost_of_pair(true, Start::Zero, [0x80, 0x00]) == 127);
-    assert!(rt; cost_of_pair(true, Start::Zero, [0x00, 0x00]) == 255);
-    assert!(rt; cost_of_pair(false, Start::Zero, [0x00, 0x00]) == 0);
-    assert!(rt; cost_of_pair(true, Start::Any, [0x00, 0x00]) == 0);
+    let costs = [
+        cost_of_pair(true, Start::Zero, [0x80, 0x00]),
+        cost_of_pair(true, Start::Zero, [0x00, 0x00]),
+        cost_of_pair(false, Start::Zero, [0x00, 0x00]),
+        cost_of_pair(true, Start::Any, [0x00, 0x00]),
+    ];
+    assert!(rt; costs == [127, 255, 0, 0]);
     let mut seed = 2000u64;
-    for (rate, steps) in RATES.into_iter().zip([12u32, 16, 18, 20, 21]) {
+    for &(rate, steps) in &STEPS_OF_24 {
         for first in [Some(0), None] {
             let (octets, next) = drawn_24(seed);
             seed = next;
@@ -457,6 +516,15 @@ fn least_costs(rt: HostRuntime) -> Result<(), Fail> {
     }
     Ok(())
 }
+
+// How many steps send 24 symbols.
+static STEPS_OF_24: [(Rate, u32); 5] = [
+    (Rate::R12, 12),
+    (Rate::R23, 16),
+    (Rate::R34, 18),
+    (Rate::R56, 20),
+    (Rate::R78, 21),
+];
 
 // Drawn octets, and the next number of the sequence.
 fn drawn_24(seed: u64) -> ([u8; 24], u64) {
@@ -521,35 +589,28 @@ fn sums_of_a_step(rt: HostRuntime) {
 
 #[test]
 fn failing_taker(rt: HostRuntime) -> Result<(), Fail> {
-    check_fails_in_between(&rt, rt.alloc())?;
+    let mut decoder = opened(&rt, rt.alloc(), LEAST)?;
+    check_fails_in_between(&rt, &mut decoder, &mut Collector::new(rt.alloc(), 1));
+    let mut decoder = opened(&rt, rt.alloc(), LEAST)?;
     let mut blocks = Collector::new(rt.alloc(), 0);
-    check_fails_at_the_end(&rt, rt.alloc(), &mut blocks)?;
+    check_fails_at_the_end(&rt, &mut decoder, &mut blocks);
     check_fails_at_once(&rt, rt.alloc(), &mut blocks);
     Ok(())
 }
 
 // At the second block, in the midst of the octets.
-fn check_fails_in_between(rt: &impl Abort, alloc: Global) -> Result<(), Fail> {
-    let octets = repeated(alloc, (0x00, 0xFF), 200)?;
-    let mut blocks = Collector::new(alloc, 1);
-    let mut decoder = opened(rt, alloc, LEAST)?;
-    assert!(rt; feed(&mut decoder, &octets, &mut blocks) == Err(FeedError::Taker));
-    assert!(rt; blocks.kept().len() == 1);
-    check_stopped(rt, &mut decoder, &[], &mut blocks);
-    assert!(rt; blocks.faults() == 1);
-    Ok(())
+fn check_fails_in_between(rt: &impl Abort, decoder: &mut Decoder, blocks: &mut Collector) {
+    let mut octets = [0x00; 400];
+    make_odd_ones(&mut octets, 0xFF);
+    assert!(rt; feed(decoder, &octets, blocks) == Err(FeedError::Taker));
+    check_stopped(rt, decoder, &[], blocks);
+    assert!(rt; (blocks.kept().len(), blocks.faults()) == (1, 1));
 }
 
-fn check_fails_at_the_end(
-    rt: &impl Abort,
-    alloc: Global,
-    blocks: &mut Collector,
-) -> Result<(), Fail> {
-    let mut decoder = opened(rt, alloc, LEAST)?;
-    feed(&mut decoder, &[0, 255], blocks)?;
-    assert!(rt; finish(&mut decoder, blocks) == Err(FeedError::Taker));
-    assert!(rt; feed(&mut decoder, &[], blocks) == Err(FeedError::Stopped));
-    Ok(())
+fn check_fails_at_the_end(rt: &impl Abort, decoder: &mut Decoder, blocks: &mut Collector) {
+    assert!(rt; feed(decoder, &[0, 255], blocks) == Ok(()));
+    assert!(rt; finish(decoder, blocks) == Err(FeedError::Taker));
+    assert!(rt; feed(decoder, &[], blocks) == Err(FeedError::Stopped));
 }
 
 fn check_fails_at_once(rt: &impl Abort, alloc: Global, blocks: &mut Collector) {
@@ -633,12 +694,23 @@ fn check_candidates(
         start: start_of(first),
         ..DEFAULT
     };
-    let (blocks, left) = decoded(rt, alloc, link, &octets, Cuts::Even(2))?;
-    assert!(rt; left == 0);
-    assert!(rt; blocks.kept().len() == 1);
     let wanted = best_listed(rate, invert, first, 0, &octets, steps);
-    check_block(rt, &blocks.kept()[0], wanted, steps, steps);
     assert!(rt; best_walked(rate, invert, first, 0, &octets, steps) == wanted);
+    check_only_block(rt, alloc, link, &octets, wanted, steps)
+}
+
+fn check_only_block(
+    rt: &impl Abort,
+    alloc: Global,
+    link: Link,
+    octets: &[u8],
+    wanted: Option<plain::Path>,
+    steps: u32,
+) -> Result<(), Fail> {
+    let mut blocks = Collector::new(alloc, u64::MAX);
+    let left = decode(rt, alloc, link, octets, Cuts::Even(2), &mut blocks)?;
+    assert!(rt; (left, blocks.kept().len()) == (0, 1));
+    check_block(rt, &blocks.kept()[0], wanted, steps, steps);
     Ok(())
 }
 
@@ -715,7 +787,8 @@ fn check_cut(
     octets: &[u8],
     cuts: Cuts,
 ) -> Result<(), Fail> {
-    let (blocks, left) = decoded(rt, alloc, link, octets, cuts)?;
+    let mut blocks = Collector::new(alloc, u64::MAX);
+    let left = decode(rt, alloc, link, octets, cuts, &mut blocks)?;
     assert!(rt; left == 0);
     check_windows(rt, link, octets, 300, blocks.kept());
     Ok(())

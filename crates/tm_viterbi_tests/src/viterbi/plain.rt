@@ -69,7 +69,7 @@ fn next(register: u32, bit: u32) -> u32 {
 
 // A path: its cost, and the number whose binary digits are its bits, the last first, and then those of its first
 // register. It has up to 186 steps.
-#[derive(Clone, Copy, Debug, PartialEq, Eq)]
+#[derive(Clone, Copy, PartialEq, Eq)]
 pub(super) struct Path {
     pub(super) cost: u64,
     digits: [u64; 3],

@@ -8,7 +8,7 @@ use tm_base::Failed;
 use tm_viterbi::{Block, BlockTaker};
 
 // A block that was handed over.
-#[derive(Debug, Drop)]
+#[derive(Drop)]
 pub(super) struct Kept {
     pub(super) start: u8,
     pub(super) steps: u32,
