@@ -131,7 +131,7 @@ fn bits_are_moved_where_octets_do_not_fit_after_them(rt: HostRuntime) -> Result<
 }
 
 // How a search is made.
-#[derive(Clone, Copy, Debug)]
+#[derive(Clone, Copy)]
 struct Rules {
     fly: u8,
     either: bool,
@@ -183,7 +183,26 @@ fn places_in(
     Ok(places)
 }
 
-// A search finds just these places, where the codeblocks of those are sound.
+// Where the codeblocks of those are sound, a search finds just these places, and the others with markers inside.
+fn check_both(
+    rt: &impl Abort,
+    alloc: Global,
+    (fly, either): (u8, bool),
+    octets: &[u8],
+    sound: &[u64],
+    places: &[Found],
+    inside: &[Found],
+) -> Result<(), Fail> {
+    let mut rules = Rules {
+        fly,
+        either,
+        inside: false,
+    };
+    check_places(rt, alloc, rules, octets, sound, places)?;
+    rules.inside = true;
+    check_places(rt, alloc, rules, octets, sound, inside)
+}
+
 fn check_places(
     rt: &impl Abort,
     alloc: Global,
@@ -191,156 +210,86 @@ fn check_places(
     octets: &[u8],
     sound: &[u64],
     places: &[Found],
-) -> Result<(), AllocError> {
+) -> Result<(), Fail> {
     let found = places_in(rt, alloc, rules, octets, sound)?;
-    assert!(rt; found.as_slice() == places, "{rules:?}");
+    assert!(rt; found.as_slice() == places);
     Ok(())
 }
 
 #[test]
 fn marker_a_bit_early_is_found_inside(rt: HostRuntime) -> Result<(), Fail> {
-    let mut rules = Rules {
-        fly: 0,
-        either: false,
-        inside: false,
-    };
-    let sound = [167, 335];
-    check_places(
+    let places = [plain(0, 0), plain(335, 0)];
+    let inside = [plain(0, 0), plain(167, 0), plain(335, 0)];
+    check_both(
         &rt,
         rt.alloc(),
-        rules,
+        (0, false),
         &LOST,
-        &sound,
-        &[plain(0, 0), plain(335, 0)],
-    )?;
-    rules.inside = true;
-    check_places(
-        &rt,
-        rt.alloc(),
-        rules,
-        &LOST,
-        &sound,
-        &[plain(0, 0), plain(167, 0), plain(335, 0)],
-    )?;
-    Ok(())
+        &[167, 335],
+        &places,
+        &inside,
+    )
 }
 
 #[test]
 fn marker_a_bit_late_is_found_inside_a_bridged_place(rt: HostRuntime) -> Result<(), Fail> {
-    let mut rules = Rules {
-        fly: 1,
-        either: false,
-        inside: false,
-    };
-    let sound = [169, 337];
-    check_places(
+    let places = [plain(0, 0), bridged(168, 12), plain(337, 0)];
+    let inside = [plain(0, 0), bridged(168, 12), plain(169, 0), plain(337, 0)];
+    check_both(
         &rt,
         rt.alloc(),
-        rules,
+        (1, false),
         &DOUBLED,
-        &sound,
-        &[plain(0, 0), bridged(168, 12), plain(337, 0)],
-    )?;
-    rules.inside = true;
-    check_places(
-        &rt,
-        rt.alloc(),
-        rules,
-        &DOUBLED,
-        &sound,
-        &[plain(0, 0), bridged(168, 12), plain(169, 0), plain(337, 0)],
-    )?;
-    Ok(())
+        &[169, 337],
+        &places,
+        &inside,
+    )
 }
 
 #[test]
 fn marker_inside_with_an_unsound_codeblock_is_no_place(rt: HostRuntime) -> Result<(), Fail> {
-    let mut rules = Rules {
-        fly: 1,
-        either: false,
-        inside: false,
-    };
-    let sound = [168, 336];
-    check_places(
+    let places = [plain(0, 0), bridged(168, 16), plain(336, 0)];
+    check_both(
         &rt,
         rt.alloc(),
-        rules,
+        (1, false),
         &UNSOUND,
-        &sound,
-        &[plain(0, 0), bridged(168, 16), plain(336, 0)],
-    )?;
-    rules.inside = true;
-    check_places(
-        &rt,
-        rt.alloc(),
-        rules,
-        &UNSOUND,
-        &sound,
-        &[plain(0, 0), bridged(168, 16), plain(336, 0)],
-    )?;
-    Ok(())
+        &[168, 336],
+        &places,
+        &places,
+    )
 }
 
 #[test]
 fn marker_in_the_last_symbols_of_a_sound_codeblock_is_found(rt: HostRuntime) -> Result<(), Fail> {
-    let mut rules = Rules {
-        fly: 1,
-        either: false,
-        inside: false,
-    };
-    let sound = [0, 104, 272];
-    check_places(
+    let places = [plain(0, 0), bridged(168, 16)];
+    let inside = [plain(0, 0), plain(104, 0), plain(272, 0)];
+    check_both(
         &rt,
         rt.alloc(),
-        rules,
+        (1, false),
         &SOUND,
-        &sound,
-        &[plain(0, 0), bridged(168, 16)],
-    )?;
-    rules.inside = true;
-    check_places(
-        &rt,
-        rt.alloc(),
-        rules,
-        &SOUND,
-        &sound,
-        &[plain(0, 0), plain(104, 0), plain(272, 0)],
-    )?;
-    Ok(())
+        &[0, 104, 272],
+        &places,
+        &inside,
+    )
 }
 
 #[test]
 fn inverted_marker_inside_turns_the_bridged_place_after_it(rt: HostRuntime) -> Result<(), Fail> {
-    let mut rules = Rules {
-        fly: 1,
-        either: true,
-        inside: false,
+    let places = [plain(0, 0), bridged(168, 21), plain(503, 0)];
+    let turned = Found {
+        bridged: true,
+        ..inverted(335, 16)
     };
-    let sound = [167, 335, 503];
-    check_places(
+    let inside = [plain(0, 0), inverted(167, 0), turned, plain(503, 0)];
+    check_both(
         &rt,
         rt.alloc(),
-        rules,
+        (1, true),
         &INVERTED,
-        &sound,
-        &[plain(0, 0), bridged(168, 21), plain(503, 0)],
-    )?;
-    rules.inside = true;
-    check_places(
-        &rt,
-        rt.alloc(),
-        rules,
-        &INVERTED,
-        &sound,
-        &[
-            plain(0, 0),
-            inverted(167, 0),
-            Found {
-                bridged: true,
-                ..inverted(335, 16)
-            },
-            plain(503, 0),
-        ],
-    )?;
-    Ok(())
+        &[167, 335, 503],
+        &places,
+        &inside,
+    )
 }

@@ -17,7 +17,7 @@ const CODEBLOCK: [u8; 33] = [
 ];
 
 // How a search is made.
-#[derive(Clone, Copy, Debug)]
+#[derive(Clone, Copy)]
 struct Rules {
     tolerance: u8,
     fly: u8,
@@ -87,11 +87,24 @@ fn check_search(
     bits: &[bool],
     places: &[Found],
     left: u64,
-) -> Result<(), AllocError> {
+) -> Result<(), Fail> {
     let (found, rest) = searched(rt, alloc, rules, bits)?;
-    assert!(rt; found.as_slice() == places, "{rules:?}");
-    assert!(rt; rest == left, "{rules:?}");
+    assert!(rt; found.as_slice() == places);
+    assert!(rt; rest == left);
     Ok(())
+}
+
+// That of the bits of pieces of octets, one after another.
+fn check_pieces(
+    rt: &impl Abort,
+    alloc: Global,
+    rules: Rules,
+    pieces: &[&[u8]],
+    places: &[Found],
+    left: u64,
+) -> Result<(), Fail> {
+    let bits = bits_of(alloc, pieces)?;
+    check_search(rt, alloc, rules, &bits, places, left)
 }
 
 pub fn plain(place: u64, distance: u8) -> Found {
@@ -133,88 +146,97 @@ fn rules_of(tolerance: u8, fly: u8, either: bool, block_bits: u32) -> Rules {
 
 #[test]
 fn marker_with_a_wrong_bit_is_found_within_the_tolerance(rt: HostRuntime) -> Result<(), Fail> {
-    let bits = bits_of(rt.alloc(), &[&[0x1A, 0xCF, 0xFC, 0x1C], &CODEBLOCK])?;
-    check_search(&rt, rt.alloc(), rules_of(0, 0, false, 264), &bits, &[], 296)?;
-    check_search(
+    let pieces = [[0x1A, 0xCF, 0xFC, 0x1C].as_slice(), &CODEBLOCK];
+    check_pieces(
+        &rt,
+        rt.alloc(),
+        rules_of(0, 0, false, 264),
+        &pieces,
+        &[],
+        296,
+    )?;
+    check_pieces(
         &rt,
         rt.alloc(),
         rules_of(1, 0, false, 264),
-        &bits,
+        &pieces,
         &[plain(0, 1)],
         0,
-    )?;
-    Ok(())
+    )
 }
 
 #[test]
 fn first_place_within_the_tolerance_is_taken(rt: HostRuntime) -> Result<(), Fail> {
-    let bits = bits_of(
-        rt.alloc(),
-        &[&[0x1A, 0xCF, 0xFC, 0x1C], &MARKER, &CODEBLOCK],
-    )?;
-    check_search(
+    let pieces = [[0x1A, 0xCF, 0xFC, 0x1C].as_slice(), &MARKER, &CODEBLOCK];
+    check_pieces(
         &rt,
         rt.alloc(),
         rules_of(1, 0, false, 264),
-        &bits,
+        &pieces,
         &[plain(0, 1)],
         32,
     )?;
-    check_search(
+    check_pieces(
         &rt,
         rt.alloc(),
         rules_of(0, 0, false, 264),
-        &bits,
+        &pieces,
         &[plain(32, 0)],
         0,
-    )?;
-    Ok(())
+    )
 }
 
 #[test]
 fn missing_marker_is_bridged(rt: HostRuntime) -> Result<(), Fail> {
-    let bits = bits_of(
-        rt.alloc(),
-        &[
-            &MARKER, &CODEBLOCK, &[0; 4], &CODEBLOCK, &MARKER, &CODEBLOCK,
-        ],
-    )?;
-    check_search(
+    let pieces = [
+        MARKER.as_slice(),
+        &CODEBLOCK,
+        &[0; 4],
+        &CODEBLOCK,
+        &MARKER,
+        &CODEBLOCK,
+    ];
+    let places = [plain(0, 0), bridged(296, 19), plain(592, 0)];
+    check_pieces(
         &rt,
         rt.alloc(),
         rules_of(0, 1, false, 264),
-        &bits,
-        &[plain(0, 0), bridged(296, 19), plain(592, 0)],
+        &pieces,
+        &places,
         0,
     )?;
-    check_search(
+    let places = [plain(0, 0), plain(592, 0)];
+    check_pieces(
         &rt,
         rt.alloc(),
         rules_of(0, 0, false, 264),
-        &bits,
-        &[plain(0, 0), plain(592, 0)],
+        &pieces,
+        &places,
         0,
-    )?;
-    Ok(())
+    )
 }
 
 #[test]
 fn no_more_markers_in_a_row_are_bridged_than_given(rt: HostRuntime) -> Result<(), Fail> {
-    let bits = bits_of(
-        rt.alloc(),
-        &[
-            &MARKER, &CODEBLOCK, &[0; 4], &CODEBLOCK, &[0; 4], &CODEBLOCK, &MARKER, &CODEBLOCK,
-        ],
-    )?;
-    check_search(
+    let pieces = [
+        MARKER.as_slice(),
+        &CODEBLOCK,
+        &[0; 4],
+        &CODEBLOCK,
+        &[0; 4],
+        &CODEBLOCK,
+        &MARKER,
+        &CODEBLOCK,
+    ];
+    let places = [plain(0, 0), bridged(296, 19), plain(888, 0)];
+    check_pieces(
         &rt,
         rt.alloc(),
         rules_of(0, 1, false, 264),
-        &bits,
-        &[plain(0, 0), bridged(296, 19), plain(888, 0)],
+        &pieces,
+        &places,
         0,
-    )?;
-    Ok(())
+    )
 }
 
 #[test]
@@ -223,33 +245,23 @@ fn inverted_marker_is_found(rt: HostRuntime) -> Result<(), Fail> {
     for bit in &mut bits {
         *bit = !*bit;
     }
-    check_search(
-        &rt,
-        rt.alloc(),
-        rules_of(0, 0, true, 264),
-        &bits,
-        &[inverted(0, 0)],
-        0,
-    )?;
-    check_search(&rt, rt.alloc(), rules_of(0, 0, false, 264), &bits, &[], 296)?;
-    Ok(())
+    let (either, upright) = (rules_of(0, 0, true, 264), rules_of(0, 0, false, 264));
+    check_search(&rt, rt.alloc(), either, &bits, &[inverted(0, 0)], 0)?;
+    check_search(&rt, rt.alloc(), upright, &bits, &[], 296)
 }
 
 #[test]
 fn marker_inside_a_codeblock_is_not_searched(rt: HostRuntime) -> Result<(), Fail> {
-    let bits = bits_of(
-        rt.alloc(),
-        &[&MARKER, &[0], &MARKER, &[0], &MARKER, &[0; 6]],
-    )?;
-    check_search(
+    let pieces = [MARKER.as_slice(), &[0], &MARKER, &[0], &MARKER, &[0; 6]];
+    let places = [plain(0, 0), plain(80, 0)];
+    check_pieces(
         &rt,
         rt.alloc(),
         rules_of(0, 0, false, 48),
-        &bits,
-        &[plain(0, 0), plain(80, 0)],
+        &pieces,
+        &places,
         0,
-    )?;
-    Ok(())
+    )
 }
 
 #[test]
@@ -275,11 +287,8 @@ fn check_bit(rt: &impl Abort, search: &mut Search, bit: bool, given: u64) {
     assert!(rt; !search.pending());
     search.push_bit(&mut [], bit);
     let part = if given % 40 == 0 { 40 } else { given % 40 };
-    assert!(rt;
-        search.inside() == u64::checked_sub(part, 32),
-        "after {given} bits"
-    );
-    assert!(rt; search.pending() == (part == 40), "after {given} bits");
+    assert!(rt; search.inside() == u64::checked_sub(part, 32));
+    assert!(rt; search.pending() == (part == 40));
     match search.next(&[]) {
         Some(found) => assert!(rt; found.bridged == (given == 80)),
         None => {}
@@ -460,46 +469,41 @@ fn place_that_further_markers_verify_is_found_with_those_after_it(
     rt: HostRuntime,
 ) -> Result<(), Fail> {
     // A lone marker, and after it a run of three codeblocks, of which the second marker verifies the first.
-    let bits = bits_of(
-        rt.alloc(),
-        &[
-            &MARKER,
-            &[0x5A],
-            &[0],
-            &MARKER,
-            &[0x5B],
-            &MARKER,
-            &[0x5C],
-            &MARKER,
-            &[0x5D],
-        ],
-    )?;
-    let mut rules = rules_of(0, 0, false, 8);
-    rules.verify = 1;
-    check_search(
-        &rt,
-        rt.alloc(),
-        rules,
-        &bits,
-        &[plain(48, 0), plain(88, 0), plain(128, 0)],
-        0,
-    )?;
-    rules.verify = 3;
-    check_search(&rt, rt.alloc(), rules, &bits, &[], 168)?;
-    Ok(())
+    let pieces = [
+        MARKER.as_slice(),
+        &[0x5A],
+        &[0],
+        &MARKER,
+        &[0x5B],
+        &MARKER,
+        &[0x5C],
+        &MARKER,
+        &[0x5D],
+    ];
+    let places = [plain(48, 0), plain(88, 0), plain(128, 0)];
+    check_pieces(&rt, rt.alloc(), verified_by(1), &pieces, &places, 0)?;
+    check_pieces(&rt, rt.alloc(), verified_by(3), &pieces, &[], 168)
+}
+
+fn verified_by(verify: u8) -> Rules {
+    Rules {
+        verify,
+        ..rules_of(0, 0, false, 8)
+    }
 }
 
 // The bits of the test above, up to the marker that verifies the first codeblock of the run.
 #[test]
 fn place_is_found_with_the_marker_that_verifies_it(rt: HostRuntime) -> Result<(), Fail> {
-    let bits = bits_of(
+    let pieces = [MARKER.as_slice(), &[0x5A], &[0], &MARKER, &[0x5B], &MARKER];
+    check_pieces(
+        &rt,
         rt.alloc(),
-        &[&MARKER, &[0x5A], &[0], &MARKER, &[0x5B], &MARKER],
-    )?;
-    let mut rules = rules_of(0, 0, false, 8);
-    rules.verify = 1;
-    check_search(&rt, rt.alloc(), rules, &bits, &[plain(48, 0)], 32)?;
-    Ok(())
+        verified_by(1),
+        &pieces,
+        &[plain(48, 0)],
+        32,
+    )
 }
 
 // How many places were bridged, inverted, and verified by further markers.
@@ -522,18 +526,14 @@ impl Seen {
 fn check_places(
     rt: &impl Abort,
     alloc: Global,
-    seed: u64,
     bits: &[bool],
     rules: Rules,
     seen: &mut Seen,
 ) -> Result<(), AllocError> {
     let (found, rest) = searched(rt, alloc, rules, bits)?;
     let (wanted, after) = defined(alloc, rules, bits)?;
-    assert!(rt;
-        found.as_slice() == wanted.as_slice(),
-        "{rules:?} at {seed}"
-    );
-    assert!(rt; rest == after, "{rules:?} at {seed}");
+    assert!(rt; found.as_slice() == wanted.as_slice());
+    assert!(rt; rest == after);
     for place in &found {
         seen.add(place, rules.verify);
     }
@@ -553,7 +553,7 @@ fn check_tolerance(
         for either in [false, true] {
             let mut rules = rules_of(tolerance, fly, either, block_bits_of(seed));
             rules.verify = ((seed % 3 + u64::from(tolerance) + u64::from(fly)) % 3) as u8;
-            check_places(rt, alloc, seed, bits, rules, seen)?;
+            check_places(rt, alloc, bits, rules, seen)?;
         }
     }
     Ok(())
