@@ -132,9 +132,10 @@ impl BufferReceiver {
     {
         let most = reports.len();
         let mut taker = BufferItems::over(frames, reports);
+        let decoder = |config: &Config, words: &mut [_]| decode_columns_alone(config, words);
         let went = self
             .receiver
-            .receive(&Alone, &decode_columns_alone, octets, watch, &mut taker);
+            .receive(&Alone, &decoder, octets, watch, &mut taker);
         *written = Written {
             reports: taker.count as u64,
             octets: taker.octets as u64,
@@ -206,9 +207,8 @@ impl BufferReceiver {
     {
         let most = reports.len();
         let mut taker = BufferItems::over(frames, reports);
-        let ended = self
-            .receiver
-            .end(&Alone, &decode_columns_alone, watch, &mut taker);
+        let decoder = |config: &Config, words: &mut [_]| decode_columns_alone(config, words);
+        let ended = self.receiver.end(&Alone, &decoder, watch, &mut taker);
         *written = Written {
             reports: taker.count as u64,
             octets: taker.octets as u64,

@@ -251,7 +251,8 @@ fn receive_by_workers(
 }
 
 fn feed_alone(receiver: &mut Receiver, octets: &[u8], taken: &mut Digest) -> Result<(), RecvError> {
-    if receiver.receive(&Alone, &decode_columns_alone, octets, &mut NoWatch, taken) {
+    let decoder = |config: &Config, words: &mut [_]| decode_columns_alone(config, words);
+    if receiver.receive(&Alone, &decoder, octets, &mut NoWatch, taken) {
         Ok(())
     } else {
         Err(RecvError::Stopped)
@@ -259,7 +260,8 @@ fn feed_alone(receiver: &mut Receiver, octets: &[u8], taken: &mut Digest) -> Res
 }
 
 fn finish_alone(receiver: &mut Receiver, taken: &mut Digest) -> Result<u64, RecvError> {
-    match receiver.end(&Alone, &decode_columns_alone, &mut NoWatch, taken) {
+    let decoder = |config: &Config, words: &mut [_]| decode_columns_alone(config, words);
+    match receiver.end(&Alone, &decoder, &mut NoWatch, taken) {
         Some(totals) => Ok(totals.bits),
         None => Err(RecvError::Stopped),
     }
