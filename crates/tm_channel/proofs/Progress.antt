@@ -25,7 +25,7 @@ use Rattle.tm_inner.proofs.PlainBits.{bits-nil}
 use Rattle.tm_sync.specs.declared.found.Found.{Found}
 use Rattle.tm_channel.specs.Items.{ItemValue, AreItemsOf}
 use Rattle.tm_channel.specs.Due.{due}
-use Rattle.tm_channel.specs.OctetReceiving.{AreKnown, Decoded, Progress, ReceivedAt, Searched, Stages, bits_of_blocks}
+use Rattle.tm_channel.specs.OctetReceiving.{AreKnown, Decoded, IsSearched, Progress, ReceivedAt, Searched, Stages, bits_of_blocks}
 use Rattle.tm_channel.specs.declared.bit_receiver.BitReceiver.{BitReceiver}
 use Rattle.tm_channel.proofs.AllBits.{due-nil}
 use Rattle.tm_channel.proofs.FirstStage.{GoesOn, NotesRun, Runs, Stays, phase-stays, plain-none, run-of, stands-read}
@@ -176,7 +176,8 @@ run-step took c d r m now origin taker taker_now given taken blocks ready done s
     let run = run-of c d given blocks ready r m origin coded.0 was.of.0 was.of.1 coded.1 later was.inner notes in
     let has = run-has c coded.0 phase origin blocks ready r m was.items was.of.1 run.0 searched
     (subst (λ (l : List Bool). AreKnown c.inner c at (length l) r) is was.known) in
-    let it = searched-more took c at after r m now taker taker_now (bits_of_blocks blocks) (bits_of_blocks ready) both
+    let it = searched-more IsSearched took c at after r m now taker taker_now (bits_of_blocks blocks)
+    (bits_of_blocks ready) both
     was.items was.of.1 notes.0 p (all_bits-append blocks ready) (omega (arith, run.0.few))
     (λ n below. symbols-more c phase taken blocks ready n (omega (arith, below, ap length is))) has.0 searched in
     let config = p.config ∙ ap (λ (v : BitReceiver). v.batch.config) notes.0 ∙ was.of.1 in
@@ -307,7 +308,7 @@ plain-step took c d r now taker taker_now given taken blocks piece done none p i
     subst (λ (k : Configuration). length (inner_bits k given blocks) ≤ 8 * length given) was.of.0
     (first-few d.config (skip_of d.chosen) given blocks
     (stands-first d given blocks (subst (InnerDecoderStandsFor d given) (append-nil blocks) was.inner))) in
-    let it = searched-more took c at at r r now taker taker_now bits piece
+    let it = searched-more IsSearched took c at at r r now taker taker_now bits piece
     (inner_bits c given blocks) was.items was.of.1
     refl p is (omega (arith, most, few)) (λ n below. refl)
     (plain-has c (skip_of d.chosen) given blocks bits r r was.of.1 none refl few

@@ -17,7 +17,7 @@ use Rattle.tm_inner.proofs.PlainBits.{plain-few}
 use Rattle.tm_inner.proofs.SymbolPlaces.{symbol-stays}
 use Rattle.tm_channel.specs.Items.{ItemValue}
 use Rattle.tm_channel.specs.Origins.{AreAt, AreSpaced, Noted, origin_at, place_symbol, symbol_by}
-use Rattle.tm_channel.specs.OctetReceiving.{AreKnown, HasSymbols, Notes, NotesOrigin, ReceivedAt, Searched, bits_of_blocks}
+use Rattle.tm_channel.specs.OctetReceiving.{AreKnown, HasSymbols, IsSearched, Notes, NotesOrigin, Receives, Searched, bits_of_blocks}
 use Rattle.tm_channel.specs.declared.bit_receiver.BitReceiver.{BitReceiver}
 use Rattle.tm_channel.proofs.KeptSymbols.{stands-noted}
 use Rattle.tm_channel.proofs.ReceivedPieces.{all_bits-append}
@@ -100,20 +100,20 @@ known-same (Some rate) c at then count r same known =
 -- ---- further bits
 
 -- an origin may have been noted before them; all symbols are known then
-pub searched-more : {T : Type 0} (took : T → ItemValue → T → Type 0) (c : Configuration) (at then : ℕ → ℕ)
+pub searched-more : {T : Type 0}
+    (Is : Configuration → (ℕ → ℕ) → ℕ → List Bool → BitReceiver → List ItemValue → Type 0)
+    (took : T → ItemValue → T → Type 0) (c : Configuration) (at then : ℕ → ℕ)
     (r m now : BitReceiver) (taker taker_now : T) (bits piece all : List Bool) (items : List ItemValue)
-    → r.batch.config ≡ c → Notes r m → (p : ReceivedAt took m now taker taker_now piece) → all ≡ bits ++ piece
-    → length all < 2 ^ 63 → ((n : ℕ) → n < length bits → then n ≡ at n) → HasSymbols m (length all) then
-    → Searched c at (length bits) bits r items
-    → Searched c then (length all) all now (items ++ p.items) × HasSymbols now (length all) then
-searched-more took c at then r m now taker taker_now bits piece all items of notes p is few same has s =
+    → r.batch.config ≡ c → Notes r m → (p : Receives IsSearched Is took m now taker taker_now piece)
+    → all ≡ bits ++ piece → length all < 2 ^ 63 → ((n : ℕ) → n < length bits → then n ≡ at n)
+    → HasSymbols m (length all) then → Searched c at (length bits) bits r items
+    → Is c then (length all) all now (items ++ p.items)
+searched-more Is took c at then r m now taker taker_now bits piece all items of notes p is few same has s =
     let both = bits ++ piece in
     let count = length both in
     let has_both = subst (λ (l : List Bool). HasSymbols m (length l) then) is has in
-    subst (λ (l : List Bool). Searched c then (length l) l now (items ++ p.items) × HasSymbols now (length l) then)
-    (sym is)
-    (subst (λ (k : Configuration). Searched k then count bits m items
-    → Searched k then count both now (items ++ p.items) × HasSymbols now count then)
+    subst (λ (l : List Bool). Is c then (length l) l now (items ++ p.items)) (sym is)
+    (subst (λ (k : Configuration). Searched k then count bits m items → Is k then count both now (items ++ p.items))
     (ap (λ (v : BitReceiver). v.batch.config) notes ∙ of)
     (λ was. p.on bits items count then (omega (arith, few, ap length is)) (omega arith) (was, has_both)) (record {
       stands = stands-noted r m bits notes s.stands;

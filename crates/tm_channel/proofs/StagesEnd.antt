@@ -23,7 +23,7 @@ use Rattle.tm_channel.specs.Handing.{AreReceived}
 use Rattle.tm_channel.specs.Items.{ItemValue, AreItems}
 use Rattle.tm_channel.specs.Most.{AreFew}
 use Rattle.tm_channel.specs.Origins.{AreAt, place_symbol}
-use Rattle.tm_channel.specs.OctetReceiving.{AreKnown, Decoded, HasSymbols, IsSearched, NotesOrigin, Progress, ReceivedAt, ReceivedLast, Searched, Stages, StagesFor, bits_of_blocks}
+use Rattle.tm_channel.specs.OctetReceiving.{AreKnown, Decoded, HasSymbols, IsEnded, IsSearched, NotesOrigin, Progress, Receives, Searched, Stages, StagesFor, bits_of_blocks}
 use Rattle.tm_channel.specs.declared.bit_receiver.BitReceiver.{BitReceiver}
 use Rattle.tm_channel.specs.declared.totals.Totals.{Totals}
 use Rattle.tm_channel.proofs.FewItems.{ends-few}
@@ -156,18 +156,16 @@ last-has c now last ready front noted origin left count slips given done l stand
 
 pub ends : {T : Type 0} (took_phase : T → ℕ → ℕ → T → Type 0) (took : T → ItemValue → T → Type 0) (s : Stages)
     (settled : InnerDecoding) (now : Stages) (last : InnerDecoding) (ready : List WindowBlock)
-    (noted bits : BitReceiver)
-    (origin left : ℕ) (totals : Totals) (taker middle third taker_now : T) → Settles s.inner settled
+    (noted after : BitReceiver)
+    (origin left : ℕ) (totals : Totals) (taker middle taker_now : T) → Settles s.inner settled
     → (d : Decoded (on_handed took_phase took) (record { inner = settled; bits = s.bits }) now taker middle [])
     → LastRun now.inner last ready now.bits noted origin left totals.bits totals.slips
-    → (p : ReceivedAt took noted bits middle third (bits_of_blocks ready))
-    → (q : ReceivedLast took bits third taker_now)
+    → (p : Receives IsSearched IsEnded took noted after middle taker_now (bits_of_blocks ready))
     → (given : List ℕ) (done : List (Handed ItemValue)) → StagesFor s given done
-    → AreReceived s.inner.config given (done ++ (d.more ++ map Item (p.items ++ q.items))) totals
-    × (IsAccepted s.inner.config
-    → AreFew s.inner.config 0 (items_of (d.more ++ map Item (p.items ++ q.items))))
-ends took_phase took s settled now last ready noted bits origin left totals taker middle third taker_now settles d l p q
-    given done stood =
+    → AreReceived s.inner.config given (done ++ (d.more ++ map Item p.items)) totals
+    × (IsAccepted s.inner.config → AreFew s.inner.config 0 (items_of (d.more ++ map Item p.items)))
+ends took_phase took s settled now last ready noted after origin left totals taker middle taker_now settles d l p given
+    done stood =
     let c = s.inner.config in
     let chosen = now.inner.chosen in
     let phase = skip_of chosen in
@@ -175,7 +173,7 @@ ends took_phase took s settled now last ready noted bits origin left totals take
     let was = e.progress.items in
     let front = stood.blocks ++ e.next in
     let all = front ++ ready in
-    let others = p.items ++ q.items in
+    let others = p.items in
     let at = symbol_at c phase front in
     let then = symbol_at c phase all in
     let whole = subst (λ (k : Configuration). AreInnerBlocks k phase given all left
@@ -186,22 +184,13 @@ ends took_phase took s settled now last ready noted bits origin left totals take
     omega (arith, ap length piece, length-append (inner_bits c given front) (bits_of_blocks ready)) in
     let few_bits : length (inner_bits c given all) < 2 ^ 63 =
     omega (arith, whole-few c phase given all left whole.0, e.stands.few) in
-    let it = searched-more took c at then now.bits noted bits middle third (inner_bits c given front)
+    let it = searched-more IsEnded took c at then now.bits noted after middle taker_now (inner_bits c given front)
     (bits_of_blocks ready) (inner_bits c given all) was e.progress.of.1 l.notes.0 p piece few_bits
     (symbols-more c phase given front ready)
     (last-has c now last ready front noted origin left totals.bits totals.slips given
     (done ++ d.more) l e.stands e.here long
     e.progress) e.progress.searched in
-    let config : bits.batch.config ≡ c = p.config ∙ ap (λ (v : BitReceiver). v.batch.config) l.notes.0
-    ∙ e.progress.of.1 in
-    let number = length (inner_bits c given all) in
-    let done_all = was ++ p.items in
-    let last_all = subst (λ (k : Configuration). IsSearched k then number (inner_bits c given all) bits done_all
-    → AreItems k (inner_bits c given all) (done_all ++ q.items)
-    × AreAt then number (map place_symbol (done_all ++ q.items)))
-    config (q.all (inner_bits c given all) done_all number then few_bits (omega arith)) it in
-    let joined_items = append_assoc was p.items q.items in
-    let items = subst (AreItems c (inner_bits c given all)) joined_items last_all.0 in
+    let items = it.0 in
     let on = behind s now given given given done (done ++ d.more) e.next stood
     (λ k is. d.stays k (settles.on.stays k is)) e.progress in
     let joined = append_assoc stood.blocks e.next ready in
@@ -217,8 +206,7 @@ ends took_phase took s settled now last ready noted bits origin left totals take
           record { blocks = all; left = left; are_blocks = whole.0; are_bits = refl },
           (λ i. record { bits = whole.1 i; slips = whole.2 i }),
           items,
-          have-of then number (was ++ others)
-              (subst (λ k. AreAt then number (map place_symbol k)) joined_items last_all.1),
+          have-of then (length (inner_bits c given all)) (was ++ others) it.1,
         );
         are = sym (append_assoc done d.more (map Item others)) ∙ further chosen (done ++ d.more) was others e.are;
       },

@@ -230,12 +230,17 @@ abbrev pub IsSettled : Configuration → (at : ℕ → ℕ) → (count : ℕ) �
 IsSettled c at count bits r items = IsSearched c at count bits r items
     × Holds r.finder r.recent r.batch (due_count r.batch.config bits) bits
 
--- whichever symbols they have, those of the codeblocks that are stored are known still
-abbrev pub KeepsSymbols : BitReceiver → BitReceiver → Type 0
-KeepsSymbols before now = (handed : ℕ) (bits : List Bool) (found : List Found) (count : ℕ)
-    (at : ℕ → ℕ) → length bits < bits_bound → length bits ≤ count
-    → HoldsFound before.finder before.recent before.batch handed bits found
-    → HasSymbols before count at → HasSymbols now count at
+-- they were the last, and the items of all their places were handed over
+abbrev pub IsEnded : Configuration → (at : ℕ → ℕ) → (count : ℕ) → List Bool → BitReceiver
+    → List ItemValue → Type 0
+IsEnded c at count bits r items = AreItems c bits items × AreAt at count (map place_symbol items)
+
+-- it was given these bits, whose symbols are known, and found these of their places by now; the
+-- items of the first `handed` ones were handed over
+pub record HasFound (r : BitReceiver) (at : ℕ → ℕ) (count handed : ℕ) (bits : List Bool)
+    (found : List Found) : Type 0 where
+  pub holds : HoldsFound r.finder r.recent r.batch handed bits found
+  pub has : HasSymbols r count at
 
 -- ---- bits that are received
 
@@ -280,17 +285,6 @@ NotesOrigin c before now rate origin = c.inner ≡ Some rate → (bits : List Bo
     → ((n : ℕ) → before.finder.passed ≤ n
     → symbol_by (Some rate) c (origin_at now.origins.origins n) n ≡ after n)
     × ((to : ℕ) → length bits + c.keep ≤ to → AreSpaced c.keep to now.origins.origins)
-
--- the items that were not due before the end of the bits was known were handed over
-pub record ReceivedLast {T : Type 0} (took : T → ItemValue → T → Type 0) (before : BitReceiver)
-    (taker taker_now : T) : Type 0 where
-  pub items : List ItemValue
-  pub handed : HandedOver took taker items taker_now
-  pub all : (bits : List Bool) (done : List ItemValue) (count : ℕ) (at : ℕ → ℕ)
-      → length bits < bits_bound → length bits ≤ count
-      → IsSearched before.batch.config at count bits before done
-      → AreItems before.batch.config bits (done ++ items)
-      × AreAt at count (map place_symbol (done ++ items))
 
 -- ---- octets that are taken
 

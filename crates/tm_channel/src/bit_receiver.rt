@@ -12,7 +12,7 @@ ghost use Rattle.tm_channel.specs.ColumnDecoding.{IsColumnDecoder};
 ghost use Rattle.tm_channel.specs.Items.{ItemValue};
 ghost use Rattle.tm_channel.specs.Origins.{AreHandedSymbols, place_symbol};
 ghost use Rattle.tm_channel.specs.Receiving.{Agree, AreItemsFor, AreWritten, Fills, HoldsFound, IsHanded, IsReady, piece_size, run_size, waiting_bits};
-ghost use Rattle.tm_channel.specs.OctetReceiving.{AreSpare, AwaitsBits, Gathered, IsSearched, IsSettled, KeepsSymbols, Notes, NotesOrigin, ReceivedAt, ReceivedLast, Receives, bits_of_blocks, spare_bits};
+ghost use Rattle.tm_channel.specs.OctetReceiving.{AreSpare, AwaitsBits, Gathered, HasFound, IsEnded, IsSearched, IsSettled, Notes, NotesOrigin, ReceivedAt, Receives, bits_of_blocks, spare_bits};
 
 use crate::item::ItemWatch;
 use crate::origins::Origins;
@@ -153,8 +153,7 @@ impl BitReceiver {
     )
         requires decoder { IsColumnDecoder F.Fn decoder.now }
         requires awaits { AwaitsBits self.old }
-        ensures config { self.new.batch.config ≡ self.old.batch.config }
-        ensures handed { ReceivedLast T.took self.old taker.old taker.new }
+        ensures handed { Receives IsSearched IsEnded T.took self.old self.new taker.old taker.new [] }
     {
         self.keep_all(decoder, taker);
         self.hand_all(decoder, taker);
@@ -246,14 +245,12 @@ impl BitReceiver {
         ensures most { length self.new.batch.stored ≤ self.new.batch.config.batch }
         ensures left { IsTrue result → length self.new.recent.bits < length self.old.recent.bits }
         ensures ready { result ≡ false → IsReady self.new.finder self.new.recent self.new.batch }
-        ensures none { result ≡ false → (handed : ℕ) (bits : List Bool) (found : List Found) → length bits < bits_bound
-            → HoldsFound self.old.finder self.old.recent self.old.batch handed bits found
-            → HoldsFound self.new.finder self.new.recent self.new.batch handed bits found
-            × (places_in self.old.batch.config bits ≡ found) }
-        ensures kept { IsTrue result → (next : List Found) × ((handed : ℕ) (bits : List Bool) (found : List Found)
-            → length bits < bits_bound → HoldsFound self.old.finder self.old.recent self.old.batch handed bits found
-            → HoldsFound self.new.finder self.new.recent self.new.batch handed bits (found ++ next)) }
-        ensures symbols { KeepsSymbols self.old self.new }
+        ensures none { result ≡ false → (at : ℕ → ℕ) (count handed : ℕ) (bits : List Bool) (found : List Found)
+            → length bits < bits_bound → length bits ≤ count → HasFound self.old at count handed bits found
+            → HasFound self.new at count handed bits found × (places_in self.old.batch.config bits ≡ found) }
+        ensures kept { IsTrue result → (next : List Found) × ((at : ℕ → ℕ) (count handed : ℕ) (bits : List Bool)
+            (found : List Found) → length bits < bits_bound → length bits ≤ count
+            → HasFound self.old at count handed bits found → HasFound self.new at count handed bits (found ++ next)) }
     {
         match self.finder.next(&mut self.recent) {
             None => false,

@@ -4,9 +4,10 @@ use Rattle.tm_base.proofs.Handing.{HandedOver-append}
 use Rattle.tm_base.proofs.HandedItems.{HandedOver-items}
 use Rattle.tm_inner.specs.InnerDecoding.{ready_in}
 use Rattle.tm_inner.specs.Phase.{IsChosen}
-use Rattle.tm_channel.specs.OctetReceiving.{Stages}
+use Rattle.tm_channel.specs.OctetReceiving.{IsEnded, IsSearched, Receives, Stages, bits_of_blocks}
 use Rattle.tm_channel.specs.declared.totals.Totals.{Totals}
 use Rattle.tm_channel.proofs.FirstStage.{Settles, settles-of}
+use Rattle.tm_channel.proofs.ReceivedPieces.{receives-after}
 use Rattle.tm_channel.proofs.StagesEnd.{at-end, ends}
 use Rattle.tm_channel.proofs.WatchedStages.{watched-last}
 use Rattle.tm_channel.proofs.pipeline.end.Given.{Over}
@@ -34,27 +35,28 @@ returns-clause-handed g c =
     let s : Stages = record { inner = c.args.inner.now; bits = c.args.stream.now } in
     let d = c.take_decoded in
     let l = c.last-end in
-    let p = c.receive_ready.ensures.handed in
-    let q = c.hand_last.ensures.handed in
-    let middle = c.receive_ready.new.taker in
+    let noted = c.note.new.self in
+    let after = c.hand_last.new.self in
     let now = c.hand_last.new.taker in
     let totals : Totals = record { bits = l.result.bits; slips = l.result.slips } in
-    let others = p.items ++ q.items in (
-      d.ensures.decoded.more ++ map Item others,
+    let bits = bits_of_blocks (ready_in l.new.self.queue) in
+    let p : Receives IsSearched IsEnded t.took noted after d.new.taker now bits =
+    receives-after IsSearched IsSearched IsEnded t.took noted c.receive_ready.new.self after d.new.taker
+    c.receive_ready.new.taker now bits c.receive_ready.ensures.handed c.hand_last.ensures.handed in (
+      d.ensures.decoded.more ++ map Item p.items,
       HandedOver-append (on_handed t.took_phase t.took) c.args.taker.now d.new.taker now d.ensures.decoded.more
-          (map Item others) d.ensures.decoded.handed
-          (HandedOver-items t.took_phase t.took d.new.taker now others
-          (HandedOver-append t.took d.new.taker middle now p.items q.items p.handed q.handed)),
+          (map Item p.items) d.ensures.decoded.handed
+          (HandedOver-items t.took_phase t.took d.new.taker now p.items p.handed),
       ends t.took_phase t.took s c.settle.new.self (record { inner = d.new.inner; bits = d.new.stream }) l.new.self
-          (ready_in l.new.self.queue) c.note.new.self c.receive_ready.new.self c.origin.result l.result.leftover totals
-          c.args.taker.now d.new.taker middle now (settled-by g (goal.at.returns-clause-handed g c).After-last-end)
+          (ready_in l.new.self.queue) noted after c.origin.result l.result.leftover totals c.args.taker.now d.new.taker
+          now (settled-by g (goal.at.returns-clause-handed g c).After-last-end)
           d.ensures.decoded (record {
             ending = l.ensures.ends;
             chosen = l.ensures.phase.0;
             config = l.ensures.config;
             one = l.ensures.one;
             notes = (c.note.ensures.same, c.note.ensures.noted, c.origin.ensures.value, c.origin.ensures.few);
-          }) p q,
+          }) p,
     )
 
 pub returns-clause-watched : goal.returns-clause-watched

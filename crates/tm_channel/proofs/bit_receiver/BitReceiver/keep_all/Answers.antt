@@ -37,7 +37,7 @@ loop-self-preserved g c =
             handed = some.2;
             on = λ given done count at few le was.
                 settling-handed before middle now stored.0 some.0 count at keep.config hand.finder hand.recent
-                hand.config hand.origins stored.1 keep.symbols some.1 some.3 (given ++ []) done few le
+                hand.config hand.origins stored.1 some.1 some.3 (given ++ []) done few le
                 (subst (λ (l : List Bool). Settling before.batch.config at count l before done) (sym (append-nil given))
                 was);
           });
@@ -53,4 +53,4 @@ returns-clause-settles g c =
     [] [] c.loop-self.invariant.settling
     (receives-step Settling IsSettled g.T.ItemWatch.took before now taker keep.config keep.origins
     (λ all done count at few le was. settling-all before now keep.config (keep.none c.loop-self-test.false)
-    keep.symbols all done count at few le was))
+    all done count at few le was))
