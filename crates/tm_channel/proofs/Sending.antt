@@ -22,7 +22,8 @@ use Rattle.tm_channel.specs.Sending.{Framed, Makes, Sending, SenderStandsFor, Se
 -- ---- lists
 
 -- a piece was put after a prefix
-pub prefix-put : (count taken : ℕ) (frame piece new : List ℕ) → new ≡ piece → length piece ≡ taken → count ≤ length frame
+pub prefix-put : (count taken : ℕ) (frame piece new : List ℕ) → new ≡ piece → length piece ≡ taken
+    → count ≤ length frame
     → take (count + taken) (put_mid count ((count + taken) - count) frame new) ≡ take count frame ++ piece
 prefix-put count taken frame piece new is size within =
     take-put_mid count ((count + taken) - count) frame new (count + taken)
@@ -147,6 +148,13 @@ framed-one c held octets frame unit is sized some made long =
       whole = omega (arith, ap length is, length-append held octets, sized);
       size = omega (arith, long);
     }
+
+-- and nothing was held before it
+pub framed-whole : (c : Configuration) (held frame unit : List ℕ) → held ≡ [] → length frame ≡ c.frame_length
+    → 0 < c.frame_length → unit ≡ cadu c frame → length unit ≡ unit_size c → Framed c held frame held unit
+framed-whole c held frame unit none sized some made long =
+    subst (λ (l : List ℕ). Framed c l frame l unit) (sym none)
+    (framed-one c [] frame frame unit refl sized some made long)
 
 -- the octets that are held after a longer list
 after-more : (size : ℕ) (given piece : List ℕ) → 0 < size

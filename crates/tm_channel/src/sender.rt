@@ -1,7 +1,7 @@
 // The sender: whole frames to symbols, from octets that are given in pieces.
 ghost use Rattle.std.specs.Prelude.{◌≡◌, ◌≢◌, ◌↔◌, ℕ, ◌+◌, ◌-◌, ◌*◌, ◌<◌, ◌≤◌, List, [], length, take, IsTrue, OnOk, IsErrOf, false};
 ghost use Rattle.tm_base.specs.Outside.{Rose};
-ghost use Rattle.tm_codeblock.specs.Cadu.{longest_cadu, unit_size};
+ghost use Rattle.tm_codeblock.specs.Cadu.{unit_size};
 ghost use Rattle.tm_codeblock.specs.Frames.{after_frames};
 ghost use Rattle.tm_inner.specs.Sending.{most_symbols};
 ghost use Rattle.tm_channel.specs.Sending.{Framed, Makes, SenderStandsFor, Sends, SendsPrefix, most_made};
@@ -29,6 +29,7 @@ pub struct Sender {
 impl Model for Sender {
     ghost use Rattle.std.specs.Prelude.{◌≡◌, ◌<◌, ◌≤◌, take};
     ghost use Rattle.tm_config.specs.Configuration.{longest_codeblock};
+    ghost use Rattle.tm_codeblock.specs.Cadu.{longest_cadu, unit_size};
     ghost use Rattle.tm_channel.specs.Sending.{Sending};
 
     ghost Value = { Sending };
@@ -40,7 +41,7 @@ impl Model for Sender {
     } };
 
     ghost invariant = { λ s. (s.frame.count < s.config.frame_length) × (s.config.frame_length ≤ longest_codeblock)
-        × (s.inner.config ≡ s.config) };
+        × (s.inner.config ≡ s.config) × (unit_size s.config ≤ longest_cadu) };
 }
 
 impl Sender {
@@ -70,7 +71,8 @@ impl Sender {
     }
 
     /// Takes octets from the start of `octets`, up to the end of the frame. Where the frame is whole then, puts the
-    /// symbols of its unit at the start of `room`. Returns how many octets were taken, and how many were put there.
+    /// symbols of its unit at the start of `room`, which is to have place for them: `ROOM` octets do for any
+    /// configuration. Returns how many octets were taken, and how many were put there.
     pub fn symbols(&mut self, octets: &[u8], room: &mut [u8]) -> (usize, usize)
         requires room { self.old.config.frame_length ≤ length self.old.held + length octets.now
             → most_symbols self.old.config * unit_size self.old.config ≤ length room.old }
@@ -82,6 +84,9 @@ impl Sender {
         ensures few { result.1 + most_made self.new (length octets.now - result.0)
             ≤ most_made self.old (length octets.now) }
     {
+        if self.inner.is_plain() {
+            return self.frame.take(&self.config, octets, room);
+        }
         let (taken, size) = self.frame.take(&self.config, octets, &mut self.unit);
         let count = self.inner.symbols(&self.unit[..size], room);
         (taken, count)
@@ -145,22 +150,24 @@ struct PartialFrame {
 
 impl PartialFrame {
     // Takes octets from the start of `octets`, up to the end of the frame. Where the frame is whole then, puts its unit
-    // at the start of `unit`. Returns how many octets were taken, and the length of the unit, or 0 where there is none.
-    fn take(
-        &mut self,
-        config: &Config,
-        octets: &[u8],
-        unit: &mut [u8; LONGEST_CADU],
-    ) -> (usize, usize)
-        requires { self.old.count < config.now.frame_length }
+    // at the start of `room`. Returns how many octets were taken, and the length of the unit, or 0 where there is none.
+    fn take(&mut self, config: &Config, octets: &[u8], room: &mut [u8]) -> (usize, usize)
+        requires partial { self.old.count < config.now.frame_length }
+        requires room { config.now.frame_length ≤ self.old.count + length octets.now
+            → unit_size config.now ≤ length room.old }
         ensures some { 0 < length octets.now → 0 < result.0 }
         ensures most { result.0 ≤ length octets.now }
-        ensures fits { result.1 ≤ longest_cadu }
+        ensures fits { result.1 ≤ length room.old }
         ensures partial { self.new.count < config.now.frame_length }
         ensures framed { Framed config.now (take self.old.count self.old.octets) (take result.0 octets.now)
-            (take self.new.count self.new.octets) (take result.1 unit.new) }
+            (take self.new.count self.new.octets) (take result.1 room.new) }
     {
         let length = config.length() as usize;
+        let size = codeblock_size(config) + 4;
+        if self.count == 0 && octets.len() >= length {
+            cadu(config, &octets[..length], &mut room[..size]);
+            return (length, size);
+        }
         let taken = octets.len().min(length - self.count);
         let end = self.count + taken;
         self.octets[self.count..end].copy_from_slice(&octets[..taken]);
@@ -169,8 +176,7 @@ impl PartialFrame {
             return (taken, 0);
         }
         self.count = 0;
-        let size = codeblock_size(config) + 4;
-        cadu(config, &self.octets[..end], &mut unit[..size]);
+        cadu(config, &self.octets[..end], &mut room[..size]);
         (taken, size)
     }
 }

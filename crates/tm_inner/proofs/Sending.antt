@@ -1,5 +1,6 @@
 -- An inner sender that is given nothing, and one piece after another.
 use Rattle.std.proofs.Common.{◌≡◌, ℕ, Bool, true, false, List, [], ◌++◌, Option, Some, None, refl, sym, ap, ◌∙◌, subst}
+use Rattle.std.specs.Option.{is_some}
 use Rattle.tm_base.specs.Bits.{AreOctets, bits_of}
 use Rattle.tm_base.specs.Written.{Wrote, WrotePrefix}
 use Rattle.tm_base.specs.Pieces.{further}
@@ -8,7 +9,7 @@ use Rattle.tm_config.specs.Configuration.{Configuration}
 use Rattle.tm_conv.specs.declared.rates.Rate.{Rate}
 use Rattle.tm_conv.specs.Encoding.{Encoding}
 use Rattle.tm_inner.specs.Symbols.{low_level, plain_symbols, symbols_by, symbols_of_octets}
-use Rattle.tm_inner.specs.Sending.{EncodesFor, InnerSending, IsEncoderOf, InnerSenderStandsFor, InnerSends, InnerSendsPrefix, InnerMakes, encoded, spread}
+use Rattle.tm_inner.specs.Sending.{EncodesFor, InnerSending, IsEncoderOf, InnerSenderStandsFor, InnerSends, InnerSendsPrefix, InnerMakes, KeepsFor, encoded, spread}
 use Rattle.tm_inner.proofs.Symbols.{octets-due, spread-due, symbols-go_on}
 use Rattle.tm_inner.proofs.Coding.{GoesOnBy, symbols-due}
 
@@ -79,3 +80,19 @@ pub bits-are : (c : Configuration) (low : ℕ) (given piece : List ℕ) → IsEn
 bits-are c low given piece none each same =
     plain-due c false given piece (spread low piece) none each
     (spread-due (low_level c.soft) given piece ∙ ap (λ (n : ℕ). spread n piece) (sym same))
+
+-- ---- octets that are sent as they are
+
+no-encoder : (e : Option Encoding) → is_some e ≡ false → e ≡ None
+no-encoder None none = refl
+no-encoder (Some encoder) none = absurd cc
+
+pub plain-makes : (s : InnerSending) (octets : List ℕ) → IsEncoderOf s.config s.encoder → is_some s.encoder ≡ false
+    → true ≡ s.config.pack → AreOctets octets → InnerMakes s s octets octets
+plain-makes s octets of none packed small =
+    let is = no-encoder s.encoder none in
+    record {
+      config = refl;
+      stands = λ given stood. subst (λ (e : Option Encoding). KeepsFor e (given ++ octets)) (sym is) tt;
+      due = λ given stood. octets-are s.config given octets (subst (IsEncoderOf s.config) is of) packed small;
+    }

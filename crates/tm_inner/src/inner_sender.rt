@@ -1,5 +1,6 @@
 // The sender's last stage.
 ghost use Rattle.std.specs.Prelude.{◌≡◌, ◌≢◌, ◌↔◌, ◌*◌, ◌≤◌, ℕ, List, ◌++◌, [], length, take, false, true, IsTrue, OnOk, IsErrOf};
+ghost use Rattle.tm_base.specs.Bits.{AreOctets};
 ghost use Rattle.tm_base.specs.Outside.{Rose};
 ghost use Rattle.tm_base.specs.Pieces.{further};
 ghost use Rattle.tm_inner.specs.Symbols.{symbols_of_octets};
@@ -74,6 +75,15 @@ impl InnerSender {
         ensures { self.new ≡ record self.old { has_failed = true } }
     {
         self.has_failed = true;
+    }
+
+    /// Whether the symbols of octets are these octets: with no inner code, where bits are packed.
+    pub fn is_plain(&self) -> bool
+        ensures one { IsTrue result → most_symbols self.now.config ≡ 1 }
+        ensures same { IsTrue result → (octets : List ℕ) → AreOctets octets
+            → InnerMakes self.now self.now octets octets }
+    {
+        self.encoder.is_none() && is_packed(&self.config)
     }
 
     /// Puts the symbols of the next octets at the start of `room`, most significant bit first: with an inner code an
