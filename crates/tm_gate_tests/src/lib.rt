@@ -10,3 +10,5 @@ mod draws;
 mod gates;
 #[cfg(test)]
 mod shares;
+#[cfg(test)]
+mod windows;

@@ -19,16 +19,18 @@ mod queue;
 mod run;
 mod sharing;
 mod slipping;
-#[cfg(test)]
-mod tests;
 mod window_run;
 
+pub use candidate::Candidate;
 pub use choosing::{Chosen, choose, octets_needed};
 pub use crew::{Alone, Crew, Threaded};
 pub use decoder::{AllError, Decoder, FeedError, decode_all};
 pub use laws::{
     closed_prefix_law, due_windows_law, one_windows_law, plain_windows_law, undisturbed_law,
 };
+pub use looks::{Looks, first_drop_shared};
 pub use phase_laws::{phase_law, slip_law, whole_window_law};
 pub use queue::{QueueSettings, STREAM_BOUND, WindowQueue};
+pub use sharing::decode_shared;
 pub use slipping::{octets_seen, slip, steps_seen};
+pub use window_run::WindowRun;

@@ -83,7 +83,7 @@ pub(crate) fn next_drop<C: Crew>(crew: &C, looks: &Looks<'_>, workers: usize, la
 /// The first of the windows from number `first` on, up to number `last`, before which octets are dropped, or `last`
 /// where there is none: by at most `workers` workers, which enter the gate before each look, where there are enough
 /// looks to share out, and else by the caller, which enters none.
-pub(crate) fn first_drop_shared<R: Threads + Sync, G: Gate + Sync>(
+pub fn first_drop_shared<R: Threads + Sync, G: Gate + Sync>(
     rt: &R,
     gate: &G,
     looks: &Looks<'_>,

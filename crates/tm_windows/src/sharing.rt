@@ -189,7 +189,7 @@ pub(crate) fn are_shared(shape: WindowShape) -> bool
 
 /// Decodes a window for each candidate of a run: by all workers, which enter the gate before each window, where there
 /// is enough to share out, and else by the first one, which enters none.
-pub(crate) fn decode_shared<R: Threads + Sync, G: Gate + Sync>(
+pub fn decode_shared<R: Threads + Sync, G: Gate + Sync>(
     rt: &R,
     gate: &G,
     decoders: &mut [WindowDecoder],
