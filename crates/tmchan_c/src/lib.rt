@@ -18,8 +18,6 @@ mod refusal;
 mod search;
 mod sender;
 mod stream;
-#[cfg(test)]
-mod tests;
 mod text;
 mod totals;
 mod unit;
