@@ -44,8 +44,8 @@ static ROWS: [(u8, u8); 33] = [
 fn rows_of_the_matrices(rt: HostRuntime) {
     for (number, octet) in ROWS {
         let element = Gf(number);
-        assert!(rt; to_dual(element) == octet, "octet of {number}");
-        assert!(rt; from_dual(octet) == element, "element of {octet}");
+        assert!(rt; to_dual(element) == octet);
+        assert!(rt; from_dual(octet) == element);
         assert!(rt; Basis::Dual.to_octet(element) == octet);
         assert!(rt; Basis::Dual.from_octet(octet) == element);
         assert!(rt; Basis::Poly.to_octet(element) == number);
@@ -81,15 +81,12 @@ fn words_beside_single_octets(rt: HostRuntime) {
             }
             basis.octets_to_elements(&octets[..n], &mut elements[..n]);
             for i in 0..n {
-                assert!(rt;
-                    elements[i] == basis.from_octet(octets[i]),
-                    "element {i} of {n}"
-                );
+                assert!(rt; elements[i] == basis.from_octet(octets[i]));
             }
             let mut back = [0; 255];
             basis.elements_to_octets(&elements[..n], &mut back[..n]);
             for i in 0..n {
-                assert!(rt; back[i] == basis.to_octet(elements[i]), "octet {i} of {n}");
+                assert!(rt; back[i] == basis.to_octet(elements[i]));
             }
         }
     }

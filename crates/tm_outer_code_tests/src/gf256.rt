@@ -23,10 +23,10 @@ static SOME_POWERS: [(u32, u8); 14] = [
 fn powers_of_alpha(rt: HostRuntime) {
     for (i, number) in SOME_POWERS {
         let element = Gf(number);
-        assert!(rt; Gf::exp(i) == element, "power {i}");
-        assert!(rt; Gf(2).pow(i) == element, "power {i} of 2");
+        assert!(rt; Gf::exp(i) == element);
+        assert!(rt; Gf(2).pow(i) == element);
         if number != 0 {
-            assert!(rt; element.log() == i, "logarithm {i}");
+            assert!(rt; element.log() == i);
         }
     }
     assert!(rt; Gf::exp(255) == Gf(1));

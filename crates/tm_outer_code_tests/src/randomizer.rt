@@ -7,10 +7,7 @@ fn sequence_begins_and_repeats(rt: HostRuntime) -> Result<(), Fail> {
     let mut block = [0; 600];
     mask(&mut block);
     for start in [0, 255, 510] {
-        assert!(rt;
-            &block[start..start + 5] == [0xFF, 0x48, 0x0E, 0xC0, 0x9A].as_slice(),
-            "at {start}"
-        );
+        assert!(rt; &block[start..start + 5] == [0xFF, 0x48, 0x0E, 0xC0, 0x9A].as_slice());
     }
     Ok(())
 }

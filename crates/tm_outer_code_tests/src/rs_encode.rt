@@ -88,7 +88,7 @@ fn plain_form(rt: HostRuntime) {
         let mut plain = [Gf(9); 32];
         checks(&params, &info[..n as usize - 32], &mut fast);
         plain_checks(&params, &info[..n as usize - 32], &mut plain);
-        assert!(rt; fast == plain, "at {n}");
+        assert!(rt; fast == plain);
     }
     for n in [17, 100, 255] {
         let params = Params::new(8, n).unwrap();
@@ -96,6 +96,6 @@ fn plain_form(rt: HostRuntime) {
         let mut plain = [Gf(9); 16];
         checks(&params, &info[..n as usize - 16], &mut fast);
         plain_checks(&params, &info[..n as usize - 16], &mut plain);
-        assert!(rt; fast == plain, "at {n}");
+        assert!(rt; fast == plain);
     }
 }

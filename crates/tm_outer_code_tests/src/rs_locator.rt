@@ -133,7 +133,7 @@ fn test_values<L: Ledger>(
     if let Some(locator) = found {
         let size = usize::from(locator.degree) + 1;
         let plain = plain_values_at_places(&locator.coefs[..size], n);
-        assert!(rt; values[..n] == plain[..n], "values for {}", row.name);
+        assert!(rt; values[..n] == plain[..n]);
     }
 }
 

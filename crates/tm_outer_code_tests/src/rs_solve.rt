@@ -109,8 +109,11 @@ fn check_decoded(
     left: &[Gf; 255],
     wanted: &[Gf; 255],
 ) {
-    assert!(rt; answer == row.answer, "for {}", row.name);
-    assert!(rt; *left == *wanted, "for {}", row.name);
+    assert!(rt;
+        answer == row.answer && *left == *wanted,
+        "for {}",
+        row.name
+    );
 }
 
 // The answer of a row, and the word that is left.

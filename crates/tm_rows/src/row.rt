@@ -74,17 +74,24 @@ impl Row {
             "in" => values.append(alloc, text, &mut self.input),
             "through" => once(&mut self.through, text.to_string(alloc)?),
             "cut" => Ok(self.cuts.push(text.parse()?)?),
+            "status" => once(&mut self.status, text.parse()?),
+            "out" => values.append(alloc, text, &mut self.out),
+            "notes" => values.append(alloc, text, &mut self.notes),
+            "refused" => self.refuse(text),
+            _ => self.take_number(field, text),
+        }
+    }
+
+    // Takes a number, of faults or of calls.
+    fn take_number(&mut self, field: &str, text: &str) -> Result<()> {
+        match field {
             "failing read" => once(&mut self.faults.read, text.parse()?),
             "failing write" => once(&mut self.faults.write, text.parse()?),
             "room of out" => once(&mut self.faults.out_room, text.parse()?),
             "room of notes" => once(&mut self.faults.notes_room, text.parse()?),
-            "status" => once(&mut self.status, text.parse()?),
-            "out" => values.append(alloc, text, &mut self.out),
-            "notes" => values.append(alloc, text, &mut self.notes),
             "reads" => once(&mut self.reads, text.parse()?),
             "writes to out" => once(&mut self.out_writes, text.parse()?),
             "writes to notes" => once(&mut self.notes_writes, text.parse()?),
-            "refused" => self.refuse(text),
             _ => bail!("no field has this name"),
         }
     }

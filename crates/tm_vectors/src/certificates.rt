@@ -22,8 +22,8 @@ fn certified(
     cut: usize,
 ) -> Result<Vec<u8>, Fail> {
     let outcome = run_over(rt, alloc, &given(line, input, cut))?;
-    assert!(rt; outcome.status == 0, "{line}, cut {cut}");
-    assert!(rt; outcome.notes.octets().is_empty(), "{line}, cut {cut}");
+    assert!(rt; outcome.status == 0);
+    assert!(rt; outcome.notes.octets().is_empty());
     Ok(outcome.out.octets().to_vec(alloc)?)
 }
 
@@ -49,7 +49,7 @@ fn windows_are_certified_and_checked(rt: HostRuntime) -> Result<(), Fail> {
         "block 0 steps 67 kept 64 metric 0\nblock 1 steps 67 kept 64 metric 0\nblock 2 steps 22 kept 22 metric 0\nblocks 3 bits 150 leftover 0\n";
     for cut in CUTS {
         let octets = certified(&rt, alloc, "tmchan certify --keep 64 --ahead 3", &soft, cut)?;
-        assert!(rt; octets.len() == 41_223, "cut {cut}");
+        assert!(rt; octets.len() == 41_223);
         let line = "tmchan check --keep 64 --ahead 3";
         check_call(
             &rt,

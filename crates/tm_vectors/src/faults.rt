@@ -29,7 +29,7 @@ fn check_read(
     let mut given = decode(1);
     given.failing_read = Some(k);
     let outcome = run_over(rt, alloc, &given)?;
-    assert!(rt; outcome.source.calls() == reads, "read {k}");
+    assert!(rt; outcome.source.calls() == reads);
     check_outcome(
         rt,
         "a read fails",

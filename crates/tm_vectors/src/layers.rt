@@ -77,16 +77,16 @@ fn check_sent(
     let mut sender = Sender::new(config);
     let mut out = MemSink::new(alloc, 500, Vec::new(alloc))?;
     send(&mut sender, octets, size, &mut out)?;
-    assert!(rt; sender.finish() == 1, "pieces of {size}");
-    check_units(rt, out.octets(), size);
+    assert!(rt; sender.finish() == 1);
+    check_units(rt, out.octets());
     Ok(())
 }
 
-fn check_units(rt: &impl Abort, octets: &[u8], size: usize) {
-    assert!(rt; octets.len() == 140, "pieces of {size}");
+fn check_units(rt: &impl Abort, octets: &[u8]) {
+    assert!(rt; octets.len() == 140);
     for unit in octets.chunks(70) {
-        assert!(rt; unit.starts_with(&M), "pieces of {size}");
-        assert!(rt; unit.ends_with(&A_AND_ZEROS), "pieces of {size}");
+        assert!(rt; unit.starts_with(&M));
+        assert!(rt; unit.ends_with(&A_AND_ZEROS));
     }
 }
 
@@ -155,7 +155,7 @@ fn an_inner_sender_takes_any_pieces(rt: HostRuntime) -> Result<(), Fail> {
         let mut inner = InnerSender::new(&config);
         let mut out = MemSink::new(alloc, 32, Vec::new(alloc))?;
         send_inner(&mut inner, &[0x1A, 0xCF], size, &mut out)?;
-        assert!(rt; out.octets() == SYMBOLS.as_slice(), "pieces of {size}");
+        assert!(rt; out.octets() == SYMBOLS.as_slice());
     }
     Ok(())
 }

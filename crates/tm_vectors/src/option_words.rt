@@ -73,40 +73,51 @@ static OPTION_WORDS: [(&str, &str, u64); 30] = [
     ("bad", "pass", 1),
 ];
 
+// The options that have words.
+static OPTIONS: &str =
+    "code inner invert randomize basis soft start phase polarity pack rescan bad";
+
 // The value of an option that has words.
 fn value_of(raw: &Raw, option: &str) -> Option<u64> {
-    match option {
-        "code" => Some(raw.code),
-        "inner" => Some(raw.inner),
-        "invert" => raw.invert,
-        "randomize" => Some(raw.randomize),
-        "basis" => Some(raw.basis),
-        "soft" => Some(raw.soft),
-        "start" => Some(raw.start),
-        "phase" => Some(raw.phase),
-        "polarity" => Some(raw.polarity),
-        "pack" => Some(raw.pack),
-        "rescan" => Some(raw.rescan),
-        "bad" => Some(raw.bad),
-        _ => None,
+    let values = values_of(raw);
+    let mut place = 0usize;
+    for name in OPTIONS.split_whitespace() {
+        if name == option {
+            return *values.get(place)?;
+        }
+        place = place.wrapping_add(1);
     }
+    None
 }
 
-// The line gives a job of encoding with these values.
-fn check_job(rt: &impl Abort, line: &str, job: &Job, raw: &Raw) {
-    assert!(rt; job.kind == JobKind::Encode, "{line}");
-    assert!(rt; job.raw == *raw, "{line}");
-    assert!(rt; job.hex.as_bytes().is_empty(), "{line}");
-    assert!(rt; [job.seed, job.frames, job.hits] == [1, 100, 0], "{line}");
+fn values_of(raw: &Raw) -> [Option<u64>; 12] {
+    [
+        Some(raw.code),
+        Some(raw.inner),
+        raw.invert,
+        Some(raw.randomize),
+        Some(raw.basis),
+        Some(raw.soft),
+        Some(raw.start),
+        Some(raw.phase),
+        Some(raw.polarity),
+        Some(raw.pack),
+        Some(raw.rescan),
+        Some(raw.bad),
+    ]
+}
+
+// A job is that of encoding with these values.
+fn check_job(rt: &impl Abort, job: &Job, raw: &Raw) {
+    assert!(rt; job.kind == JobKind::Encode && job.hex.as_bytes().is_empty());
+    assert!(rt; job.raw == *raw);
+    assert!(rt; [job.seed, job.frames, job.hits] == [1, 100, 0]);
 }
 
 #[test]
 fn words_become_a_job(rt: HostRuntime) -> Result<(), Fail> {
-    let plain = "tmchan encode";
-    let job = job_of(rt.alloc(), plain)?;
-    check_job(&rt, plain, &job, &Raw::default());
-    let job = job_of(rt.alloc(), EACH_OPTION)?;
-    check_job(&rt, EACH_OPTION, &job, &EACH_VALUE);
+    check_job(&rt, &job_of(rt.alloc(), "tmchan encode")?, &Raw::default());
+    check_job(&rt, &job_of(rt.alloc(), EACH_OPTION)?, &EACH_VALUE);
     Ok(())
 }
 
@@ -116,7 +127,7 @@ fn words_of_options_become_numbers(rt: HostRuntime) -> Result<(), Fail> {
     for (option, word, number) in &OPTION_WORDS {
         let line = format!(in alloc; "tmchan encode --{option} {word}")?;
         let job = job_of(alloc, line.as_str())?;
-        assert!(rt; value_of(&job.raw, *option) == Some(*number), "{line}");
+        assert!(rt; value_of(&job.raw, *option) == Some(*number));
     }
     Ok(())
 }

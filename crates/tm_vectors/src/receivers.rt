@@ -132,12 +132,9 @@ fn check_pieces(
     for piece in UNIT.chunks(size.max(1)) {
         feed(rt, receiver, piece, taker)?;
     }
-    assert!(rt; taker.kept.is_empty(), "pieces of {size}");
-    assert!(rt; finish(rt, receiver, taker) == Ok(296), "pieces of {size}");
-    assert!(rt;
-        taker.kept.as_slice() == [FIRST].as_slice(),
-        "pieces of {size}"
-    );
+    assert!(rt; taker.kept.is_empty());
+    assert!(rt; finish(rt, receiver, taker) == Ok(296));
+    assert!(rt; taker.kept.as_slice() == [FIRST].as_slice());
     Ok(())
 }
 
@@ -197,7 +194,7 @@ fn check_fault_of_a_batch(
     }
     assert!(rt; feed(rt, receiver, &UNIT, taker) == Err(RecvError::Taker));
     check_stopped(rt, receiver, taker)?;
-    assert!(rt; taker.faults == 1, "items after the fault");
+    assert!(rt; taker.faults == 1);
     Ok(())
 }
 

@@ -1,5 +1,5 @@
 // Many frames in a row.
-use crate::runs::{CUTS, Given, run_over};
+use crate::runs::{CUTS, Given, check_outcome, run_over};
 use crate::values::M;
 use std::alloc::{AllocError, Global};
 use std::process::Abort;
@@ -22,12 +22,9 @@ fn check_sent(
     given: &Given,
     wanted: &[u8],
 ) -> Result<(), Fail> {
-    let cut = given.cut;
     let outcome = run_over(rt, alloc, given)?;
-    assert!(rt; outcome.status == 0, "cut {cut}");
-    assert!(rt; outcome.notes.octets().is_empty(), "cut {cut}");
-    assert!(rt; outcome.out.octets().len() == 15_000, "cut {cut}");
-    assert!(rt; outcome.out.octets() == wanted, "cut {cut}");
+    check_outcome(rt, "a long input", given, &outcome, 0, wanted, &[]);
+    assert!(rt; wanted.len() == 15_000);
     Ok(())
 }
 
