@@ -218,7 +218,12 @@ def test_an_interrupt_ends_it():
     words = [sys.executable, "-m", "tmchan", "receive", *KNOWN, "--batch", "1", "--quiet", "-"]
     environment = {**os.environ, "PYTHONPATH": os.pathsep.join(sys.path)}
     streams = dict(stdin=subprocess.PIPE, stdout=subprocess.PIPE, stderr=subprocess.PIPE)
-    with subprocess.Popen(words, env=environment, **streams) as live:
+
+    def heed():
+        # (what a shell began in the background ignores interrupts)
+        signal.signal(signal.SIGINT, signal.SIG_DFL)
+
+    with subprocess.Popen(words, env=environment, preexec_fn=heed, **streams) as live:
         live.stdin.write(LINK.send(SENT))
         live.stdin.flush()
         came = live.stdout.read(2500)
