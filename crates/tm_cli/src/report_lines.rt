@@ -1,5 +1,5 @@
 // The lines of a report.
-ghost use Rattle.std.specs.Prelude.{◌≡◌, ◌+◌, ◌*◌, ◌≤◌, ◌++◌, length, flat_map, OnOk, OnErr};
+ghost use Rattle.std.specs.Prelude.{◌≡◌, ◌+◌, ◌*◌, ◌≤◌, ◌++◌, [], length, flat_map, OnOk, OnErr};
 ghost use Rattle.tm_base.specs.Outside.{HasCause};
 ghost use Rattle.tm_base.specs.Written.{Wrote, WrotePrefix};
 ghost use Rattle.tm_driver.specs.Lines.{line_room};
@@ -63,21 +63,20 @@ fn add_answers(line: &mut Line, answers: &[Answer])
     }
 }
 
-/// What was received at a place, the item of this number: `frame K at P marker D words A1 .. AI`, where `bridged` stands
-/// for `marker` at a place where none matched, ` inverted` after D of an inverted codeblock, x for a column that is
-/// uncorrectable, and `uncoded` for the columns with no outer code.
-pub fn item_text(number: u64, item: &Item<'_>) -> Line
-    ensures { result ≡ item_text number item.now }
+/// Adds what was received at a place, the item of this number: `frame K at P marker D words A1 .. AI`, where `bridged`
+/// stands for `marker` at a place where none matched, ` inverted` after D of an inverted codeblock, x for a column that
+/// is uncorrectable, and `uncoded` for the columns with no outer code.
+pub fn add_item(line: &mut Line, number: u64, item: &Item<'_>)
+    requires { line.old ≡ [] }
+    ensures { line.new ≡ item_text number item.now }
 {
-    let mut line = Line::new();
     line.text(b"frame ");
     line.number(number);
     line.text(b" at ");
     line.number(item.place);
-    add_marker(&mut line, item.bridged, item.distance, item.inverted);
-    add_answers(&mut line, item.answers);
+    add_marker(line, item.bridged, item.distance, item.inverted);
+    add_answers(line, item.answers);
     line.text(b"\n");
-    line
 }
 
 /// Writes what was received at a place, the item of this number. `Failed` comes only where the sink's count of faults
@@ -87,7 +86,9 @@ pub fn frame_line<O: Sink>(out: &mut O, number: u64, item: &Item<'_>) -> Result<
     ensures err { OnErr result (WrotePrefix (O.taken out.old) (O.taken out.new) (item_text number item.now)) }
     ensures cause { HasCause (O.faults out.old) (O.faults out.new) (O.is_last out.new) result }
 {
-    item_text(number, item).put(out)
+    let mut line = Line::new();
+    add_item(&mut line, number, item);
+    line.put(out)
 }
 
 /// Writes the end of a report: `frames G bad B fixed S bits N`, with the codeblocks without and with an uncorrectable

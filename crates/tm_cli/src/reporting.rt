@@ -4,9 +4,9 @@ ghost use Rattle.tm_cli.specs.Taken.{IsOutcome};
 ghost use Rattle.tm_driver.specs.Writing.{Note};
 
 use crate::counts::Counts;
-use crate::report_lines::{item_text, totals_text};
+use crate::report_lines::{add_item, totals_text};
 use tm_channel::{Item, ItemWatch, Totals};
-use tm_driver::{Outcome, TextTaker, phase_text};
+use tm_driver::{Line, Outcome, TextTaker, phase_text};
 
 /// Gives the frame of each item for the output and then its line for the notes, and counts it; of the symbol phase it
 /// gives the line.
@@ -28,8 +28,9 @@ impl<'a, W: TextTaker> ItemWatch for Reporting<'a, W> {
 
     fn item(&mut self, item: &Item<'_>) {
         self.texts.out(item.frame);
-        self.texts
-            .note(item_text(self.counts.number(), item).octets());
+        let mut line = Line::new();
+        add_item(&mut line, self.counts.number(), item);
+        self.texts.note(line.octets());
         self.counts.add(item.answers);
     }
 
