@@ -256,13 +256,11 @@ impl BitReceiver {
             None => false,
             Some(found) => {
                 let is_inside = self.finder.is_inside();
-                if !self.batch.may_keep(found, is_inside, &self.recent) {
-                    self.finder.take(&mut self.recent, found, false);
-                    return true;
-                }
                 let origin = self.origins.at(found.place);
                 let symbol = self.batch.symbol(origin, found.place);
-                let sound = self.batch.keep(decoder, found, symbol, &self.recent);
+                let sound = self
+                    .batch
+                    .keep(decoder, found, symbol, is_inside, &self.recent);
                 self.finder.take(&mut self.recent, found, sound);
                 true
             }

@@ -1,7 +1,7 @@
 // Expected codeblocks: each stands right behind another one, after a marker that matches in the same polarity. They are
 // decoded together, before the search has found them. The search alone decides which of them it finds, and where it
 // finds another one, those that are expected are dropped.
-ghost use Rattle.std.specs.Prelude.{◌≡◌, ◌<◌, ◌≤◌, ◌+◌, ◌*◌, ◌∷◌, [], IsTrue, drop, length, map, take};
+ghost use Rattle.std.specs.Prelude.{◌≡◌, ◌<◌, ◌≤◌, ◌+◌, ◌*◌, ◌∷◌, [], IsTrue, true, false, drop, length, map, take};
 ghost use Rattle.tm_base.specs.Marker.{marker_size};
 ghost use Rattle.tm_config.specs.Configuration.{codeblock_length, most_batch};
 ghost use Rattle.tm_codeblock.specs.ReceivedCodeblock.{codeblock_in, column_count, is_sound};
@@ -33,14 +33,15 @@ pub struct Expected {
     pub workers: u8,
 }
 
-/// Puts the codeblock of a place, which the bits begin with, and its symbol into the first slot, with its item, and
-/// returns whether it is sound. It was expected, or is decoded now, by this decoder, together with those expected
-/// behind it.
+/// Puts the codeblock of a place, which the bits begin with, and its symbol into the first slot, with its item, but not
+/// where it is inside of another one and not sound. Returns whether it is sound. It was expected, or is decoded now, by
+/// this decoder, together with those expected behind it.
 pub fn take_next<F: Fn(&Config, &mut [Word])>(
     decoder: &F,
     config: &Config,
     found: Found,
     symbol: u64,
+    is_inside: bool,
     expected: &mut Expected,
     slots: &mut [Slot],
     words: &mut [Word],
@@ -52,20 +53,70 @@ pub fn take_next<F: Fn(&Config, &mut [Word])>(
     requires whole { marker_size + 8 * codeblock_length config.now ≤ length recent.now.bits }
     requires expected { (expected.old.count ≤ length slots.old)
         × AreItemsIn config.now (take expected.old.count slots.old) }
-    ensures stored { map (stored_in (codeblock_length config.now)) (take 1 slots.new) ≡ stored_of config.now found
-        (take (8 * codeblock_length config.now) (drop marker_size recent.now.bits)) ∷ [] }
-    ensures places { map place_in (take 1 slots.new) ≡ record { place = found.place; symbol = symbol } ∷ [] }
-    ensures expected { (expected.new.count < length slots.new)
-        × AreItemsIn config.now (take (expected.new.count + 1) slots.new) }
-    ensures slots { length slots.new ≡ length slots.old }
-    ensures words { length words.new ≡ length words.old }
     ensures sound { result ≡ is_sound config.now (codeblock_in config.now found.inverted
         (take (8 * codeblock_length config.now) (drop marker_size recent.now.bits))) }
+    ensures stored { (is_inside ≡ true → IsTrue result)
+        → map (stored_in (codeblock_length config.now)) (take 1 slots.new) ≡ stored_of config.now found
+        (take (8 * codeblock_length config.now) (drop marker_size recent.now.bits)) ∷ [] }
+    ensures places { (is_inside ≡ true → IsTrue result)
+        → map place_in (take 1 slots.new) ≡ record { place = found.place; symbol = symbol } ∷ [] }
+    ensures expected { (is_inside ≡ true → IsTrue result) → (expected.new.count < length slots.new)
+        × AreItemsIn config.now (take (expected.new.count + 1) slots.new) }
+    ensures left { is_inside ≡ true → result ≡ false → (expected.new.count ≤ length slots.new)
+        × AreItemsIn config.now (take expected.new.count slots.new) }
+    ensures slots { length slots.new ≡ length slots.old }
+    ensures words { length words.new ≡ length words.old }
 {
+    if is_inside {
+        return take_sound(config, found, symbol, expected, slots, words, recent);
+    }
     put_next(
         decoder, config, found, symbol, expected, slots, words, recent,
     );
     are_fixed(slots[0].item(config).answers)
+}
+
+// Puts the codeblock of a place, which the bits begin with, and its symbol into the first slot, with its item, where it
+// is sound, and returns whether it is. Those that are expected stay so unless it is.
+fn take_sound(
+    config: &Config,
+    found: Found,
+    symbol: u64,
+    expected: &mut Expected,
+    slots: &mut [Slot],
+    words: &mut [Word],
+    recent: &RecentBits,
+) -> bool
+    requires slots { (0 < length slots.old) × (length slots.old ≤ most_batch) }
+    requires words { column_count config.now ≤ length words.old }
+    requires whole { marker_size + 8 * codeblock_length config.now ≤ length recent.now.bits }
+    requires expected { (expected.old.count ≤ length slots.old)
+        × AreItemsIn config.now (take expected.old.count slots.old) }
+    ensures sound { result ≡ is_sound config.now (codeblock_in config.now found.inverted
+        (take (8 * codeblock_length config.now) (drop marker_size recent.now.bits))) }
+    ensures stored { IsTrue result → map (stored_in (codeblock_length config.now)) (take 1 slots.new)
+        ≡ stored_of config.now found
+        (take (8 * codeblock_length config.now) (drop marker_size recent.now.bits)) ∷ [] }
+    ensures places { IsTrue result
+        → map place_in (take 1 slots.new) ≡ record { place = found.place; symbol = symbol } ∷ [] }
+    ensures expected { IsTrue result → (expected.new.count < length slots.new)
+        × AreItemsIn config.now (take (expected.new.count + 1) slots.new) }
+    ensures left { result ≡ false → (expected.new.count ≤ length slots.new)
+        × AreItemsIn config.now (take expected.new.count slots.new) }
+    ensures slots { length slots.new ≡ length slots.old }
+    ensures words { length words.new ≡ length words.old }
+{
+    // It is put behind the others; where there is no slot left the last of these goes.
+    let index = expected.count.min(slots.len() - 1);
+    slots[index].fill(config, found, symbol, codeblock_size(config), 32, recent);
+    repair_slot(config, &mut slots[index], words);
+    if !are_fixed(slots[index].item(config).answers) {
+        expected.count = index;
+        return false;
+    }
+    slots[0] = slots[index];
+    expected.count = 0;
+    true
 }
 
 // Puts the codeblock of a place, which the bits begin with, and its symbol into the first slot, with its item.
@@ -103,40 +154,6 @@ fn put_next<F: Fn(&Config, &mut [Word])>(
     let count = read_expected(config, found, symbol, &mut slots[..most], recent);
     repair_expected(decoder, config, count, slots, words);
     expected.count = count - 1;
-}
-
-/// Whether the codeblock of a place, which the bits begin with, is sound. Those that are expected stay so unless it is.
-pub fn is_sound(
-    config: &Config,
-    found: Found,
-    expected: &mut Expected,
-    slots: &mut [Slot],
-    words: &mut [Word],
-    recent: &RecentBits,
-) -> bool
-    requires slots { (0 < length slots.old) × (length slots.old ≤ most_batch) }
-    requires words { column_count config.now ≤ length words.old }
-    requires whole { marker_size + 8 * codeblock_length config.now ≤ length recent.now.bits }
-    requires expected { (expected.old.count ≤ length slots.old)
-        × AreItemsIn config.now (take expected.old.count slots.old) }
-    ensures sound { result ≡ is_sound config.now (codeblock_in config.now found.inverted
-        (take (8 * codeblock_length config.now) (drop marker_size recent.now.bits))) }
-    ensures expected { (expected.new.count ≤ length slots.new)
-        × AreItemsIn config.now (take expected.new.count slots.new) }
-    ensures slots { length slots.new ≡ length slots.old }
-    ensures words { length words.new ≡ length words.old }
-{
-    // It is put behind the others; where there is no slot left the last of these goes.
-    let index = expected.count.min(slots.len() - 1);
-    expected.count = index;
-    slots[index].fill(config, found, 0, codeblock_size(config), 32, recent);
-    repair_slot(config, &mut slots[index], words);
-    if !are_fixed(slots[index].item(config).answers) {
-        return false;
-    }
-    slots[0] = slots[index];
-    expected.count = 1;
-    true
 }
 
 // How many codeblocks to decode together at most: twice as many as the last time, from one on where some of those were

@@ -1,5 +1,5 @@
 // The codeblocks of a batch.
-ghost use Rattle.std.specs.Prelude.{◌≡◌, ◌<◌, ◌≤◌, ◌+◌, ◌-◌, ◌*◌, ◌^◌, true, false, [], ◌∷◌, ◌++◌, IfOk, drop, length, take};
+ghost use Rattle.std.specs.Prelude.{◌≡◌, ◌<◌, ◌≤◌, ◌+◌, ◌-◌, ◌*◌, ◌^◌, true, false, [], ◌∷◌, ◌++◌, IfOk, IsTrue, drop, length, take};
 ghost use Rattle.std.specs.Option.{is_some};
 ghost use Rattle.tm_base.specs.Marker.{marker_size};
 ghost use Rattle.tm_config.specs.Configuration.{longest_codeblock, most_batch, codeblock_length};
@@ -9,7 +9,7 @@ ghost use Rattle.tm_channel.specs.ColumnDecoding.{IsColumnDecoder};
 ghost use Rattle.tm_channel.specs.Origins.{place_symbol, symbol_by};
 ghost use Rattle.tm_channel.specs.Receiving.{AreItemsFor, AreWritten, IsItemAt, stored_of, waiting_bits};
 
-use crate::expected::{Expected, is_sound, take_next};
+use crate::expected::{Expected, take_next};
 use crate::item::Item;
 use crate::origins::symbol_of;
 use crate::repair::repair;
@@ -93,39 +93,16 @@ impl Codeblocks {
         })
     }
 
-    /// Whether the codeblock of this place, which the bits begin with, may be kept: not where it is inside of another
-    /// one and not sound.
-    pub fn may_keep(&mut self, found: Found, is_inside: bool, recent: &RecentBits) -> bool
-        requires room { length self.old.stored < self.old.config.batch }
-        requires whole { marker_size + 8 * codeblock_length self.old.config ≤ length recent.now.bits }
-        ensures same { self.new ≡ self.old }
-        ensures outside { is_inside ≡ false → result ≡ true }
-        ensures inside { is_inside ≡ true → result
-            ≡ is_sound self.old.config (codeblock_in self.old.config found.inverted
-            (take (8 * codeblock_length self.old.config) (drop marker_size recent.now.bits))) }
-    {
-        if !is_inside {
-            return true;
-        }
-        let slots = self.slots.as_mut_slice();
-        is_sound(
-            &self.config,
-            found,
-            &mut self.expected,
-            &mut slots[self.count..],
-            self.words.as_mut_slice(),
-            recent,
-        )
-    }
-
-    /// Keeps the codeblock of this place, which the bits begin with, and its symbol, and returns whether it is sound;
-    /// where none are looked for inside codeblocks that is not asked, and it is not repaired yet. Where it was not
-    /// expected, this decoder decodes it, together with those expected behind it.
+    /// Keeps the codeblock of this place, which the bits begin with, and its symbol, but not where it is inside of
+    /// another one and not sound. Returns whether it is sound; where none are looked for inside codeblocks that is not
+    /// asked, and it is not repaired yet. Where it was not expected, this decoder decodes it, together with those
+    /// expected behind it.
     pub fn keep<F: Fn(&Config, &mut [Word])>(
         &mut self,
         decoder: &F,
         found: Found,
         symbol: u64,
+        is_inside: bool,
         recent: &RecentBits,
     ) -> bool
         requires decoder { IsColumnDecoder F.Fn decoder.now }
@@ -133,34 +110,42 @@ impl Codeblocks {
         requires whole { marker_size + 8 * codeblock_length self.old.config ≤ length recent.now.bits }
         requires written { AreWritten self.old }
         ensures config { self.new.config ≡ self.old.config }
-        ensures stored { self.new.stored ≡ self.old.stored ++ stored_of self.old.config found
+        ensures left { is_inside ≡ true → result ≡ false → self.new ≡ self.old }
+        ensures stored { (is_inside ≡ true → IsTrue result) → self.new.stored ≡ self.old.stored
+            ++ stored_of self.old.config found
             (take (8 * codeblock_length self.old.config) (drop marker_size recent.now.bits)) ∷ [] }
-        ensures symbols { self.new.symbols ≡ self.old.symbols ++ record { place = found.place; symbol = symbol } ∷ [] }
+        ensures symbols { (is_inside ≡ true → IsTrue result)
+            → self.new.symbols ≡ self.old.symbols ++ record { place = found.place; symbol = symbol } ∷ [] }
         ensures written { AreWritten self.new }
-        ensures off { self.old.config.rescan ≡ false → result ≡ true }
         ensures sound { self.old.config.rescan ≡ true → result
             ≡ is_sound self.old.config (codeblock_in self.old.config found.inverted
             (take (8 * codeblock_length self.old.config) (drop marker_size recent.now.bits))) }
     {
         let size = self.size;
         let index = self.count;
-        self.count = index + 1;
         if !self.config.values().rescan {
+            self.count = index + 1;
             self.expected.count = 0;
             self.slots[index].fill(&self.config, found, symbol, size, 32, recent);
             return true;
         }
         let slots = self.slots.as_mut_slice();
-        take_next(
+        let sound = take_next(
             decoder,
             &self.config,
             found,
             symbol,
+            is_inside,
             &mut self.expected,
             &mut slots[index..],
             self.words.as_mut_slice(),
             recent,
-        )
+        );
+        if is_inside && !sound {
+            return false;
+        }
+        self.count = index + 1;
+        sound
     }
 
     /// The first symbol of the step of a bit, before which `octets` octets are of no step; with no inner code its

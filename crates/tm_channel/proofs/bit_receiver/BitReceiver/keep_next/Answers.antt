@@ -1,15 +1,14 @@
-use Rattle.std.proofs.Common.{◌≡◌, ◌<◌, ◌≤◌, ◌+◌, ◌-◌, ◌^◌, ℕ, Bool, true, false, List, ◌∙◌, ◌++◌, ◌∷◌, [], length, length-drop, refl, sym, subst, ap, arith}
-use Rattle.tm_sync.specs.Finding.{Finding, Passes}
+use Rattle.std.proofs.Common.{◌≡◌, ◌⊎◌, inl, inr, IsTrue, ◌<◌, ◌≤◌, ◌+◌, ◌-◌, ◌^◌, ℕ, Bool, true, false, List, ◌∙◌, ◌++◌, ◌∷◌, [], length, length-drop, refl, sym, subst, ap, arith}
+use Rattle.tm_sync.specs.Finding.{Finding, Passes, Tells, places_left}
+use Rattle.tm_sync.specs.Rescan.{Soundness}
 use Rattle.tm_sync.specs.Places.{Rules}
 use Rattle.tm_sync.specs.declared.found.Found.{Found}
-use Rattle.std.specs.Option.{is_some}
-use Rattle.tm_conv.specs.Path.{farthest_step}
-use Rattle.tm_codeblock.specs.ReceivedCodeblock.{codeblock_in, is_sound}
-use Rattle.tm_channel.specs.Origins.{AreAt, symbol_by}
-use Rattle.tm_channel.specs.Receiving.{Batching, HoldsFound, stored_of}
+use Rattle.tm_channel.specs.Origins.{AreAt}
+use Rattle.tm_channel.specs.OctetReceiving.{HasFound}
+use Rattle.tm_channel.specs.Receiving.{Batching, HoldsFound}
 use Rattle.tm_channel.specs.declared.bit_receiver.BitReceiver.{BitReceiver}
 use Rattle.tm_channel.proofs.KeptSymbols.{symbols-kept, symbols-stored}
-use Rattle.tm_channel.proofs.Holding.{IsTold, Takes, next_block, recent-count, holding-all, holding-left, holding-passed, holding-taken, holds-config}
+use Rattle.tm_channel.proofs.Holding.{Takes, recent-count, holding-all, holding-left, holding-passed, holding-taken, holds-config}
 use Rattle.tm_channel.proofs.bit_receiver.BitReceiver.keep_next.Goals as goal
 
 -- the search goes on to a later bit, and those from there on are left
@@ -43,23 +42,22 @@ returns-in-None-clause-none g c = λ none at count handed bits found few le h.
           c.in-None.ensures.none now,
     )
 
--- a place inside another one is kept only where it is sound
-is-inside : (inside kept : Bool) → (inside ≡ false → kept ≡ true) → kept ≡ false → inside ≡ true
-is-inside true kept outside not = refl
-is-inside false kept outside not = absurd (let one = outside refl in cc)
+-- what is found inside another one and is not sound is left; all else is a place, and kept
+is-kept : (inside sound taken : Bool) → (inside ≡ false → taken ≡ true) → (inside ≡ true → taken ≡ sound)
+    → ((inside ≡ true → IsTrue sound) × (taken ≡ true))
+    ⊎ ((inside ≡ true) × (sound ≡ false) × (taken ≡ false))
+is-kept false sound taken outside within = inl ((λ is. absurd (let no = is in cc)), outside refl)
+is-kept true true taken outside within = inl ((λ is. refl), within refl)
+is-kept true false taken outside within = inr (refl, refl, within refl)
 
--- what is kept is a place
-is-taken : (inside kept sound is taken rescan : Bool) → (inside ≡ true → kept ≡ is) → kept ≡ true
-    → (rescan ≡ false → sound ≡ true) → (rescan ≡ true → sound ≡ is)
-    → (inside ≡ false → taken ≡ true) → (inside ≡ true → taken ≡ sound) → taken ≡ true
-is-taken false kept sound is taken rescan keeps kept_is off on outside within = outside refl
-is-taken true kept sound is taken false keeps kept_is off on outside within = within refl ∙ off refl
-is-taken true kept sound is taken true keeps kept_is off on outside within =
-    within refl ∙ on refl ∙ sym (keeps refl) ∙ kept_is
+-- these are the places that were found next
+abbrev AreNext : BitReceiver → BitReceiver → List Found → Type 0
+AreNext was now next = (at : ℕ → ℕ) (count handed : ℕ) (bits : List Bool) (found : List Found) → length bits < 2 ^ 63
+    → length bits ≤ count → HasFound was at count handed bits found → HasFound now at count handed bits (found ++ next)
 
--- ---- one is, and a place
-pub returns-else-not-may_keep-clause-kept : goal.returns-else-not-may_keep-clause-kept
-returns-else-not-may_keep-clause-kept g c = λ one.
+-- ---- one is
+pub returns-in-Some-clause-kept : goal.returns-in-Some-clause-kept
+returns-in-Some-clause-kept g c = λ one.
     let was = c.args.self.now in
     let b = was.batch in
     let k = b.config in
@@ -67,102 +65,70 @@ returns-else-not-may_keep-clause-kept g c = λ one.
     let f = c.in-Some.found in
     let some = c.in-Some.ensures.some in
     let size = ap (λ (r : Rules). r.block_bits) (passes.rules ∙ c.requires.agree.rules) in
-    let same = c.may_keep.ensures.same in
+    let kept = c.keep-sound.ensures in
     let inside = c.is_inside-is_inside.ensures in
-    let is : IsTold k c.next.new.recent.bits f c.keep-sound.result =
-    λ on. c.keep-sound.ensures.sound (ap (λ (v : Batching). v.config.rescan) same ∙ on)
-    ∙ ap (λ (v : Batching). is_sound v.config (codeblock_in v.config f.inverted (next_block v.config c.next.new.recent.bits))) same in
-    let taken : c.take-in-Some.result ≡ true =
-    is-taken c.is_inside-is_inside.result c.may_keep.result c.keep-sound.result
-    (is_sound k (codeblock_in k f.inverted (next_block k c.next.new.recent.bits))) c.take-in-Some.result k.rescan
-    c.may_keep.ensures.inside c.if-not-may_keep.false
-    (λ off. c.keep-sound.ensures.off (ap (λ (v : Batching). v.config.rescan) same ∙ off)) is
-    (λ out. c.take-in-Some.ensures.outside (sym inside ∙ out)) (λ in_it. c.take-in-Some.ensures.inside (sym inside ∙ in_it)) in
-    let takes : Takes k c.next.new.self c.take-in-Some.new.self c.next.new.recent.bits c.take-in-Some.new.recent.bits f
-    c.keep-sound.result (f ∷ []) = record {
-      columns = passes.columns ∙ c.requires.agree.columns;
-      at = some.at;
-      room = omega (arith, some.room, size);
-      is = is;
-      bits = c.take-in-Some.ensures.bits;
-      passed = c.take-in-Some.ensures.passed;
-      same = λ says more short tells. c.take-in-Some.ensures.taken taken says more short tells;
+    let now : BitReceiver = record {
+      finder = c.take.new.self;
+      recent = c.take.new.recent;
+      batch = c.keep-sound.new.self;
+      origins = was.origins;
     } in
-    let stored = c.keep-sound.ensures.stored ∙ ap (λ (v : Batching).
-    v.stored ++ stored_of v.config f (next_block v.config c.next.new.recent.bits) ∷ []) same in (
-      f ∷ [],
-      λ at count handed bits found few le h.
-          let on = passes-on was c.next.new.self c.next.new.recent.bits handed bits found few passes h.holds in
-          let taken_on : c.take-in-Some.new.self.passed ≡ c.next.new.self.passed + 1 =
-          c.take-in-Some.ensures.passed (omega (arith, on.1, few)) in
-          let here : f.place ≡ c.next.new.self.passed = some.at in record {
-            holds = holds-config k c.keep-sound.new.self.config c.take-in-Some.new.self c.take-in-Some.new.recent.bits
-                c.keep-sound.new.self.stored handed bits (found ++ f ∷ [])
-                (c.keep-sound.ensures.config ∙ ap (λ (v : Batching). v.config) same)
-                (holding-taken k c.next.new.self c.take-in-Some.new.self c.next.new.recent.bits
-                c.take-in-Some.new.recent.bits b.stored c.keep-sound.new.self.stored handed bits found f
-                c.keep-sound.result few takes stored
-                (holding-passed k was.finder c.next.new.self was.recent.bits c.next.new.recent.bits b.stored handed bits
-                found few passes h.holds));
-            has = symbols-kept was (record {
-              finder = c.take-in-Some.new.self;
-              recent = c.take-in-Some.new.recent;
-              batch = c.keep-sound.new.self;
-              origins = was.origins;
-            }) count f.place c.at-origin.result c.symbol-symbol.result at (omega (arith, on.0, taken_on))
-                (c.keep-sound.ensures.config ∙ ap (λ (v : Batching). v.config) same) refl
-                (omega (arith, here, on.0)) (omega (arith, here, on.1, some.room, le)) c.at-origin.ensures
-                (subst (λ (v : Batching). (is_some v.config.inner ≡ true → f.place ≤ farthest_step)
-                → symbol_by v.config.inner v.config c.at-origin.result f.place < 2 ^ 64
-                → c.symbol-symbol.result ≡ symbol_by v.config.inner v.config c.at-origin.result f.place) same
-                c.symbol-symbol.ensures)
-                (c.keep-sound.ensures.symbols ∙ ap (λ (v : Batching).
-                v.symbols ++ record { place = f.place; symbol = c.symbol-symbol.result } ∷ []) same) h.has;
-          },
-    )
-
--- ---- one is, but no place
-pub returns-then-not-may_keep-clause-kept : goal.returns-then-not-may_keep-clause-kept
-returns-then-not-may_keep-clause-kept g c = λ one.
-    let was = c.args.self.now in
-    let b = was.batch in
-    let k = b.config in
-    let passes = c.next.ensures.passes in
-    let f = c.in-Some.found in
-    let some = c.in-Some.ensures.some in
-    let size = ap (λ (r : Rules). r.block_bits) (passes.rules ∙ c.requires.agree.rules) in
-    let same = c.may_keep.ensures.same in
-    let inside = is-inside c.is_inside-is_inside.result c.may_keep.result c.may_keep.ensures.outside
-    c.if-not-may_keep.true in
-    let left : c.take.result ≡ false =
-    c.take.ensures.inside (sym c.is_inside-is_inside.ensures ∙ inside) in
-    let takes : Takes k c.next.new.self c.take.new.self c.next.new.recent.bits c.take.new.recent.bits f false [] =
-    record {
+    let takes : (next : List Found) → ((says : Soundness) (more : List Bool)
+    → c.next.new.self.passed + length c.next.new.recent.bits < 2 ^ 63
+    → Tells c.next.new.self says f c.keep-sound.result
+    → places_left c.next.new.self says (c.next.new.recent.bits ++ more)
+    ≡ next ++ places_left now.finder says (now.recent.bits ++ more))
+    → Takes k c.next.new.self now.finder c.next.new.recent.bits now.recent.bits f c.keep-sound.result next =
+    λ next same. record {
       columns = passes.columns ∙ c.requires.agree.columns;
       at = some.at;
       room = omega (arith, some.room, size);
-      is = λ on. sym c.if-not-may_keep.true ∙ c.may_keep.ensures.inside inside;
+      is = kept.sound;
       bits = c.take.ensures.bits;
       passed = c.take.ensures.passed;
-      same = λ says more short tells. c.take.ensures.left left says more short tells;
-    } in (
-      [],
-      λ at count handed bits found few le h.
-          let on = passes-on was c.next.new.self c.next.new.recent.bits handed bits found few passes h.holds in
-          let left_on : c.take.new.self.passed ≡ c.next.new.self.passed + 1 =
-          c.take.ensures.passed (omega (arith, on.1, few)) in record {
-            holds = holds-config k c.may_keep.new.self.config c.take.new.self c.take.new.recent.bits
-                c.may_keep.new.self.stored handed bits (found ++ []) (ap (λ (v : Batching). v.config) same)
-                (holding-left k c.next.new.self c.take.new.self c.next.new.recent.bits c.take.new.recent.bits b.stored
-                c.may_keep.new.self.stored handed bits found f false few takes (ap (λ (v : Batching). v.stored) same)
-                (holding-passed k was.finder c.next.new.self was.recent.bits c.next.new.recent.bits b.stored handed bits
-                found few passes h.holds));
-            has = symbols-stored was (record {
-              finder = c.take.new.self;
-              recent = c.take.new.recent;
-              batch = c.may_keep.new.self;
-              origins = was.origins;
-            }) count at (omega (arith, on.0, left_on)) (ap (λ (v : Batching). v.config) same) refl
-                (subst (AreAt at count) (sym (ap (λ (v : Batching). v.symbols) same)) h.has.stored) h.has;
-          },
-    )
+      same = same;
+    } in
+    elim (is-kept c.is_inside-is_inside.result c.keep-sound.result c.take.result
+    (λ out. c.take.ensures.outside (sym inside ∙ out)) (λ is. c.take.ensures.inside (sym inside ∙ is)))
+    as (λ _. (next : List Found) × AreNext was now next) [
+      | inl place ↦ (
+        f ∷ [],
+        λ at count handed bits found few le h.
+            let on = passes-on was c.next.new.self c.next.new.recent.bits handed bits found few passes h.holds in
+            let taken_on : now.finder.passed ≡ c.next.new.self.passed + 1 =
+            c.take.ensures.passed (omega (arith, on.1, few)) in
+            let here : f.place ≡ c.next.new.self.passed = some.at in record {
+              holds = holds-config k now.batch.config now.finder now.recent.bits now.batch.stored handed bits
+                  (found ++ f ∷ []) kept.config
+                  (holding-taken k c.next.new.self now.finder c.next.new.recent.bits now.recent.bits b.stored
+                  now.batch.stored handed bits found f c.keep-sound.result few
+                  (takes (f ∷ []) (λ says more short tells. c.take.ensures.taken place.1 says more short tells))
+                  (kept.stored place.0)
+                  (holding-passed k was.finder c.next.new.self was.recent.bits c.next.new.recent.bits b.stored handed
+                  bits found few passes h.holds));
+              has = symbols-kept was now count f.place c.at-origin.result c.symbol-symbol.result at
+                  (omega (arith, on.0, taken_on)) kept.config refl (omega (arith, here, on.0))
+                  (omega (arith, here, on.1, some.room, le)) c.at-origin.ensures c.symbol-symbol.ensures
+                  (kept.symbols place.0) h.has;
+            },
+      )
+      | inr none ↦ (
+        [],
+        λ at count handed bits found few le h.
+            let same = kept.left none.0 none.1 in
+            let on = passes-on was c.next.new.self c.next.new.recent.bits handed bits found few passes h.holds in
+            let left_on : now.finder.passed ≡ c.next.new.self.passed + 1 =
+            c.take.ensures.passed (omega (arith, on.1, few)) in record {
+              holds = holds-config k now.batch.config now.finder now.recent.bits now.batch.stored handed bits
+                  (found ++ []) kept.config
+                  (holding-left k c.next.new.self now.finder c.next.new.recent.bits now.recent.bits b.stored
+                  now.batch.stored handed bits found f c.keep-sound.result few
+                  (takes [] (λ says more short tells. c.take.ensures.left none.2 says more short tells))
+                  (ap (λ (v : Batching). v.stored) same)
+                  (holding-passed k was.finder c.next.new.self was.recent.bits c.next.new.recent.bits b.stored handed
+                  bits found few passes h.holds));
+              has = symbols-stored was now count at (omega (arith, on.0, left_on)) kept.config refl
+                  (subst (AreAt at count) (sym (ap (λ (v : Batching). v.symbols) same)) h.has.stored) h.has;
+            },
+      )
+    ]

@@ -4,7 +4,7 @@ use Rattle.tm_base.specs.Marker.{marker_size}
 use Rattle.tm_channel.specs.Items.{ItemValue, are_fixed}
 use Rattle.tm_channel.specs.Storing.{AreItemsIn}
 use Rattle.tm_channel.proofs.ExpectedItems.{in-fewer, probe-sound}
-use Rattle.tm_channel.proofs.expected.is_sound.Goals as goal
+use Rattle.tm_channel.proofs.expected.take_sound.Goals as goal
 
 pub returns-then-not-are_fixed-clause-sound : goal.returns-then-not-are_fixed-clause-sound
 returns-then-not-are_fixed-clause-sound c =
@@ -14,8 +14,8 @@ returns-then-not-are_fixed-clause-sound c =
     c.min-index.result c.codeblock_size.result c.fill.new.self c.repair_slot.new.slot _
     (omega (arith, c.min-index.ensures)) c.codeblock_size.ensures.value c.fill.ensures.stored c.repair_slot.ensures.item
 
-pub returns-then-not-are_fixed-clause-expected : goal.returns-then-not-are_fixed-clause-expected
-returns-then-not-are_fixed-clause-expected c =
+pub returns-then-not-are_fixed-clause-left : goal.returns-then-not-are_fixed-clause-left
+returns-then-not-are_fixed-clause-left c = λ none.
     let index = c.min-index.result in
     let slots = c.args.slots.now in (
       search rules,
