@@ -274,7 +274,7 @@ are_codewords c frame codeblock ok is long = elim (coded c ok) [
 
 -- ---- the frame
 
-AreOctets-column : (depth i : ℕ) (block : List ℕ) → AreOctets block → AreOctets (column depth i block)
+pub AreOctets-column : (depth i : ℕ) (block : List ℕ) → AreOctets block → AreOctets (column depth i block)
 AreOctets-column depth i block are = are_octets (column depth i block) (λ k. get_or-column-lt depth i k block are)
 
 data-is : (c : Configuration) (frame : List ℕ) (i : ℕ) → IsAccepted c → IsFrame c frame → c.code ≢ Uncoded → i < c.depth

@@ -1,14 +1,15 @@
 // A codeblock that is whole, and what came of it.
 ghost use Rattle.std.specs.Prelude.{◌≡◌, ◌<◌, ◌≤◌, ◌+◌, ◌*◌, drop, length, take};
 ghost use Rattle.tm_config.specs.Configuration.{codeblock_length, longest_codeblock};
-ghost use Rattle.tm_codeblock.specs.ReceivedCodeblock.{column_count};
+ghost use Rattle.tm_codeblock.specs.ReceivedCodeblock.{column_count, frame_of};
+ghost use Rattle.tm_channel.specs.ColumnWords.{all_symbols};
 ghost use Rattle.tm_channel.specs.Items.{IsItem};
 ghost use Rattle.tm_channel.specs.Receiving.{stored_of};
 ghost use Rattle.tm_channel.specs.Storing.{IsDecoded, answers_of, item_in, place_in, stored_in};
 
 use crate::column_words::write_frame;
 use crate::item::{Item, are_fixed};
-use tm_codeblock::{column_count, has_code, read_codeblock};
+use tm_codeblock::{codeblock_size, column_count, has_code, read_codeblock};
 use tm_config::{Config, LONGEST_CODEBLOCK};
 use tm_rs::Answer;
 use tm_sync::{Found, RecentBits};
@@ -59,13 +60,8 @@ impl Slot {
             (item_in config.now self.new) }
     {
         let count = column_count(config);
-        let size = config.length() as usize;
         write_answers(words, &mut self.answers[..count]);
-        if has_code(config) {
-            write_frame(config, words, &mut self.frame[..size]);
-        } else {
-            self.frame = self.octets;
-        }
+        fill_frame(config, &self.octets, words, &mut self.frame);
     }
 
     /// The item that was written.
@@ -97,5 +93,23 @@ fn write_answers(words: &[Word], answers: &mut [Answer])
 {
     for i in 0..words.len() {
         answers[i] = words[i].answer.unwrap_or(Answer::Beyond);
+    }
+}
+
+// Writes the frame of the codeblock that `octets` begin with, as the first octets of `frame`.
+fn fill_frame(config: &Config, octets: &[u8], words: &[Word], frame: &mut [u8])
+    requires octets { length octets.now ≡ longest_codeblock }
+    requires words { length words.now ≡ column_count config.now }
+    requires frame { length frame.old ≡ longest_codeblock }
+    requires decoded { IsDecoded config.now (take (codeblock_length config.now) octets.now) words.now }
+    ensures { take config.now.frame_length frame.new
+        ≡ frame_of config.now (take (codeblock_length config.now) octets.now) (all_symbols config.now words.now) }
+{
+    let size = config.length() as usize;
+    if has_code(config) {
+        let codeblock = &octets[..codeblock_size(config)];
+        write_frame(config, codeblock, words, &mut frame[..size]);
+    } else {
+        frame.copy_from_slice(octets);
     }
 }
