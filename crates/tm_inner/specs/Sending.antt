@@ -1,5 +1,5 @@
 -- What an inner sender keeps, and for which octets, given so far, it stands.
-use Rattle.std.specs.Prelude.{◌≡◌, ℕ, if◌then◌else◌, Bool, List, ◌++◌, Option, Some, None}
+use Rattle.std.specs.Prelude.{◌≡◌, ℕ, if◌then◌else◌, Bool, false, List, ◌++◌, Option, Some, None}
 use Rattle.std.specs.Option.{is_some}
 use Rattle.tm_base.specs.Bits.{bits_of}
 use Rattle.tm_base.specs.Pieces.{Fed, FedPrefix, further}
@@ -48,6 +48,10 @@ InnerSenderStandsFor sender octets = KeepsFor sender.encoder octets
 -- itself, or one for each bit where these are not packed
 abbrev pub most_symbols : Configuration → ℕ
 most_symbols c = if is_some c.inner then most_octet_symbols else if c.pack then 1 else 8
+
+-- the symbols of octets are these octets: with no inner code, where bits are packed
+abbrev pub is_plain : Configuration → Bool
+is_plain c = if is_some c.inner then false else c.pack
 
 -- given these octets, a sender went on, and these symbols are due for them
 pub record InnerMakes (before now : InnerSending) (octets symbols : List ℕ) : Type 0 where

@@ -4,7 +4,7 @@ ghost use Rattle.tm_base.specs.Bits.{AreOctets};
 ghost use Rattle.tm_base.specs.Outside.{Rose};
 ghost use Rattle.tm_base.specs.Pieces.{further};
 ghost use Rattle.tm_inner.specs.Symbols.{symbols_of_octets};
-ghost use Rattle.tm_inner.specs.Sending.{IsEncoderOf, KeepsFor, InnerSenderStandsFor, InnerSends, InnerSendsPrefix, InnerMakes, most_symbols};
+ghost use Rattle.tm_inner.specs.Sending.{IsEncoderOf, KeepsFor, InnerSenderStandsFor, InnerSends, InnerSendsPrefix, InnerMakes, is_plain, most_symbols};
 
 use crate::code::{encoder_of, is_packed, low_level};
 use crate::spreading::spread;
@@ -79,6 +79,7 @@ impl InnerSender {
 
     /// Whether the symbols of octets are these octets: with no inner code, where bits are packed.
     pub fn is_plain(&self) -> bool
+        ensures value { result ≡ is_plain self.now.config }
         ensures one { IsTrue result → most_symbols self.now.config ≡ 1 }
         ensures same { IsTrue result → (octets : List ℕ) → AreOctets octets
             → InnerMakes self.now self.now octets octets }
