@@ -1,4 +1,4 @@
-// The words in nearly equal parts, one for each worker.
+// The words in equal parts, one for each worker.
 ghost use Rattle.std.specs.Prelude.{◌+◌, ◌<◌, length};
 ghost use Rattle.tm_workers.specs.Batch.{EachBecomes, words_bound};
 ghost use Rattle.tm_workers.specs.Working.{Leaves};
@@ -16,8 +16,8 @@ pub fn decode_one<G: Gate, W, F: Fn(&mut W)>(gate: &G, decode: &F, number: u32, 
     decode(word);
 }
 
-/// Decodes each word in its place, by at most `workers` workers: each has one part of the words, and the parts are
-/// nearly equal. The first word has the number `first`. It takes no memory.
+/// Decodes each word in its place, by at most `workers` workers: each has one part of the words, all as long as the
+/// first but the last, which may be shorter. The first word has the number `first`. It takes no memory.
 pub fn split_evenly<R: Threads + Sync, G: Gate + Sync, W: Send, F: Fn(&mut W) + Sync>(
     rt: &R,
     gate: &G,
