@@ -73,37 +73,30 @@ static OPTION_WORDS: [(&str, &str, u64); 30] = [
     ("bad", "pass", 1),
 ];
 
-// The options that have words.
-static OPTIONS: &str =
-    "code inner invert randomize basis soft start phase polarity pack rescan bad";
-
 // The value of an option that has words.
 fn value_of(raw: &Raw, option: &str) -> Option<u64> {
-    let values = values_of(raw);
-    let mut place = 0usize;
-    for name in OPTIONS.split_whitespace() {
-        if name == option {
-            return *values.get(place)?;
+    for (name, value) in &values_of(raw) {
+        if *name == option {
+            return *value;
         }
-        place = place.wrapping_add(1);
     }
     None
 }
 
-fn values_of(raw: &Raw) -> [Option<u64>; 12] {
+fn values_of(raw: &Raw) -> [(&'static str, Option<u64>); 12] {
     [
-        Some(raw.code),
-        Some(raw.inner),
-        raw.invert,
-        Some(raw.randomize),
-        Some(raw.basis),
-        Some(raw.soft),
-        Some(raw.start),
-        Some(raw.phase),
-        Some(raw.polarity),
-        Some(raw.pack),
-        Some(raw.rescan),
-        Some(raw.bad),
+        ("code", Some(raw.code)),
+        ("inner", Some(raw.inner)),
+        ("invert", raw.invert),
+        ("randomize", Some(raw.randomize)),
+        ("basis", Some(raw.basis)),
+        ("soft", Some(raw.soft)),
+        ("start", Some(raw.start)),
+        ("phase", Some(raw.phase)),
+        ("polarity", Some(raw.polarity)),
+        ("pack", Some(raw.pack)),
+        ("rescan", Some(raw.rescan)),
+        ("bad", Some(raw.bad)),
     ]
 }
 
