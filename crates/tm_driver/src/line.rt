@@ -53,6 +53,11 @@ impl Line {
         ensures text { self.new ≡ self.old ++ decimal number }
         ensures length { length self.new ≤ length self.old + most_digits }
     {
+        // Most numbers of a report are digits.
+        if number < 10 {
+            self.text(&[b'0' + number as u8]);
+            return;
+        }
         let mut buffer = Buffer::new();
         self.text(buffer.format(number).as_bytes());
     }
