@@ -117,6 +117,7 @@ impl Codeblocks {
         ensures symbols { (is_inside ≡ true → IsTrue result)
             → self.new.symbols ≡ self.old.symbols ++ record { place = found.place; symbol = symbol } ∷ [] }
         ensures written { AreWritten self.new }
+        ensures off { self.old.config.rescan ≡ false → result ≡ true }
         ensures sound { self.old.config.rescan ≡ true → result
             ≡ is_sound self.old.config (codeblock_in self.old.config found.inverted
             (take (8 * codeblock_length self.old.config) (drop marker_size recent.now.bits))) }
