@@ -3,15 +3,15 @@
 #![tactic(auto)]
 
 #[cfg(test)]
-mod columns;
+mod codeblock;
 #[cfg(test)]
 mod digits;
 #[cfg(test)]
 mod dual;
 #[cfg(test)]
-mod gf256;
+mod generators;
 #[cfg(test)]
-mod randomizer;
+mod gf256;
 #[cfg(test)]
 mod records;
 #[cfg(test)]

@@ -1,12 +1,12 @@
 // Worked records.
-ghost use Rattle.std.specs.Prelude.{◌≡◌, ◌<◌, ◌≤◌};
+ghost use Rattle.std.specs.Prelude.{◌≡◌};
 
 use std::alloc::Global;
 use std::process::Abort;
 use std::test::Fail;
 use std::thread::Threads;
 use tm_gf256::Basis;
-use tm_records::{Coding, ErasedAnswer, OpenGate, Records, nearest_records_law};
+use tm_records::{Coding, ErasedAnswer, OpenGate, Records};
 use tm_rs_code::Params;
 
 // The codeword of 33 symbols whose information symbol is 1, in the dual basis.
@@ -17,8 +17,7 @@ const A: [u8; 33] = [
 ];
 
 // A batch of records of the words of A's code.
-fn open(rt: &impl Abort, alloc: Global, workers: u8) -> Records
-    requires { (0 < workers) × (workers ≤ 64) }
+fn open(rt: &impl Abort, alloc: Global) -> Records
     ensures { result.coding.params.n ≡ 33 }
 {
     let params = Params::new(16, 33).expect(rt, "a code");
@@ -27,7 +26,7 @@ fn open(rt: &impl Abort, alloc: Global, workers: u8) -> Records
         basis: Basis::Dual,
         repair: 16,
     };
-    Records::open(alloc, coding, workers).expect(rt, "memory")
+    Records::open(alloc, coding, 2).expect(rt, "memory")
 }
 
 // A with its first symbols made 0, of which the first are erased.
@@ -74,7 +73,7 @@ fn check_beyond(rt: &impl Abort, records: &Records, index: usize)
 
 #[test]
 fn erased_symbols_are_filled_in(rt: HostRuntime) -> Result<(), Fail> {
-    let mut records = open(&rt, rt.alloc(), 1);
+    let mut records = open(&rt, rt.alloc());
     let mut piece = [0; 66];
     piece[0] = 0x7B;
     piece[34..].fill(1);
@@ -90,23 +89,5 @@ fn erased_symbols_are_filled_in(rt: HostRuntime) -> Result<(), Fail> {
     check_beyond(&rt, &records, 2);
     records.clear();
     assert!(rt; records.left_over() == 0);
-    Ok(())
-}
-
-#[test]
-fn a_batch_has_256_records(rt: HostRuntime) -> Result<(), Fail> {
-    nearest_records_law();
-    let mut piece = Vec::new(rt.alloc());
-    for _ in 0..257 {
-        piece.extend_from_slice(&record_of(4, 3))?;
-    }
-    let mut records = open(&rt, rt.alloc(), 7);
-    take(&rt, &mut records, &piece, 256 * 66);
-    assert!(rt; records.is_full());
-    take(&rt, &mut records, &piece, 0);
-    decode(&rt, &mut records, 256);
-    for index in 0..256 {
-        check_answer(&rt, &records, index, ErasedAnswer::Fixed(1, 3));
-    }
     Ok(())
 }

@@ -8,7 +8,7 @@ use std::process::Abort;
 use std::sync::ledger::{Blank, Ledger};
 use tm_gf256::Gf;
 use tm_rs::{Locator, Steps, locate, solve, solve_erased};
-use tm_rs_code::{Params, plain_values_at_places};
+use tm_rs_code::Params;
 
 mod locators;
 
@@ -92,7 +92,7 @@ fn check_found(rt: &impl Abort, row: &Row<'_>, found: Option<Locator>) {
     assert!(rt; found == locator_of(row.coefs), "for {}", row.name);
 }
 
-// The locator of a row.
+// The locator of a row, by the call that takes erased places.
 fn test_places<L: Ledger>(
     rt: &impl Abort,
     row: &Row<'_>,
@@ -106,7 +106,7 @@ fn test_places<L: Ledger>(
     check_found(rt, row, found);
 }
 
-// The locator of a row by `solve`, which takes no erased places.
+// The locator of a row without erased places, by the calls that take none.
 fn test_plain<L: Ledger>(
     rt: &impl Abort,
     row: &Row<'_>,
@@ -116,25 +116,8 @@ fn test_plain<L: Ledger>(
 ) {
     let found = located(params, syndromes, steps);
     check_found(rt, row, found);
-}
-
-// The locator of a row by `locate`, which gives the locator's values too.
-fn test_values<L: Ledger>(
-    rt: &impl Abort,
-    row: &Row<'_>,
-    params: &Params,
-    syndromes: &[Gf; 32],
-    steps: &mut Steps<L>,
-) {
-    let n = params.n() as usize;
-    let mut values = [0; 256];
-    let found = locate(params, syndromes, &mut values, steps);
+    let found = locate(params, syndromes, &mut [0; 256], steps);
     check_found(rt, row, found);
-    if let Some(locator) = found {
-        let size = usize::from(locator.degree) + 1;
-        let plain = plain_values_at_places(&locator.coefs[..size], n);
-        assert!(rt; values[..n] == plain[..n]);
-    }
 }
 
 // Syndromes of a word without erased places are given to all calls.
@@ -145,7 +128,6 @@ fn test_row<L: Ledger>(rt: &impl Abort, row: &Row<'_>, steps: &mut Steps<L>) {
     test_places(rt, row, &params, &syndromes, steps);
     if row.erased.len() < 2 {
         test_plain(rt, row, &params, &syndromes, steps);
-        test_values(rt, row, &params, &syndromes, steps);
     }
 }
 

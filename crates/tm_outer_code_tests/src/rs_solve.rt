@@ -6,12 +6,20 @@ use std::marker::Brand;
 use std::process::Abort;
 use std::sync::ledger::{Blank, Ledger};
 use tm_gf256::Gf;
-use tm_rs::{Answer, ErasedAnswer, Steps, decode_erased, decode_word};
+use tm_rs::{
+    Answer, ErasedAnswer, Steps, decode_erased, decode_word, plain_decode_erased, plain_decode_word,
+};
 use tm_rs_code::Params;
 use words::WORDS;
 
-mod both_forms;
 mod words;
+
+// The form that many words go through, or the plain one beside it.
+#[derive(Clone, Copy)]
+enum Form {
+    Fast,
+    Plain,
+}
 
 // A line of the table.
 #[derive(Drop)]
@@ -74,18 +82,28 @@ fn changed(word: &[Gf; 255], text: &[u8]) -> [Gf; 255] {
     symbols
 }
 
-// The decoder, with its bounds on steps as numbers.
-fn decode<L: Ledger>(params: &Params, repair: u8, word: &mut [Gf], steps: &mut Steps<L>) -> Answer
+// A form of the decoder, with its bounds on steps as numbers.
+fn decode<L: Ledger>(
+    form: Form,
+    params: &Params,
+    repair: u8,
+    word: &mut [Gf],
+    steps: &mut Steps<L>,
+) -> Answer
     requires bound { repair ≤ params.now.e }
     requires size { length word.old ≡ params.now.n }
     ensures steps_of_16 { params.now.e ≡ 16 → steps.new ≤ steps.old + 2144 }
     ensures steps_of_8 { params.now.e ≡ 8 → steps.new ≤ steps.old + 560 }
 {
-    decode_word(params, repair, word, steps)
+    match form {
+        Form::Fast => decode_word(params, repair, word, steps),
+        Form::Plain => plain_decode_word(params, repair, word, steps),
+    }
 }
 
-// The decoder of words with erased places, with its bounds on steps as numbers.
+// A form of the decoder of words with erased places, with its bounds on steps as numbers.
 fn decode_with<L: Ledger>(
+    form: Form,
     params: &Params,
     repair: u8,
     erased: &[bool],
@@ -98,7 +116,10 @@ fn decode_with<L: Ledger>(
     ensures steps_of_16 { params.now.e ≡ 16 → steps.new ≤ steps.old + 4192 }
     ensures steps_of_8 { params.now.e ≡ 8 → steps.new ≤ steps.old + 1072 }
 {
-    decode_erased(params, repair, erased, word, steps)
+    match form {
+        Form::Fast => decode_erased(params, repair, erased, word, steps),
+        Form::Plain => plain_decode_erased(params, repair, erased, word, steps),
+    }
 }
 
 // What was returned for the word of a row, and what is left of it.
@@ -119,6 +140,7 @@ fn check_decoded(
 // The answer of a row, and the word that is left.
 fn test_places<L: Ledger>(
     rt: &impl Abort,
+    form: Form,
     row: &Row<'_>,
     params: &Params,
     word: &[Gf; 255],
@@ -130,13 +152,21 @@ fn test_places<L: Ledger>(
     let n = params.n() as usize;
     let erased = flags_of(row.erased);
     let mut left = *word;
-    let answer = decode_with(params, row.repair, &erased[..n], &mut left[..n], steps);
+    let answer = decode_with(
+        form,
+        params,
+        row.repair,
+        &erased[..n],
+        &mut left[..n],
+        steps,
+    );
     check_decoded(rt, row, answer, &left, wanted);
 }
 
-// The answer of a row, and the word that is left, by `decode_word`, which takes no erased places.
+// The answer of a row, and the word that is left, by a form that takes no erased places.
 fn test_plain<L: Ledger>(
     rt: &impl Abort,
+    form: Form,
     row: &Row<'_>,
     params: &Params,
     word: &[Gf; 255],
@@ -147,23 +177,25 @@ fn test_plain<L: Ledger>(
 {
     let n = params.n() as usize;
     let mut left = *word;
-    let answer = match decode(params, row.repair, &mut left[..n], steps) {
+    let answer = match decode(form, params, row.repair, &mut left[..n], steps) {
         Answer::Fixed(wrong) => ErasedAnswer::Fixed(wrong, 0),
         Answer::Beyond => ErasedAnswer::Beyond,
     };
     check_decoded(rt, row, answer, &left, wanted);
 }
 
-// A word without erased places is given to both calls.
+// A word without erased places is given to all four calls.
 fn test_row<L: Ledger>(rt: &impl Abort, row: &Row<'_>, steps: &mut Steps<L>) {
     let n = row.word.len() / 2;
     let params = Params::new(row.e, n as u64).expect(rt, "a code");
     assert!(rt; n <= 255 && params.n() == n as u64 && u64::from(row.repair) <= params.e());
     let word = symbols_of(row.word);
     let wanted = changed(&word, row.changes);
-    test_places(rt, row, &params, &word, &wanted, steps);
-    if row.erased.len() < 2 {
-        test_plain(rt, row, &params, &word, &wanted, steps);
+    for form in [Form::Fast, Form::Plain] {
+        test_places(rt, form, row, &params, &word, &wanted, steps);
+        if row.erased.len() < 2 {
+            test_plain(rt, form, row, &params, &word, &wanted, steps);
+        }
     }
 }
 

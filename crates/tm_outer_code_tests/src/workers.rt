@@ -1,4 +1,5 @@
-// Worked batches. G is the codeword of 33 symbols whose information symbol is 1. They hold whatever memory is refused.
+// Worked batches. They hold whatever memory is refused.
+use crate::generators::OF_16;
 use std::sync::atomic::{AtomicU64, Ordering};
 use std::test::Fail;
 use tm_gf256::Gf;
@@ -8,17 +9,11 @@ use tm_workers::{
     ErasedWord, Gate, OpenGate, Word, decode_all, decode_batch, decode_erased_batch, split_evenly,
 };
 
-const G: [u8; 33] = [
-    0x01, 0x5B, 0x7F, 0x56, 0x10, 0x1E, 0x0D, 0xEB, 0x61, 0xA5, 0x08, 0x2A, 0x36, 0x56, 0xAB, 0x20,
-    0x71, 0x20, 0xAB, 0x56, 0x36, 0x2A, 0x08, 0xA5, 0x61, 0xEB, 0x0D, 0x1E, 0x10, 0x56, 0x7F, 0x5B,
-    0x01,
-];
-
 // The codeword with its first symbols wrong, before symbols that are no part of it.
 fn symbols_with(wrong: usize) -> [Gf; 255] {
     let mut symbols = [Gf(0x55); 255];
     for i in 0..33 {
-        symbols[i] = Gf(if i < wrong { G[i] ^ 1 } else { G[i] });
+        symbols[i] = Gf(OF_16[i] ^ u8::from(i < wrong));
     }
     symbols
 }
@@ -54,17 +49,6 @@ fn each_word_is_decoded_in_its_place(rt: HostRuntime) -> Result<(), Fail> {
         ];
         assert!(rt; words == outcome);
     }
-    Ok(())
-}
-
-#[test]
-fn no_word_is_decoded(rt: HostRuntime) -> Result<(), Fail> {
-    let Ok(params) = Params::new(8, 255) else {
-        panic!(rt; "no code")
-    };
-    let mut words: [Word; 0] = [];
-    decode_batch(&rt, rt.alloc(), &params, 0, &mut words, 2, &OpenGate);
-    assert!(rt; words.is_empty());
     Ok(())
 }
 
