@@ -1,6 +1,6 @@
 use Rattle.std.proofs.Common.{ℕ, ◌≡◌, ◌+◌, ◌^◌, ◌<◌, List, All, length, get_or, arith}
 use Rattle.std.proofs.lemmas.List.Elements.{All-get_or}
-use Rattle.tm_viterbi_tests.proofs.viterbi.columns.Goals as goal
+use Rattle.tm_inner_tests.proofs.viterbi.columns.Goals as goal
 
 -- two numbers below 2^31 add up to less than 2^32
 fit : (sums metrics : List ℕ) → length sums ≡ 64 → length metrics ≡ 4

@@ -7,49 +7,56 @@ use tm_base::Failed;
 use tm_inner::{InnerDecoder, Window, WindowWatch};
 use tm_viterbi::{Block, BlockTaker};
 
-// A block that was handed over, with the first of its bits.
+/// A block that was handed over, with the first of its bits.
 #[derive(Clone, Copy, PartialEq, Eq)]
-pub(super) struct Kept {
-    pub(super) start: u8,
-    pub(super) steps: u32,
-    pub(super) kept: u32,
-    pub(super) metric: u64,
-    pub(super) first: u8,
-    pub(super) end_state: u8,
+pub struct Kept {
+    pub start: u8,
+    pub steps: u32,
+    pub kept: u32,
+    pub metric: u64,
+    pub first: u8,
+    pub end_state: u8,
 }
 
-// It takes a phase before any block and the first blocks, and fails from then on. With no room it takes no phase
-// either.
+/// A block of one step from register 0 to register 0, at no cost.
+pub const STEP: Kept = Kept {
+    start: 0,
+    steps: 1,
+    kept: 1,
+    metric: 0,
+    first: 0,
+    end_state: 0,
+};
+
+/// It takes one phase, before any block, and fails where it is out of memory.
 #[derive(Drop)]
-pub(super) struct Collector {
+pub struct Collector {
     kept: Vec<Kept>,
     windows: Vec<Window>,
     // Its skip and its cost.
     phase: Option<(u8, u64)>,
-    room: usize,
     faults: u64,
 }
 
 impl Collector {
-    pub(super) fn new(alloc: Global, room: usize) -> Collector {
+    pub fn new(alloc: Global) -> Collector {
         Collector {
             kept: Vec::new(alloc),
             windows: Vec::new(alloc),
             phase: None,
-            room,
             faults: 0,
         }
     }
 
-    pub(super) fn kept(&self) -> &[Kept] {
+    pub fn kept(&self) -> &[Kept] {
         self.kept.as_slice()
     }
 
-    pub(super) fn windows(&self) -> &[Window] {
+    pub fn windows(&self) -> &[Window] {
         self.windows.as_slice()
     }
 
-    pub(super) fn phase(&self) -> Option<(u8, u64)> {
+    pub fn phase(&self) -> Option<(u8, u64)> {
         self.phase
     }
 }
@@ -76,7 +83,7 @@ impl BlockTaker for Collector {
             first: if b.bits.is_empty() { 2 } else { b.bits[0] },
             end_state: b.end_state,
         };
-        if self.kept.len() < self.room && self.kept.push(kept).is_ok() {
+        if self.kept.push(kept).is_ok() {
             return Ok(());
         }
         self.faults = self.faults.saturating_add(1);
@@ -84,7 +91,7 @@ impl BlockTaker for Collector {
     }
 
     fn phase(&mut self, skip: u8, cost: u64) -> Result<(), Failed> {
-        if self.room != 0 && self.phase.is_none() && self.kept.len() == 0 {
+        if self.phase.is_none() && self.kept.len() == 0 {
             self.phase = Some((skip, cost));
             return Ok(());
         }
@@ -98,7 +105,9 @@ impl WindowWatch for Collector {
 
     ghost told = { λ before item now. Unit {0} };
 
-    fn phase(&mut self, _skip: u8, _cost: u64) {}
+    fn phase(&mut self, skip: u8, cost: u64) {
+        self.phase = Some((skip, cost));
+    }
 
     fn window(&mut self, inner: &InnerDecoder, index: usize) {
         let _ = self.windows.push(inner.window(index));
