@@ -1,8 +1,8 @@
-// The bits that are not passed yet, and the search inside codeblocks, on worked streams.
+// The search inside codeblocks, on worked streams.
 ghost use Rattle.std.specs.Prelude.{◌≡◌};
 ghost use Rattle.tm_sync.specs.Finding.{IsWhole};
 
-use crate::sync::{bridged, inverted, plain};
+use crate::sync::{Place, place_of};
 use std::alloc::{AllocError, Global};
 use std::process::Abort;
 use std::test::Fail;
@@ -51,93 +51,6 @@ const INVERTED: [u8; 84] = [
     0x6A, 0x08, 0xC0, 0x3C,
 ];
 
-// Pushes a few octets into a room of eight.
-fn push_octets(rt: &impl Abort, recent: &mut RecentBits, octets: &[u8], from: usize)
-    requires { recent.old.size ≡ 8 }
-    ensures { recent.new.size ≡ 8 }
-{
-    assert!(rt; octets.len() <= 4);
-    assert!(rt; from <= 8 * octets.len());
-    assert!(rt; recent.count() + 8 * octets.len() <= 57);
-    recent.push(octets, from);
-}
-
-// The four last bits of an octet, a marker, and the first 16 bits of an inverted one.
-fn push_marker(rt: &impl Abort, recent: &mut RecentBits)
-    requires { recent.old.size ≡ 8 }
-    ensures { recent.new.size ≡ 8 }
-{
-    push_octets(rt, recent, &[0x5A, 0x1A, 0xCF, 0xFC], 4);
-    push_octets(rt, recent, &[0x1D, 0xE5, 0x30], 0);
-}
-
-// Passes all before the last octet of that marker, and pushes the rest of the inverted one, with a wrong bit.
-fn push_inverted(rt: &impl Abort, recent: &mut RecentBits)
-    requires { recent.old.size ≡ 8 }
-    ensures { recent.new.size ≡ 8 }
-{
-    assert!(rt; recent.count() >= 28);
-    recent.pass(28);
-    push_octets(rt, recent, &[0x03, 0xE3], 0);
-}
-
-// There are `count` bits, and `free` octets fit after them.
-fn check_count(rt: &impl Abort, recent: &RecentBits, count: usize, free: usize) {
-    assert!(rt; recent.count() == count);
-    assert!(rt; recent.free() == free);
-}
-
-// This word stands after the first `at` bits, and its octets.
-fn check_word(rt: &impl Abort, recent: &RecentBits, at: usize, word: u32) {
-    assert!(rt; at <= 32);
-    assert!(rt; recent.count() >= at + 32);
-    assert!(rt; recent.word(at) == word);
-    let mut octets = [0; 4];
-    recent.copy(at, &mut octets);
-    assert!(rt; octets == word.to_be_bytes());
-}
-
-// The first of the next `most` bits at which a marker with at most one wrong bit stands, and the same of an inverted
-// one too.
-fn check_near(rt: &impl Abort, recent: &RecentBits, most: usize, upright: usize, either: usize) {
-    assert!(rt; most <= 32);
-    assert!(rt; recent.count() + 1 >= most + 32);
-    assert!(rt; recent.first_near(most, 1, false) == upright);
-    assert!(rt; recent.first_near(most, 1, true) == either);
-}
-
-#[test]
-fn bits_are_kept_as_they_were_pushed(rt: HostRuntime) -> Result<(), Fail> {
-    let mut recent = RecentBits::new(vec![in rt.alloc(); 7; 8]?);
-    push_marker(&rt, &mut recent);
-    check_count(&rt, &recent, 52, 0);
-    check_word(&rt, &recent, 0, 0xA1AC_FFC1);
-    check_word(&rt, &recent, 7, 0xD67F_E0EF);
-    check_near(&rt, &recent, 21, 4, 4);
-    Ok(())
-}
-
-#[test]
-fn bits_are_moved_where_octets_do_not_fit_after_them(rt: HostRuntime) -> Result<(), Fail> {
-    let mut recent = RecentBits::new(vec![in rt.alloc(); 7; 8]?);
-    push_marker(&rt, &mut recent);
-    push_inverted(&rt, &mut recent);
-    check_count(&rt, &recent, 40, 2);
-    check_word(&rt, &recent, 1, 0x3BCA_6007);
-    check_near(&rt, &recent, 9, 9, 8);
-    recent.clear();
-    check_count(&rt, &recent, 0, 7);
-    Ok(())
-}
-
-// How a search is made.
-#[derive(Clone, Copy)]
-struct Rules {
-    fly: u8,
-    either: bool,
-    inside: bool,
-}
-
 // The next place that a search finds, and whether it is one, where the codeblocks of these are sound.
 fn take_next(finder: &mut Finder, recent: &mut RecentBits, sound: &[u64]) -> Option<(Found, bool)>
     requires { IsWhole finder.old recent.old.bits }
@@ -152,18 +65,17 @@ fn take_next(finder: &mut Finder, recent: &mut RecentBits, sound: &[u64]) -> Opt
     }
 }
 
-// The places in octets, where the codeblocks of these are sound.
+// The places in the octets of a row, and those of markers inside codeblocks where they are looked for.
 fn places_in(
     rt: &impl Abort,
     alloc: Global,
-    rules: Rules,
-    octets: &[u8],
-    sound: &[u64],
-) -> Result<Vec<Found>, AllocError> {
-    assert!(rt; octets.len() <= 84);
+    looks_inside: bool,
+    row: &Row<'_>,
+) -> Result<Vec<Place>, AllocError> {
+    assert!(rt; row.octets.len() <= 84);
     let mut recent = RecentBits::new(vec![in alloc; 7; 96]?);
-    recent.push(octets, 0);
-    let columns = if rules.inside {
+    recent.push(row.octets, 0);
+    let columns = if looks_inside {
         Some(Columns {
             stride: 8,
             strength: 8,
@@ -171,11 +83,11 @@ fn places_in(
     } else {
         None
     };
-    let mut finder = Finder::new(0, rules.fly, rules.either, 136, 0, columns);
+    let mut finder = Finder::new(0, row.fly, row.either, 136, 0, columns);
     let mut places = Vec::new(alloc);
-    for _ in octets {
-        match take_next(&mut finder, &mut recent, sound) {
-            Some((found, true)) => places.push(found)?,
+    for _ in row.octets {
+        match take_next(&mut finder, &mut recent, row.sound) {
+            Some((found, true)) => places.push(place_of(found))?,
             Some(_) => {}
             None => return Ok(places),
         }
@@ -183,113 +95,102 @@ fn places_in(
     Ok(places)
 }
 
-// Where the codeblocks of those are sound, a search finds just these places, and the others with markers inside.
-fn check_both(
-    rt: &impl Abort,
-    alloc: Global,
-    (fly, either): (u8, bool),
-    octets: &[u8],
-    sound: &[u64],
-    places: &[Found],
-    inside: &[Found],
-) -> Result<(), Fail> {
-    let mut rules = Rules {
-        fly,
-        either,
-        inside: false,
-    };
-    check_places(rt, alloc, rules, octets, sound, places)?;
-    rules.inside = true;
-    check_places(rt, alloc, rules, octets, sound, inside)
+// Octets, the places whose codeblocks are sound, and what is found by a search with `fly` and `either`: the places, and
+// those where markers inside codeblocks are looked for.
+#[derive(Drop)]
+struct Row<'a> {
+    fly: u8,
+    either: bool,
+    octets: &'a [u8],
+    sound: &'a [u64],
+    places: &'a [Place],
+    inside: &'a [Place],
 }
 
-fn check_places(
-    rt: &impl Abort,
-    alloc: Global,
-    rules: Rules,
-    octets: &[u8],
-    sound: &[u64],
-    places: &[Found],
-) -> Result<(), Fail> {
-    let found = places_in(rt, alloc, rules, octets, sound)?;
-    assert!(rt; found.as_slice() == places);
+static ROWS: [Row; 5] = [
+    Row {
+        fly: 0,
+        either: false,
+        octets: &LOST,
+        sound: &[167, 335],
+        places: &[(0, 0, false, false), (335, 0, false, false)],
+        inside: &[
+            (0, 0, false, false),
+            (167, 0, false, false),
+            (335, 0, false, false),
+        ],
+    },
+    Row {
+        fly: 1,
+        either: false,
+        octets: &DOUBLED,
+        sound: &[169, 337],
+        places: &[
+            (0, 0, false, false),
+            (168, 12, true, false),
+            (337, 0, false, false),
+        ],
+        inside: &[
+            (0, 0, false, false),
+            (168, 12, true, false),
+            (169, 0, false, false),
+            (337, 0, false, false),
+        ],
+    },
+    Row {
+        fly: 1,
+        either: false,
+        octets: &UNSOUND,
+        sound: &[168, 336],
+        places: &[
+            (0, 0, false, false),
+            (168, 16, true, false),
+            (336, 0, false, false),
+        ],
+        inside: &[
+            (0, 0, false, false),
+            (168, 16, true, false),
+            (336, 0, false, false),
+        ],
+    },
+    Row {
+        fly: 1,
+        either: false,
+        octets: &SOUND,
+        sound: &[0, 104, 272],
+        places: &[(0, 0, false, false), (168, 16, true, false)],
+        inside: &[
+            (0, 0, false, false),
+            (104, 0, false, false),
+            (272, 0, false, false),
+        ],
+    },
+    Row {
+        fly: 1,
+        either: true,
+        octets: &INVERTED,
+        sound: &[167, 335, 503],
+        places: &[
+            (0, 0, false, false),
+            (168, 21, true, false),
+            (503, 0, false, false),
+        ],
+        inside: &[
+            (0, 0, false, false),
+            (167, 0, false, true),
+            (335, 16, true, true),
+            (503, 0, false, false),
+        ],
+    },
+];
+
+#[test]
+fn places_with_markers_inside_codeblocks(rt: HostRuntime) -> Result<(), Fail> {
+    for row in &ROWS {
+        let places = places_in(&rt, rt.alloc(), false, row)?;
+        assert!(rt; places.as_slice() == row.places);
+        let inside = places_in(&rt, rt.alloc(), true, row)?;
+        assert!(rt; inside.as_slice() == row.inside);
+    }
     Ok(())
-}
-
-#[test]
-fn marker_a_bit_early_is_found_inside(rt: HostRuntime) -> Result<(), Fail> {
-    let places = [plain(0, 0), plain(335, 0)];
-    let inside = [plain(0, 0), plain(167, 0), plain(335, 0)];
-    check_both(
-        &rt,
-        rt.alloc(),
-        (0, false),
-        &LOST,
-        &[167, 335],
-        &places,
-        &inside,
-    )
-}
-
-#[test]
-fn marker_a_bit_late_is_found_inside_a_bridged_place(rt: HostRuntime) -> Result<(), Fail> {
-    let places = [plain(0, 0), bridged(168, 12), plain(337, 0)];
-    let inside = [plain(0, 0), bridged(168, 12), plain(169, 0), plain(337, 0)];
-    check_both(
-        &rt,
-        rt.alloc(),
-        (1, false),
-        &DOUBLED,
-        &[169, 337],
-        &places,
-        &inside,
-    )
-}
-
-#[test]
-fn marker_inside_with_an_unsound_codeblock_is_no_place(rt: HostRuntime) -> Result<(), Fail> {
-    let places = [plain(0, 0), bridged(168, 16), plain(336, 0)];
-    check_both(
-        &rt,
-        rt.alloc(),
-        (1, false),
-        &UNSOUND,
-        &[168, 336],
-        &places,
-        &places,
-    )
-}
-
-#[test]
-fn marker_in_the_last_symbols_of_a_sound_codeblock_is_found(rt: HostRuntime) -> Result<(), Fail> {
-    let places = [plain(0, 0), bridged(168, 16)];
-    let inside = [plain(0, 0), plain(104, 0), plain(272, 0)];
-    check_both(
-        &rt,
-        rt.alloc(),
-        (1, false),
-        &SOUND,
-        &[0, 104, 272],
-        &places,
-        &inside,
-    )
-}
-
-#[test]
-fn inverted_marker_inside_turns_the_bridged_place_after_it(rt: HostRuntime) -> Result<(), Fail> {
-    let places = [plain(0, 0), bridged(168, 21), plain(503, 0)];
-    let turned = Found {
-        bridged: true,
-        ..inverted(335, 16)
-    };
-    let inside = [plain(0, 0), inverted(167, 0), turned, plain(503, 0)];
-    check_both(
-        &rt,
-        rt.alloc(),
-        (1, true),
-        &INVERTED,
-        &[167, 335, 503],
-        &places,
-        &inside,
-    )
 }

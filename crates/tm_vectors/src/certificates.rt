@@ -1,77 +1,14 @@
 // Certificates of the soft decoder, as they are written and checked.
-use crate::runs::{CUTS, Given, check_call, run_over};
+use crate::runs::{Given, run_over};
 use std::alloc::{AllocError, Global};
-use std::process::Abort;
 use std::test::Fail;
 use std::thread::Threads;
 
-// A call over octets that come at most `cut` at a time, with room for certificates.
-fn given<'a>(line: &'a str, input: &'a [u8], cut: usize) -> Given<'a> {
-    let mut given = Given::new(line, input, cut);
+// A call with room for certificates.
+fn given<'a>(line: &'a str, input: &'a [u8]) -> Given<'a> {
+    let mut given = Given::new(line, input, 4096);
     given.out_room = 50_000;
-    given.notes_room = 1000;
     given
-}
-
-// The certificate of these soft octets.
-fn certified(
-    rt: &(impl Abort + Threads + Sync),
-    alloc: Global,
-    line: &str,
-    input: &[u8],
-    cut: usize,
-) -> Result<Vec<u8>, Fail> {
-    let outcome = run_over(rt, alloc, &given(line, input, cut))?;
-    assert!(rt; outcome.status == 0);
-    assert!(rt; outcome.notes.octets().is_empty());
-    Ok(outcome.out.octets().to_vec(alloc)?)
-}
-
-// The first `count` octets, or all where there are fewer.
-fn prefix(octets: &[u8], count: usize) -> &[u8] {
-    &octets[..octets.len().min(count)]
-}
-
-// `count` clean steps of bits 0, at rate 1/2.
-fn steps_of_zeros(alloc: Global, count: usize) -> Result<Vec<u8>, AllocError> {
-    let mut octets = Vec::new(alloc);
-    for _ in 0..count {
-        octets.extend_from_slice(&[0, 0xFF])?;
-    }
-    Ok(octets)
-}
-
-#[test]
-fn windows_are_certified_and_checked(rt: HostRuntime) -> Result<(), Fail> {
-    let alloc = rt.alloc();
-    let soft = steps_of_zeros(alloc, 150)?;
-    let notes =
-        "block 0 steps 67 kept 64 metric 0\nblock 1 steps 67 kept 64 metric 0\nblock 2 steps 22 kept 22 metric 0\nblocks 3 bits 150 leftover 0\n";
-    for cut in CUTS {
-        let octets = certified(&rt, alloc, "tmchan certify --keep 64 --ahead 3", &soft, cut)?;
-        assert!(rt; octets.len() == 41_223);
-        let line = "tmchan check --keep 64 --ahead 3";
-        check_call(
-            &rt,
-            alloc,
-            "windows",
-            &given(line, &octets, cut),
-            0,
-            &soft,
-            notes,
-        )?;
-        let first = "block 0 steps 67 kept 64 metric 0\ncut at block 1\n";
-        check_call(
-            &rt,
-            alloc,
-            "a window is missing",
-            &given(line, prefix(&octets, 17_626), cut),
-            6,
-            prefix(&soft, 128),
-            first,
-        )?;
-    }
-    Ok(())
 }
 
 // The octet of a draw, often one at which symbols tie.
@@ -120,17 +57,18 @@ fn complement_bit(octets: &mut [u8], place: usize) {
 fn changes_are_reported(rt: HostRuntime) -> Result<(), Fail> {
     let alloc = rt.alloc();
     let soft = drawn(alloc, 301)?;
-    let line = "tmchan check --keep 64 --ahead 3";
-    let mut octets = certified(
+    let certified = run_over(
         &rt,
         alloc,
-        "tmchan certify --keep 64 --ahead 3",
-        &soft,
-        4096,
+        &given("tmchan certify --keep 64 --ahead 3", &soft),
     )?;
-    let mut changes = 0u64;
-    let mut passed = 0u64;
-    let mut mix = 0;
+    let mut octets = certified.out.octets().to_vec(alloc)?;
+    assert!(rt; certified.status == 0 && octets.len() == 41_223);
+    let mut seen = Seen {
+        changes: 0,
+        passed: 0,
+        mix: 0,
+    };
     for (first, columns, end) in [
         (0usize, 218usize, 17_626usize),
         (17_626, 17_844, 35_252),
@@ -139,15 +77,36 @@ fn changes_are_reported(rt: HostRuntime) -> Result<(), Fail> {
         for place in first..end {
             if place < columns || (place - columns) % 97 == 0 {
                 complement_bit(&mut octets, place);
-                let outcome = run_over(&rt, alloc, &given(line, &octets, 4096))?;
+                check(&rt, alloc, &octets, &mut seen)?;
                 complement_bit(&mut octets, place);
-                changes = changes.wrapping_add(1);
-                passed = passed.wrapping_add(u64::from(outcome.status == 0));
-                mix = mixed(mix, outcome.notes.octets());
             }
         }
     }
-    assert!(rt; octets.len() == 41_223);
-    assert!(rt; (changes, passed, mix) == (940, 28, 0xE992_5038_B446_CD8Bu64));
+    assert!(rt; (seen.changes, seen.passed, seen.mix) == (940, 28, 0xE992_5038_B446_CD8Bu64));
+    Ok(())
+}
+
+// How many changes were made, how many of them passed, and a number that tells the notes of all apart.
+#[derive(Drop)]
+struct Seen {
+    changes: u64,
+    passed: u64,
+    mix: u64,
+}
+
+fn check(
+    rt: &(impl Threads + Sync),
+    alloc: Global,
+    octets: &[u8],
+    seen: &mut Seen,
+) -> Result<(), Fail> {
+    let outcome = run_over(
+        rt,
+        alloc,
+        &given("tmchan check --keep 64 --ahead 3", octets),
+    )?;
+    seen.changes = seen.changes.wrapping_add(1);
+    seen.passed = seen.passed.wrapping_add(u64::from(outcome.status == 0));
+    seen.mix = mixed(seen.mix, outcome.notes.octets());
     Ok(())
 }

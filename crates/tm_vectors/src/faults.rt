@@ -1,10 +1,16 @@
 // A source that fails at each read, and notes that fail at each octet.
 use crate::runs::{CUTS, Given, check_outcome, run_over};
-use crate::values::UNIT;
 use std::alloc::Global;
 use std::process::Abort;
 use std::test::Fail;
 use std::thread::Threads;
+
+// The marker, and the codeword of the one data symbol 01, as it is sent in the dual basis.
+static UNIT: [u8; 37] = [
+    0x1A, 0xCF, 0xFC, 0x1D, 0x7B, 0x47, 0x32, 0x5F, 0x86, 0x4A, 0x18, 0xA0, 0x78, 0x83, 0xFA, 0xB9,
+    0x5C, 0x5F, 0x4F, 0xEC, 0xFE, 0xEC, 0x4F, 0x5F, 0x5C, 0xB9, 0xFA, 0x83, 0x78, 0xA0, 0x18, 0x4A,
+    0x86, 0x5F, 0x32, 0x47, 0x7B,
+];
 
 const DECODE: &str = "tmchan decode --length 1 --inner none --randomize off";
 
@@ -30,15 +36,7 @@ fn check_read(
     given.failing_read = Some(k);
     let outcome = run_over(rt, alloc, &given)?;
     assert!(rt; outcome.source.calls() == reads);
-    check_outcome(
-        rt,
-        "a read fails",
-        &given,
-        &outcome,
-        status,
-        out,
-        notes.as_bytes(),
-    );
+    check_outcome(rt, &given, &outcome, status, out, notes.as_bytes());
     Ok(())
 }
 
@@ -63,7 +61,7 @@ fn check_room(
     let mut given = decode(cut);
     given.notes_room = room;
     let outcome = run_over(rt, alloc, &given)?;
-    check_outcome(rt, "the notes fail", &given, &outcome, 4, &[0x7B], notes);
+    check_outcome(rt, &given, &outcome, 4, &[0x7B], notes);
     Ok(())
 }
 

@@ -5,7 +5,6 @@ use std::test::Fail;
 use std::thread::Threads;
 use tm_base::{MemSink, MemSource};
 use tm_cli::run;
-use tm_words::{Job, read_words};
 
 /// The most octets that a source gives at a time.
 pub const CUTS: [usize; 3] = [1, 2, 4096];
@@ -47,19 +46,13 @@ pub struct Outcome {
     pub notes: MemSink,
 }
 
-// The words of a line.
-fn words_of(alloc: Global, line: &str) -> Result<Vec<String>, AllocError> {
+/// The words of a line.
+pub fn words_of(alloc: Global, line: &str) -> Result<Vec<String>, AllocError> {
     let mut words = Vec::new(alloc);
     for word in line.split_whitespace() {
         words.push(word.to_string(alloc)?)?;
     }
     Ok(words)
-}
-
-/// What a line asks for.
-pub fn job_of(alloc: Global, line: &str) -> Result<Job, Fail> {
-    let words = words_of(alloc, line)?;
-    Ok(read_words(alloc, words.as_slice())?)
 }
 
 fn source_of(alloc: Global, given: &Given) -> Result<MemSource, AllocError> {
@@ -102,7 +95,6 @@ pub fn run_over(rt: &(impl Threads + Sync), alloc: Global, given: &Given) -> Res
 /// The call ended with this status, and wrote just these octets and these notes.
 pub fn check_outcome(
     rt: &impl Abort,
-    name: &str,
     given: &Given,
     outcome: &Outcome,
     status: u8,
@@ -113,20 +105,5 @@ pub fn check_outcome(
     let is_wanted = outcome.status == status
         && outcome.out.octets() == out
         && outcome.notes.octets() == notes;
-    assert!(rt; is_wanted, "{name}, cut {cut}, room {room}");
-}
-
-/// Makes the call, which ends with this status, and writes just these octets and these notes.
-pub fn check_call(
-    rt: &(impl Abort + Threads + Sync),
-    alloc: Global,
-    name: &str,
-    given: &Given,
-    status: u8,
-    out: &[u8],
-    notes: &str,
-) -> Result<(), Fail> {
-    let outcome = run_over(rt, alloc, given)?;
-    check_outcome(rt, name, given, &outcome, status, out, notes.as_bytes());
-    Ok(())
+    assert!(rt; is_wanted, "cut {cut}, room {room}");
 }

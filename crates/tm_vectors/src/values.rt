@@ -1,26 +1,112 @@
-// Octets that the tests share.
+// Values as the rows write them.
+use std::process::Abort;
+use tm_config::Raw;
 
-/// The attached sync marker (CCSDS 131.0-B, Frame Synchronization).
-pub const M: [u8; 4] = [0x1A, 0xCF, 0xFC, 0x1D];
+/// Fails with the row where `holds` is false.
+pub fn check_row(rt: &impl Abort, holds: bool, row: &str) {
+    assert!(rt; holds, "at {row}");
+}
 
-/// The codeword of the one data symbol 01, as it is sent in the dual basis.
-pub const A: [u8; 33] = [
-    0x7B, 0x47, 0x32, 0x5F, 0x86, 0x4A, 0x18, 0xA0, 0x78, 0x83, 0xFA, 0xB9, 0x5C, 0x5F, 0x4F, 0xEC,
-    0xFE, 0xEC, 0x4F, 0x5F, 0x5C, 0xB9, 0xFA, 0x83, 0x78, 0xA0, 0x18, 0x4A, 0x86, 0x5F, 0x32, 0x47,
-    0x7B,
-];
+/// The values with changes, as `code=17 depth=6`. None where a change has no name of a value, or no number.
+pub fn changed(raw: Raw, changes: &str) -> Option<Raw> {
+    let mut numbers = numbers_in(&raw);
+    let mut options = [raw.length, raw.invert, raw.repair];
+    for change in changes.split_whitespace() {
+        let (name, number) = change.split_once('=')?;
+        put(&mut numbers, &mut options, place_of(name)?, parsed(number)?);
+    }
+    Some(raw_of(numbers, options))
+}
 
-/// That codeword after the marker.
-pub static UNIT: [u8; 37] = [
-    0x1A, 0xCF, 0xFC, 0x1D, 0x7B, 0x47, 0x32, 0x5F, 0x86, 0x4A, 0x18, 0xA0, 0x78, 0x83, 0xFA, 0xB9,
-    0x5C, 0x5F, 0x4F, 0xEC, 0xFE, 0xEC, 0x4F, 0x5F, 0x5C, 0xB9, 0xFA, 0x83, 0x78, 0xA0, 0x18, 0x4A,
-    0x86, 0x5F, 0x32, 0x47, 0x7B,
-];
+fn put(numbers: &mut [u64; 21], options: &mut [Option<u64>; 3], place: usize, number: u64) {
+    if place < 21 {
+        numbers[place] = number;
+    } else {
+        options[(place - 21).min(2)] = Some(number);
+    }
+}
 
-/// That codeword as the first of two columns, with the codeword of zeros as the second.
-pub const A_AND_ZEROS: [u8; 66] = [
-    0x7B, 0, 0x47, 0, 0x32, 0, 0x5F, 0, 0x86, 0, 0x4A, 0, 0x18, 0, 0xA0, 0, 0x78, 0, 0x83, 0, 0xFA,
-    0, 0xB9, 0, 0x5C, 0, 0x5F, 0, 0x4F, 0, 0xEC, 0, 0xFE, 0, 0xEC, 0, 0x4F, 0, 0x5F, 0, 0x5C, 0,
-    0xB9, 0, 0xFA, 0, 0x83, 0, 0x78, 0, 0xA0, 0, 0x18, 0, 0x4A, 0, 0x86, 0, 0x5F, 0, 0x32, 0, 0x47,
-    0, 0x7B, 0,
-];
+// The options that always have a number, and then those that may have none.
+static NAMES: &str =
+    "code depth inner randomize basis tolerance soft start skip workers limit fly keep ahead phase \
+polarity batch pack verify rescan bad length invert repair";
+
+fn place_of(name: &str) -> Option<usize> {
+    let mut place = 0usize;
+    for known in NAMES.split_whitespace() {
+        if known == name {
+            return Some(place);
+        }
+        place = place.wrapping_add(1);
+    }
+    None
+}
+
+fn numbers_in(raw: &Raw) -> [u64; 21] {
+    [
+        raw.code,
+        raw.depth,
+        raw.inner,
+        raw.randomize,
+        raw.basis,
+        raw.tolerance,
+        raw.soft,
+        raw.start,
+        raw.skip,
+        raw.workers,
+        raw.limit,
+        raw.fly,
+        raw.keep,
+        raw.ahead,
+        raw.phase,
+        raw.polarity,
+        raw.batch,
+        raw.pack,
+        raw.verify,
+        raw.rescan,
+        raw.bad,
+    ]
+}
+
+fn raw_of(numbers: [u64; 21], options: [Option<u64>; 3]) -> Raw {
+    Raw {
+        code: numbers[0],
+        depth: numbers[1],
+        inner: numbers[2],
+        randomize: numbers[3],
+        basis: numbers[4],
+        tolerance: numbers[5],
+        soft: numbers[6],
+        start: numbers[7],
+        skip: numbers[8],
+        workers: numbers[9],
+        limit: numbers[10],
+        fly: numbers[11],
+        keep: numbers[12],
+        ahead: numbers[13],
+        phase: numbers[14],
+        polarity: numbers[15],
+        batch: numbers[16],
+        pack: numbers[17],
+        verify: numbers[18],
+        rescan: numbers[19],
+        bad: numbers[20],
+        length: options[0],
+        invert: options[1],
+        repair: options[2],
+    }
+}
+
+/// The three numbers of a text.
+pub fn numbers_of(text: &str) -> Option<[u64; 3]> {
+    let mut fields = text.split_whitespace();
+    let mut numbers = [0; 3];
+    for i in 0..3usize {
+        numbers[i] = parsed(fields.next()?)?;
+    }
+    Some(numbers)
+}
+
+fn parsed(number: &str) -> Option<u64> {
+    number.parse::<u64>().ok()
+}

@@ -1,7 +1,7 @@
 // Each public function of tm_base once, the faults of the fakes, and what the adapters make of uneven streams.
 ghost use Rattle.std.specs.Prelude.{IfOk, ◌≤◌};
 
-use std::alloc::{AllocError, Global};
+use std::alloc::Global;
 use std::io::{self, ErrorKind, Read, Write};
 use std::process::Abort;
 use std::test::Fail;
@@ -26,57 +26,33 @@ fn check_put<S: Sink>(rt: &impl Abort, sink: &mut S, octets: &[u8], answer: Resu
     assert!(rt; put_all(sink, octets) == answer);
 }
 
-fn check_write(rt: &impl Abort, sink: &mut MemSink, octets: &[u8], answer: Result<usize, Failed>) {
-    assert!(rt; sink.write(octets) == answer);
-}
-
-// Reads cut after two octets, and then wherever they end, the second of which fails.
-fn cut_source(alloc: Global) -> Result<MemSource, AllocError> {
-    let content = [1, 2, 3, 4, 5, 6].to_vec(alloc)?;
-    let cuts = [2, 9, 0].to_vec(alloc)?;
-    Ok(MemSource::new(content, cuts, [1].to_vec(alloc)?))
-}
-
+// Reads are cut after two octets and then after one, and the second fails.
 #[test]
 fn source_cuts_and_fails(rt: HostRuntime) -> Result<(), Fail> {
-    let mut source = cut_source(rt.alloc())?;
-    check_cut_reads(&rt, &mut source, &mut [0; 3]);
-    assert!(rt; source.calls() == 5);
+    let content = [1, 2, 3, 4].to_vec(rt.alloc())?;
+    let cuts = [2, 9, 0].to_vec(rt.alloc())?;
+    let mut source = MemSource::new(content, cuts, [1].to_vec(rt.alloc())?);
+    check_read(&rt, &mut source, &mut [0; 3], Ok(2), &[1, 2, 0]);
+    check_read(&rt, &mut source, &mut [0; 3], Err(Failed), &[0; 3]);
+    check_read(&rt, &mut source, &mut [0; 3], Ok(1), &[3, 0, 0]);
+    assert!(rt; source.calls() == 3);
     Ok(())
-}
-
-fn check_cut_reads(rt: &impl Abort, source: &mut MemSource, buf: &mut [u8; 3]) {
-    check_read(rt, source, buf, Ok(2), &[1, 2, 0]);
-    assert!(rt; source.read(buf) == Err(Failed));
-    check_read(rt, source, buf, Ok(1), &[3, 2, 0]);
-    check_read(rt, source, buf, Ok(3), &[4, 5, 6]);
-    assert!(rt; source.read(buf) == Ok(0));
 }
 
 #[test]
 fn sink_fills_and_fails(rt: HostRuntime) -> Result<(), Fail> {
-    let fails = [1].to_vec(rt.alloc())?;
-    let mut sink = MemSink::new(rt.alloc(), 3, fails).expect(&rt, "memory");
-    check_filling(&rt, &mut sink);
-    assert!(rt; sink.calls() == 5);
-    assert!(rt; sink.octets() == [1, 2, 3].as_slice());
+    let mut sink = MemSink::new(rt.alloc(), 3, [1].to_vec(rt.alloc())?)?;
+    check_put(&rt, &mut sink, &[1, 2], Ok(()));
+    check_put(&rt, &mut sink, &[3], Err(Failed));
+    check_put(&rt, &mut sink, &[3, 4], Err(Failed));
+    assert!(rt; sink.calls() == 4 && sink.octets() == [1, 2, 3].as_slice());
     Ok(())
-}
-
-fn check_filling(rt: &impl Abort, sink: &mut MemSink) {
-    check_put(rt, sink, &[1, 2], Ok(()));
-    check_put(rt, sink, &[3], Err(Failed));
-    check_write(rt, sink, &[3, 4], Ok(1));
-    check_write(rt, sink, &[], Ok(0));
-    check_put(rt, sink, &[4], Err(Failed));
 }
 
 #[test]
 fn sure_ones_never_fail(rt: HostRuntime) -> Result<(), Fail> {
     let mut source = SureSource::new([7, 8, 9].to_vec(rt.alloc())?);
-    let mut buf = [0; 2];
-    check_read(&rt, &mut source, &mut buf, Ok(2), &[7, 8]);
-    check_read(&rt, &mut source, &mut buf, Ok(1), &[9, 8]);
+    check_read(&rt, &mut source, &mut [0; 2], Ok(2), &[7, 8]);
     let mut sink = SureSink::new();
     check_put(&rt, &mut sink, &[1, 2, 3], Ok(()));
     assert!(rt; sink.count() == 3);
@@ -234,7 +210,5 @@ fn bits_of_the_marker(rt: HostRuntime) {
     for _ in 0..32 {
         word = word << 1 | u32::from(bits.next().unwrap_or(0));
     }
-    assert!(rt; word == 0x1ACF_FC1D);
-    assert!(rt; bits.next() == None);
-    assert!(rt; marker() == MARKER);
+    assert!(rt; word == 0x1ACF_FC1D && bits.next() == None && marker() == MARKER);
 }

@@ -1,55 +1,37 @@
 // Values of the options, accepted and refused.
-use crate::values::{changed, check_row, numbers_of};
+use crate::values::{changed, check_row};
 use std::alloc::{AllocError, Global};
 use std::process::Abort;
 use std::test::Fail;
-use tm_config::{Config, ConfigError, Raw};
+use tm_config::{Config, Raw};
 
-// The values that hold where no option is given, but with no inner code.
-fn plain() -> Raw {
-    let mut raw = Raw::default();
-    raw.inner = 0;
-    raw
-}
-
-// In each row values that differ from the plain ones, and the error.
+// In each row values that differ from those that hold where no option is given, and the error's name.
 static REFUSED: &str = "\
 code=17 depth=6|code\n\
 depth=6|depth\n\
-code=0 depth=2|depth\n\
 depth=2 length=3|length\n\
-depth=8 length=1792|length\n\
-length=0|length\n\
-code=0 length=2041|length\n\
 inner=35 invert=2|inner\n\
-inner=34 invert=2|switch\n\
-invert=2|switch\n\
 randomize=2 basis=2|switch\n\
 basis=2|basis\n\
 tolerance=9 repair=17|tolerance\n\
 repair=17|repair\n\
-code=0 repair=1|repair\n\
 soft=2|soft\n\
 start=2|start\n\
 skip=16|skip\n\
-workers=0|workers\n\
 workers=65 limit=0|workers\n\
 limit=1099511627777|limit\n\
 fly=16 keep=63|fly\n\
-keep=63|keep\n\
 keep=65537 ahead=4097|keep\n\
 ahead=4097|ahead\n\
 phase=3 polarity=2|phase\n\
-phase=2 polarity=2|polarity\n\
 polarity=2 batch=0|polarity\n\
-batch=0|batch\n\
 batch=4097 pack=2|batch\n\
 pack=2 verify=8|pack\n\
 verify=8 rescan=2|verify\n\
 rescan=2 bad=2|rescan\n\
 bad=2|bad\n";
 
-// The reason why values are refused.
+// The name of the error.
 fn reason_of(alloc: Global, raw: &Raw) -> Result<String, AllocError> {
     match Config::check(raw) {
         Ok(_) => "none".to_string(alloc),
@@ -57,67 +39,15 @@ fn reason_of(alloc: Global, raw: &Raw) -> Result<String, AllocError> {
     }
 }
 
-fn check_refused(rt: &impl Abort, alloc: Global) -> Result<(), AllocError> {
+#[test]
+fn each_error_is_named(rt: HostRuntime) -> Result<(), Fail> {
     for row in REFUSED.lines() {
-        let (changes, wanted) = row.split_once('|').expect(rt, "a row");
-        let raw = changed(plain(), changes).expect(rt, "values");
-        let reason = reason_of(alloc, &raw)?;
-        check_row(rt, reason.as_str() == wanted, row);
+        let (changes, wanted) = row.split_once('|').expect(&rt, "a row");
+        let raw = changed(Raw::default(), changes).expect(&rt, "values");
+        let reason = reason_of(rt.alloc(), &raw)?;
+        check_row(&rt, reason.as_str() == wanted, row);
     }
     Ok(())
-}
-
-#[test]
-fn refuses_the_first_value_out_of_range(rt: HostRuntime) -> Result<(), Fail> {
-    assert!(rt; REFUSED.lines().count() == 34);
-    check_refused(&rt, rt.alloc())?;
-    Ok(())
-}
-
-#[test]
-fn takes_each_inner_code(rt: HostRuntime) {
-    for inner in 0..=100 {
-        let wanted = if [0, 12, 23, 34, 56, 78].contains(&inner) {
-            Ok(inner)
-        } else {
-            Err(ConfigError::Inner)
-        };
-        assert!(rt; inner_of(&Raw { inner, ..plain() }) == wanted);
-    }
-}
-
-fn inner_of(raw: &Raw) -> Result<u64, ConfigError> {
-    Ok(Config::check(raw)?.inner())
-}
-
-// In each row values that differ from the plain ones; after them length, word length and repair as they are then.
-static RESOLVED: &str = "\
-code=16 depth=1|223 255 16\n\
-code=8 depth=4 length=956 repair=3|956 255 3\n\
-code=16 depth=8 repair=0|1784 255 0\n\
-code=8 depth=8|1912 255 8\n\
-code=16 depth=5 length=5|5 33 16\n\
-code=0 depth=1|2040 2040 0\n\
-code=0 depth=1 length=2 repair=0|2 2 0\n";
-
-fn resolved(raw: &Raw) -> Result<[u64; 3], ConfigError> {
-    let config = Config::check(raw)?;
-    Ok([config.length(), config.word_length(), config.repair()])
-}
-
-fn check_resolved(rt: &impl Abort) {
-    for row in RESOLVED.lines() {
-        let (changes, wanted) = row.split_once('|').expect(rt, "a row");
-        let raw = changed(plain(), changes).expect(rt, "values");
-        let numbers = numbers_of(wanted).expect(rt, "numbers");
-        check_row(rt, resolved(&raw) == Ok(numbers), row);
-    }
-}
-
-#[test]
-fn resolves_what_was_not_given(rt: HostRuntime) {
-    assert!(rt; RESOLVED.lines().count() == 7);
-    check_resolved(&rt);
 }
 
 #[test]
