@@ -1,7 +1,7 @@
 # tmchan: the program, and the codec as a library for C (include/tmchan.h).
 #
 #   make                 program and library: out/tmchan, out/libtmchan.a, out/libtmchan.so and out/tmchan.pc
-#   make check           tests what is built, and proves nothing (tests/check)
+#   make check           runs every test that needs no prover over these (tests/check)
 #   make install         program and library, with the header, the manual pages and the completions of bash, zsh and
 #                        fish, below PREFIX=/usr/local (and below DESTDIR, where that is set)
 #   make uninstall       removes what that put there, with the same PREFIX
@@ -68,7 +68,7 @@ BASH_COMPLETIONS = share/bash-completion/completions
 ZSH_COMPLETIONS = share/zsh/site-functions
 FISH_COMPLETIONS = share/fish/vendor_completions.d
 
-.PHONY: all lib program rows check web dist wheel version
+.PHONY: all lib program rows check web dist wheel version folder
 .PHONY: install install-program install-lib uninstall uninstall-program uninstall-lib
 .DELETE_ON_ERROR:
 .SECONDARY:
@@ -80,11 +80,15 @@ program: $(OUT)/tmchan
 
 lib: $(OUT)/libtmchan.a $(OUT)/libtmchan.so $(OUT)/tmchan.pc
 
-check:
-	$(call need,python3,python3)tests/check
+check: all
+	$(call need,python3,python3)tests/check $(OUT)
 
 version:
 	@echo $(VERSION)
+
+# Where program and library are built
+folder:
+	@echo $(OUT)
 
 $(OBJECTS):
 	mkdir -p $@
