@@ -8,7 +8,7 @@ JOBS ?= 2
 
 # Folders too, so that what is taken away is seen.
 SOURCES := crates.txt $(shell find crates/*/src crates/*/specs crates/*/proofs)
-PLATFORM = arguments errno heap
+PLATFORM = arguments errno heap streams
 EACH = $(if $(CPU)$(filter-out x86_64,$(PROCESSOR)),one,v2 v3)
 CPU_one = $(CPU)
 CPU_v2 = x86-64-v2
@@ -60,11 +60,13 @@ $(OBJECTS)/tmchan.o: $(patsubst %,$(OBJECTS)/%.o,$(foreach it,$(EACH),$(LIBRARY_
 	$(OBJCOPY) $(call kept,$(CALLS)) $@.all $@
 	rm $@.all
 
-# The program, and that of the rows of tests: their main has another name, and C's stands in platform/.
+# The program, and that of the rows of tests: their main has another name, and what they call of the C library for
+# streams has that of platform/, where C's main stands.
+renamed = $(OBJCOPY) --redefine-sym main=$1 $(foreach it,read write _exit,--redefine-sym $(it)=platform_$(it:_%=%)) $< $@
 $(OBJECTS)/main-%.o: $(OBJECTS)/program-%.o
-	$(OBJCOPY) --redefine-sym main=tmchan_main$(patsubst _one,,_$*) $< $@
+	$(call renamed,tmchan_main$(patsubst _one,,_$*))
 $(OBJECTS)/main-rows.o: $(OBJECTS)/rows-one.o
-	$(OBJCOPY) --redefine-sym main=tmchan_main $< $@
+	$(call renamed,tmchan_main)
 
 CHOICE = $(if $(filter v3,$(EACH)),choose_program processor)
 $(OUT)/tmchan: $(patsubst %,$(OBJECTS)/%.o,$(foreach it,$(EACH),main-$(it)) $(CHOICE) $(PLATFORM))
