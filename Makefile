@@ -51,7 +51,7 @@ ifeq ($(origin CC),default)
 CC = $(CROSS)gcc
 endif
 LIBC = libc6-dev$(if $(CROSS),-$(PROCESSOR:aarch64=arm64)-cross)
-has_libc = $(shell echo '\#include <stdlib.h>' | $(CC) -E - 2>/dev/null)
+has_libc = $(shell $(CC) -E -include stdlib.h -x c /dev/null >/dev/null 2>&1 && echo yes)
 need_cc = $(call need,$(firstword $(CC)),gcc$(addprefix -,$(CROSS:-=)))$(if $(has_libc),,$(error $@ needs the headers \
     of the C library, of Debian's package $(LIBC)))
 need_binutils = $(call need,$(CROSS)objcopy,binutils$(addprefix -,$(CROSS:-=)))
