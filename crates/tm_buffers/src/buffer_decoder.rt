@@ -4,6 +4,7 @@ ghost use Rattle.tm_base.specs.Handed.{Handed};
 ghost use Rattle.tm_base.specs.Takers.{HandedOver};
 ghost use Rattle.tm_config.specs.Accepted.{IsAccepted};
 ghost use Rattle.tm_inner.specs.Handing.{ReadsDue};
+ghost use Rattle.tm_inner.specs.InnerDecoding.{HasWorkers};
 ghost use Rattle.tm_inner.specs.InnerWindows.{AreTold, AreWindows};
 ghost use Rattle.tm_inner.specs.Phase.{IsChosenSoFar};
 ghost use Rattle.tm_inner.specs.Receiving.{Hands};
@@ -46,10 +47,12 @@ impl Model for BufferDecoder {
 }
 
 impl BufferDecoder {
-    /// A new decoder. It takes all its memory here, and fails only where there isn't enough.
+    /// A new decoder. It takes all its memory here, that of one window at a time whatever the workers are, and fails
+    /// only where there isn't enough.
     pub fn open(alloc: Global, config: Config) -> Result<BufferDecoder, NoMemory>
         ensures config { IfOk result (λ decoder. decoder.config ≡ config) }
         ensures fresh { IfOk result (λ decoder. IsDecoding decoder [] []) }
+        ensures workers { IfOk result (λ decoder. HasWorkers 1 0 decoder.queue) }
     {
         // So that the proof has the ranges of the configuration.
         let _keep = config.keep();
