@@ -16,7 +16,7 @@ pub const ZEROS: Word = Word {
     answer: None,
 };
 
-const ERASED_ZEROS: ErasedWord = ErasedWord {
+pub const ERASED_ZEROS: ErasedWord = ErasedWord {
     symbols: [Gf(0); 255],
     erased: [false; 255],
     answer: None,

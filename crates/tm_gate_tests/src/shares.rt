@@ -1,12 +1,12 @@
-// How many workers there are, and how words are shared out among them. A word waits for nothing: it looks at
-// atomic words a stated number of times.
-use crate::gates::{SPINS, gate_that_holds};
+// How many workers there are, and how words are shared out among them. A gate waits for nothing: it looks at atomic
+// words a stated number of times.
+use crate::gates::{ERASED_ZEROS, SPINS, ZEROS, gate_that_holds};
 use std::sync::atomic::{AtomicU64, Ordering};
 use std::test::Fail;
 use tm_gf256::Basis;
 use tm_records::{Coding, Records};
 use tm_rs_code::Params;
-use tm_workers::{Gate, OpenGate, decode_all, split_evenly};
+use tm_workers::{Gate, decode_all, decode_batch, decode_erased_batch, split_evenly};
 
 // How long a word stays under way once as many are as there are workers, so that one worker too many would show.
 const LINGERING: u64 = 1_000_000;
@@ -19,41 +19,84 @@ struct UnderWay {
     most: AtomicU64,
 }
 
-// A word is under way until as many words were as there are workers, and a while longer.
-fn linger(here: &UnderWay) {
-    let now = here.now.fetch_add(1, Ordering::SeqCst).saturating_add(1);
-    here.most.fetch_max(now, Ordering::SeqCst);
-    for _ in 0..SPINS {
-        if here.most.load(Ordering::SeqCst) >= here.workers {
-            break;
+impl UnderWay {
+    fn by(workers: u8) -> UnderWay {
+        UnderWay {
+            workers: u64::from(workers),
+            now: AtomicU64::new(0),
+            most: AtomicU64::new(0),
         }
     }
-    for _ in 0..LINGERING {
-        if here.most.load(Ordering::SeqCst) > here.workers {
-            break;
-        }
+
+    // Whether at some time as many words as there are workers were under way, and never more.
+    fn were_as_many(&self) -> bool {
+        self.most.load(Ordering::SeqCst) == self.workers
     }
-    here.now.fetch_sub(1, Ordering::SeqCst);
+}
+
+impl Gate for UnderWay {
+    // A word is under way until as many words were as there are workers, and a while longer.
+    fn enter(&self, _index: u32) {
+        let now = self.now.fetch_add(1, Ordering::SeqCst).saturating_add(1);
+        self.most.fetch_max(now, Ordering::SeqCst);
+        for _ in 0..SPINS {
+            if self.most.load(Ordering::SeqCst) >= self.workers {
+                break;
+            }
+        }
+        for _ in 0..LINGERING {
+            if self.most.load(Ordering::SeqCst) > self.workers {
+                break;
+            }
+        }
+        self.now.fetch_sub(1, Ordering::SeqCst);
+    }
 }
 
 #[test]
 fn as_many_words_are_under_way_as_there_are_workers(rt: HostRuntime) -> Result<(), Fail> {
-    for workers in [1u8, 2, 3] {
-        for is_drawn in [false, true] {
-            let under_way = UnderWay {
-                workers: u64::from(workers),
-                now: AtomicU64::new(0),
-                most: AtomicU64::new(0),
-            };
-            let busy = |_word: &mut u8| linger(&under_way);
-            let mut words = [0u8; 6];
-            if is_drawn {
-                decode_all(&rt, rt.alloc(), &busy, &mut words, workers, &OpenGate);
-            } else {
-                split_evenly(&rt, &OpenGate, &busy, 0, workers, &mut words);
-            }
-            assert!(rt; under_way.most.load(Ordering::SeqCst) == u64::from(workers));
-        }
+    let at_once = |_word: &mut u8| ();
+    for workers in [1u8, 2, 3, 5] {
+        let drawn = UnderWay::by(workers);
+        decode_all(&rt, rt.alloc(), &at_once, &mut [0; 10], workers, &drawn);
+        assert!(rt; drawn.were_as_many());
+        let split = UnderWay::by(workers);
+        split_evenly(&rt, &split, &at_once, 0, workers, &mut [0; 10]);
+        assert!(rt; split.were_as_many());
+    }
+    Ok(())
+}
+
+#[test]
+fn a_batch_is_decoded_by_as_many_workers_as_are_asked_for(rt: HostRuntime) -> Result<(), Fail> {
+    let Ok(params) = Params::new(8, 17) else {
+        panic!(rt; "no code")
+    };
+    for workers in [1u8, 2, 3, 5] {
+        let here = UnderWay::by(workers);
+        decode_batch(
+            &rt,
+            rt.alloc(),
+            &params,
+            8,
+            &mut [ZEROS; 10],
+            workers,
+            &here,
+        );
+        assert!(rt; here.were_as_many());
+    }
+    for workers in [1u8, 2, 3, 5] {
+        let here = UnderWay::by(workers);
+        decode_erased_batch(
+            &rt,
+            rt.alloc(),
+            &params,
+            8,
+            &mut [ERASED_ZEROS; 10],
+            workers,
+            &here,
+        );
+        assert!(rt; here.were_as_many());
     }
     Ok(())
 }
