@@ -5,7 +5,7 @@ ghost use Rattle.tm_base.specs.Handed.{Handed, items_of, on_handed};
 ghost use Rattle.tm_base.specs.Takers.{HandedOver};
 ghost use Rattle.tm_config.specs.Accepted.{IsAccepted};
 ghost use Rattle.tm_inner.specs.Inner.{nearest_bit, plain_bits};
-ghost use Rattle.tm_inner.specs.InnerDecoding.{IsDrained, IsSettledQueue, has_phase_now, unread};
+ghost use Rattle.tm_inner.specs.InnerDecoding.{IsDrained, IsSettledQueue, Shares, has_phase_now, shared_by, sharing_in, unread};
 ghost use Rattle.tm_inner.specs.InnerWindows.{AreDecoded, AreTold, AreWindows};
 ghost use Rattle.tm_inner.specs.Phase.{IsChosen, with_phase};
 ghost use Rattle.tm_inner.specs.Receiving.{Hands};
@@ -52,6 +52,7 @@ pub fn take<C: Crew, F: Fn(&Config, &mut [Word]), W: WindowWatch, T: ItemWatch>(
     ensures watched { inner.old.has_ended ≡ false
         → Hands W.took AreTold inner.old inner.new watch.old watch.new octets.now }
     ensures all { C.share crew.now 2 ≤ 1 → AreDecoded inner.new }
+    ensures shares { Shares (C.share crew.now) inner.old.queue inner.new.queue }
     ensures waits { is_some inner.old.config.inner ≡ true
         → ((stream.new ≡ stream.old) × (taker.new ≡ taker.old)) ⊎ MayNotWait inner.old octets.now
         (if nat_lt 1 (C.share crew.now 2) then spare_bits stream.old else 0) }
@@ -98,6 +99,7 @@ fn take_decoded<C: Crew, F: Fn(&Config, &mut [Word]), W: WindowWatch, T: ItemWat
     ensures settled { IsSettledQueue inner.old.queue → IsSettledQueue inner.new.queue }
     ensures drained { IsDrained inner.new.queue }
     ensures watched { Hands W.took AreTold inner.old inner.new watch.old watch.new [] }
+    ensures sharing { sharing_in inner.new.queue ≡ shared_by (C.share crew.now) (sharing_in inner.old.queue) }
     ensures decoded { Decoded (on_handed T.took_phase T.took) (record { inner = inner.old; bits = stream.old })
         (record { inner = inner.new; bits = stream.new }) taker.old taker.new [] }
 {
@@ -136,6 +138,7 @@ pub fn end<C: Crew, F: Fn(&Config, &mut [Word]), W: WindowWatch, T: ItemWatch>(
     ensures watched { (last : List Window) × HandedOver W.took watch.old last watch.new
         × ((given : List ℕ) (done : List Window) → AreTold inner.old given done
         → AreWindows inner.old.config given (done ++ last)) }
+    ensures sharing { sharing_in inner.new.queue ≡ shared_by (C.share crew.now) (sharing_in inner.old.queue) }
 {
     due_windows_law();
     inner_law();
@@ -173,6 +176,7 @@ fn take_plain<C: Crew, F: Fn(&Config, &mut [Word]), W: WindowWatch, T: ItemWatch
         (record { inner = inner.new; bits = stream.new }) taker.old taker.new octets.now }
     ensures watched { inner.old.has_ended ≡ false
         → Hands W.took AreTold inner.old inner.new watch.old watch.new octets.now }
+    ensures shares { Shares (C.share crew.now) inner.old.queue inner.new.queue }
 {
     let mut done = 0;
     while done < octets.len() {

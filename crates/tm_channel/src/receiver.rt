@@ -6,7 +6,7 @@ ghost use Rattle.tm_base.specs.Outside.{Rose};
 ghost use Rattle.tm_base.specs.Takers.{HandedOver, HandedPart};
 ghost use Rattle.tm_base.specs.Limits.{most_workers};
 ghost use Rattle.tm_config.specs.Accepted.{IsAccepted};
-ghost use Rattle.tm_inner.specs.InnerDecoding.{HasWorkers};
+ghost use Rattle.tm_inner.specs.InnerDecoding.{HasWorkers, Shares, shared_by, sharing_in};
 ghost use Rattle.tm_inner.specs.InnerWindows.{AreDecoded, AreTold, AreWindows};
 ghost use Rattle.tm_inner.specs.Phase.{IsChosenSoFar};
 ghost use Rattle.tm_inner.specs.Receiving.{Hands};
@@ -161,6 +161,7 @@ impl Receiver {
     ) -> Result<(), RecvError>
         ensures feeds { Feeds (on_handed T.took_phase T.took) (on_handed T.broke_phase T.broke) T.faults T.is_last
             self.old self.new taker.old taker.new octets.now result }
+        ensures shares { Shares (λ workers. workers) self.old.stages.inner.queue self.new.stages.inner.queue }
         ensures by { self.old.has_stopped ≡ false → self.new.by ≡ self.old.config.workers }
     {
         let alloc = self.alloc;
@@ -210,6 +211,7 @@ impl Receiver {
         ensures all { C.share crew.now 2 ≤ 1 → IsTrue result → AreDecoded self.new.stages.inner }
         ensures of { (self.old.stages.inner.config ≡ self.old.config)
             × (self.new.stages.inner.config ≡ self.old.config) × IsAccepted self.old.config }
+        ensures shares { Shares (C.share crew.now) self.old.stages.inner.queue self.new.stages.inner.queue }
         ensures by { self.old.has_stopped ≡ false → self.new.by ≡ C.share crew.now self.old.config.workers }
     {
         if self.has_stopped {
@@ -241,6 +243,8 @@ impl Receiver {
     ) -> Result<Totals, RecvError>
         ensures finishes { Finishes (on_handed T.took_phase T.took) (on_handed T.broke_phase T.broke) T.faults T.is_last
             self.old self.new taker.old taker.new result }
+        ensures sharing { self.old.has_stopped ≡ false → sharing_in self.new.stages.inner.queue
+            ≡ shared_by (λ workers. workers) (sharing_in self.old.stages.inner.queue) }
         ensures by { self.old.has_stopped ≡ false → self.new.by ≡ self.old.config.workers }
     {
         let alloc = self.alloc;
@@ -279,6 +283,8 @@ impl Receiver {
             × ((given : List ℕ) (done : List Window) → AreTold self.old.stages.inner given done
             → AreWindows self.old.config given (done ++ last))) }
         ensures of { (self.old.stages.inner.config ≡ self.old.config) × IsAccepted self.old.config }
+        ensures sharing { self.old.has_stopped ≡ false → sharing_in self.new.stages.inner.queue
+            ≡ shared_by (C.share crew.now) (sharing_in self.old.stages.inner.queue) }
         ensures by { self.old.has_stopped ≡ false → self.new.by ≡ C.share crew.now self.old.config.workers }
     {
         if self.has_stopped {

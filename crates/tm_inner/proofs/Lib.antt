@@ -30,3 +30,4 @@ mod DueWindows
 pub mod ToldWindows
 pub mod DecodedWindows
 pub mod HandedAll
+pub mod Sharing

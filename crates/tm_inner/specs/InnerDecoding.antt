@@ -47,6 +47,25 @@ abbrev pub HasWorkers : (workers waiting : ℕ) → Option Queueing → Type 0
 HasWorkers workers waiting None = Unit {0}
 HasWorkers workers waiting (Some queue) = SharesAmong workers waiting queue
 
+-- how many workers a queue has, and how many of them decoded its windows last, at most
+pub record Sharing : Type 0 where
+  pub workers : ℕ
+  pub by : ℕ
+
+abbrev pub sharing_in : Option Queueing → Option Sharing
+sharing_in None = None
+sharing_in (Some queue) = Some record { workers = queue.workers; by = queue.by }
+
+-- after windows were decoded by a crew that has this share of the workers at work
+abbrev pub shared_by : (share : ℕ → ℕ) → Option Sharing → Option Sharing
+shared_by share None = None
+shared_by share (Some sharing) = Some record sharing { by = share sharing.workers }
+
+-- what was decoded in a call, if anything was, was decoded so
+abbrev pub Shares : (share : ℕ → ℕ) → (before now : Option Queueing) → Type 0
+Shares share before now = (sharing_in now ≡ sharing_in before)
+    ⊎ (sharing_in now ≡ shared_by share (sharing_in before))
+
 -- these soft octets were put in, and these blocks were decoded; with no inner code there are none
 abbrev pub DecodesFor : Option Queueing → List ℕ → List WindowBlock → Type 0
 DecodesFor None soft blocks = blocks ≡ []

@@ -11,7 +11,7 @@ ghost use Rattle.tm_windows.specs.Windows.{dropped_of, slips_of};
 ghost use Rattle.tm_windows.specs.declared.choosing.Chosen.{Chosen};
 ghost use Rattle.tm_inner.specs.Inner.{AreInnerBlocks, AreInnerDue, inner_bits, nearest_bit, plain_count, reported_slips};
 ghost use Rattle.tm_inner.specs.Phase.{IsChosen, IsSettled, IsSoFarBy, phase_octets, skip_of, skipped_at};
-ghost use Rattle.tm_inner.specs.InnerDecoding.{DecodesFor, GoesWith, HasChosen, HasFilled, HasWorkers, HoldsMore, InnerDecoderStandsFor, IsDrained, IsQueueOf, IsSettledQueue, has_phase_now, held_in, lost_in, origin_in, plain_phase, ready_in, unread};
+ghost use Rattle.tm_inner.specs.InnerDecoding.{DecodesFor, GoesWith, HasChosen, HasFilled, HasWorkers, HoldsMore, InnerDecoderStandsFor, IsDrained, IsQueueOf, IsSettledQueue, has_phase_now, held_in, lost_in, origin_in, plain_phase, ready_in, shared_by, sharing_in, unread};
 ghost use Rattle.tm_inner.specs.InnerWindows.{AreReadOf, AreThere, octets_in, shape_in, step_in, window_in, windows_in, windows_after};
 ghost use Rattle.tm_inner.specs.Receiving.{HasHanded};
 
@@ -150,6 +150,7 @@ impl InnerDecoder {
         ensures coded { is_some self.old.config.inner ≡ true → self.new.chosen ≡ self.old.chosen }
         ensures phase { (self.new.has_phase ≡ self.old.has_phase) × (self.new.has_ended ≡ self.old.has_ended) }
         ensures moved { length (held_in self.new.queue) ≤ length (held_in self.old.queue) + result }
+        ensures sharing { sharing_in self.new.queue ≡ sharing_in self.old.queue }
     {
         if self.has_ended || octets.len() as u64 >= STREAM_BOUND.saturating_sub(self.count) {
             self.count = self.count.saturating_add(octets.len() as u64);
@@ -188,6 +189,7 @@ impl InnerDecoder {
         ensures settled { (chosen : Chosen) → self.old.chosen ≡ Some chosen → self.new.chosen ≡ Some chosen }
         ensures still { IsSettledQueue self.old.queue → IsSettledQueue self.new.queue }
         ensures phase { (self.new.has_phase ≡ self.old.has_phase) × (self.new.has_ended ≡ self.old.has_ended) }
+        ensures sharing { sharing_in self.new.queue ≡ shared_by (C.share crew.now) (sharing_in self.old.queue) }
     {
         match &mut self.queue {
             Some(queue) => queue.decode(crew),
@@ -204,6 +206,7 @@ impl InnerDecoder {
         ensures stays { (chosen : Chosen) → self.old.chosen ≡ Some chosen → self.new.chosen ≡ Some chosen }
         ensures ended { self.new.has_ended ≡ true }
         ensures phase { self.new.has_phase ≡ self.old.has_phase }
+        ensures sharing { sharing_in self.new.queue ≡ sharing_in self.old.queue }
     {
         self.has_ended = true;
         match &mut self.queue {
@@ -235,6 +238,7 @@ impl InnerDecoder {
         ensures one { length (ready_in self.new.queue) ≤ 1 }
         ensures phase { (self.new.chosen ≡ self.old.chosen) × (self.new.has_phase ≡ self.old.has_phase) }
         ensures ended { self.new.has_ended ≡ self.old.has_ended }
+        ensures sharing { sharing_in self.new.queue ≡ sharing_in self.old.queue }
     {
         match &mut self.queue {
             Some(queue) => {

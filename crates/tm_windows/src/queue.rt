@@ -394,6 +394,7 @@ impl WindowQueue {
         ensures place { self.new.t ≡ self.old.t }
         ensures phase { self.new.chosen ≡ self.old.chosen }
         ensures ended { self.new.has_ended ≡ self.old.has_ended }
+        ensures by { self.new.by ≡ self.old.by }
         ensures same { IsSameQueue self.old self.new }
     {
         let most = self.room();
@@ -499,6 +500,7 @@ impl WindowQueue {
         ensures decided { self.new.dropped ≡ Some 0 }
         ensures settled { AwaitsPhase self.new → ⊥ }
         ensures shorter { length self.new.held ≤ length self.old.held }
+        ensures by { self.new.by ≡ self.old.by }
         ensures same { IsSameQueue self.old self.new × (self.new.t ≡ self.old.t)
             × (self.new.has_ended ≡ self.old.has_ended) }
     {
@@ -520,6 +522,7 @@ impl WindowQueue {
         ensures stays { (chosen : Chosen) → self.old.chosen ≡ Some chosen → self.new.chosen ≡ Some chosen }
         ensures ended { self.new.has_ended ≡ true }
         ensures shorter { length self.new.held ≤ length self.old.held }
+        ensures by { self.new.by ≡ self.old.by }
         ensures same { IsSameQueue self.old self.new × (self.new.t ≡ self.old.t) }
     {
         if self.awaits_phase() {
@@ -622,6 +625,7 @@ impl WindowQueue {
         ensures counted { reached self.new ≤ reached self.old }
         ensures phase { self.new.chosen ≡ self.old.chosen }
         ensures ended { self.new.has_ended ≡ self.old.has_ended }
+        ensures by { self.new.by ≡ self.old.by }
         ensures same { IsSameQueue self.old self.new }
     {
         let shape = self.settings.shape;

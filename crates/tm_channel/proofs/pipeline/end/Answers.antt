@@ -1,9 +1,10 @@
-use Rattle.std.proofs.Common.{◌++◌, map, sym, subst}
+use Rattle.std.proofs.Common.{◌++◌, ◌∙◌, inl, map, sym, subst}
 use Rattle.tm_base.specs.Handed.{Item, on_handed}
 use Rattle.tm_base.proofs.Handing.{HandedOver-append}
 use Rattle.tm_base.proofs.HandedItems.{HandedOver-items}
 use Rattle.tm_inner.specs.InnerDecoding.{ready_in}
 use Rattle.tm_inner.specs.Phase.{IsChosen}
+use Rattle.tm_inner.proofs.Sharing.{shares-more}
 use Rattle.tm_channel.specs.OctetReceiving.{IsEnded, IsSearched, Receives, Stages, bits_of_blocks}
 use Rattle.tm_channel.specs.declared.totals.Totals.{Totals}
 use Rattle.tm_channel.proofs.FirstStage.{Settles, settles-of}
@@ -67,3 +68,8 @@ returns-clause-watched g c =
     c.args.watch.now c.take_decoded.new.watch c.watch_ready.new.watch l.result.leftover l.result.bits l.result.slips
     (settled-by g (goal.at.returns-clause-watched g c).After-last-end) d.watched d.of.0 d.decoded.ended l.ensures.config
     l.ensures.phase.0 l.ensures.ends l.ensures.windows c.watch_ready.ensures.windows
+
+pub returns-clause-sharing : goal.returns-clause-sharing
+returns-clause-sharing g c =
+    c.last-end.ensures.sharing ∙ shares-more (g.C.Crew.share c.args.crew.now) c.args.inner.now.queue
+    c.settle.new.self.queue c.take_decoded.new.inner.queue (inl c.settle.ensures.sharing) c.take_decoded.ensures.sharing

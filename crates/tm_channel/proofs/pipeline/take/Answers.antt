@@ -10,6 +10,7 @@ use Rattle.tm_inner.specs.InnerWindows.{AreTold}
 use Rattle.tm_inner.specs.Receiving.{Hands}
 use Rattle.tm_inner.proofs.DecodedWindows.{decoded-drained}
 use Rattle.tm_inner.proofs.GivenPieces.{hands-more}
+use Rattle.tm_inner.proofs.Sharing.{shares-more}
 use Rattle.tm_channel.specs.OctetReceiving.{MayNotWait, Stages, StagesHand, spare_bits}
 use Rattle.tm_channel.specs.declared.bit_receiver.BitReceiver.{BitReceiver}
 use Rattle.tm_channel.proofs.FirstStage.{Fills, fills-of}
@@ -33,6 +34,7 @@ loop-done-init g c =
       inner = e.config;
       stream = refl;
       awaits = c.requires.awaits;
+      shares = inl e.sharing;
       filled = filled-more took start start c.fill-done.new.self c.args.taker.now c.args.taker.now []
           (take c.fill-done.result octets) (sym c.has_inner_code.ensures ∙ c.if-not-has_inner_code.false) fills
           (filled-none took start c.args.taker.now);
@@ -67,6 +69,8 @@ loop-done-preserved g c =
       inner = e.config ∙ d.ensures.of.0 ∙ i.inner;
       stream = d.ensures.of.1 ∙ i.stream;
       awaits = d.ensures.awaits;
+      shares = inr (e.sharing ∙ shares-more (g.C.Crew.share c.args.crew.now) c.args.inner.now.queue
+          c.loop-done.inner.queue d.new.inner.queue i.shares d.ensures.sharing);
       filled = subst (Filled took start (record { inner = f.new.self; bits = d.new.stream }) c.args.taker.now
           d.new.taker) all
           (filled-more took start next f.new.self c.args.taker.now d.new.taker (take done octets)
@@ -177,3 +181,10 @@ returns-then-may_wait-clause-all g c = λ alone.
 pub returns-clause-all : goal.returns-clause-all
 returns-clause-all g c = λ alone.
     decoded-drained c.take_decoded-2.new.inner c.take_decoded-2.ensures.drained
+
+-- ---- by how many workers windows were decoded
+
+pub returns-clause-shares : goal.returns-clause-shares
+returns-clause-shares g c =
+    inr (shares-more (g.C.Crew.share c.args.crew.now) c.args.inner.now.queue c.loop-done.inner.queue
+    c.take_decoded-2.new.inner.queue c.loop-done.invariant.shares c.take_decoded-2.ensures.sharing)

@@ -1,5 +1,6 @@
 use Rattle.std.proofs.Common.{◌≡◌, ◌⊎◌, ◌<◌, ◌≤◌, ◌-◌, false, take, length}
 use Rattle.tm_base.specs.Handed.{on_handed}
+use Rattle.tm_inner.specs.InnerDecoding.{Shares}
 use Rattle.tm_inner.specs.InnerWindows.{AreTold}
 use Rattle.tm_inner.specs.Receiving.{Hands}
 use Rattle.tm_channel.proofs.GivenOctets.{Filled}
@@ -18,6 +19,7 @@ invariant-loop-done g l = record {
   filled : Filled (on_handed g.T.ItemWatch.took_phase g.T.ItemWatch.took)
       (record { inner = l.fn.inner; bits = l.fn.stream }) (record { inner = l.inner; bits = l.stream })
       l.fn.taker l.taker (take l.done l.octets);
+  shares : Shares (g.C.Crew.share l.fn.crew) l.fn.inner.queue l.inner.queue;
   told : l.fn.inner.has_ended ≡ false
       → Hands g.W.WindowWatch.took AreTold l.fn.inner l.inner l.fn.watch l.watch (take l.done l.octets);
 }

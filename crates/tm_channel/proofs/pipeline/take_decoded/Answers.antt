@@ -1,9 +1,10 @@
-use Rattle.std.proofs.Common.{◌≡◌, ◌∙◌, ◌++◌, ◌∷◌, List, [], drop, length, arith, refl, ap, sym, subst}
+use Rattle.std.proofs.Common.{◌≡◌, ◌∙◌, inr, ◌++◌, ◌∷◌, List, [], drop, length, arith, refl, ap, sym, subst}
 use Rattle.tm_base.specs.Handed.{on_handed}
 use Rattle.tm_viterbi.specs.WindowBlock.{WindowBlock}
 use Rattle.tm_windows.specs.Windows.{dropped_of}
-use Rattle.tm_inner.specs.InnerDecoding.{InnerDecoding, IsDrained, IsSettledQueue, held_in, ready_in}
+use Rattle.tm_inner.specs.InnerDecoding.{InnerDecoding, IsDrained, IsSettledQueue, held_in, ready_in, sharing_in}
 use Rattle.tm_inner.specs.InnerWindows.{AreThere, windows_in}
+use Rattle.tm_inner.proofs.Sharing.{shares-more}
 use Rattle.tm_inner.proofs.ToldWindows.{ToldBut, told-all, told-next, told-read, told-run}
 use Rattle.tm_channel.specs.OctetReceiving.{Decoded}
 use Rattle.tm_channel.specs.declared.bit_receiver.BitReceiver.{BitReceiver}
@@ -34,6 +35,7 @@ loop-count-init g c =
       count = e.count ∙ ap (λ (k : InnerDecoding). length (ready_in k.queue)) (sym read);
       drained = λ none. subst (λ (k : InnerDecoding). IsDrained k.queue) (sym read) (e.drained none);
       there = subst (λ (k : InnerDecoding). AreThere k.queue) (sym read) e.there;
+      sharing = ap (λ (k : InnerDecoding). sharing_in k.queue) read ∙ e.sharing;
       told = subst (λ (k : InnerDecoding). ToldBut g.W.WindowWatch.took c.args.inner.now k c.args.watch.now
           c.args.watch.now)
           (sym read) (record {
@@ -83,6 +85,8 @@ loop-count-preserved g c =
       count = e.count;
       drained = e.drained;
       there = e.there;
+      sharing = shares-more (g.C.Crew.share c.args.crew.now) c.args.inner.now.queue before.queue
+          d.new.self.queue (inr i.sharing) e.sharing;
       told = told-next g.W.WindowWatch.took c.args.inner.now before d.new.self c.args.watch.now c.loop-count.watch
           c.watch_ready.new.watch i.told c.watch_ready.ensures.windows
           (told-run before d.new.self e.config e.settled (λ given blocks s. (e.stands given blocks s).0) e.windows);

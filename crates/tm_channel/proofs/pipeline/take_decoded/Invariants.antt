@@ -1,7 +1,7 @@
 use Rattle.std.proofs.Common.{◌≡◌, drop, length}
 use Rattle.tm_base.specs.Handed.{on_handed}
 use Rattle.tm_windows.specs.Windows.{dropped_of}
-use Rattle.tm_inner.specs.InnerDecoding.{IsDrained, IsSettledQueue, held_in, ready_in}
+use Rattle.tm_inner.specs.InnerDecoding.{IsDrained, IsSettledQueue, held_in, ready_in, shared_by, sharing_in}
 use Rattle.tm_inner.specs.InnerWindows.{AreThere}
 use Rattle.tm_inner.proofs.ToldWindows.{ToldBut}
 use Rattle.tm_channel.specs.OctetReceiving.{AwaitsBits, Decoded}
@@ -17,6 +17,7 @@ invariant-loop-count g l = record {
   count : l.count ≡ length (ready_in l.inner.queue);
   drained : l.count ≡ 0 → IsDrained l.inner.queue;
   there : AreThere l.inner.queue;
+  sharing : sharing_in l.inner.queue ≡ shared_by (g.C.Crew.share l.fn.crew) (sharing_in l.fn.inner.queue);
   told : ToldBut g.W.WindowWatch.took l.fn.inner l.inner l.fn.watch l.watch;
   later : dropped_of (drop 1 (ready_in l.inner.queue)) ≡ 0;
   decoded : Decoded (on_handed g.T.ItemWatch.took_phase g.T.ItemWatch.took)

@@ -1,4 +1,4 @@
-use Rattle.std.proofs.Common.{◌≡◌, ◌+◌, ◌-◌, ◌∙◌, ℕ, List, take, drop, arith, refl, ap, subst}
+use Rattle.std.proofs.Common.{◌≡◌, inl, inr, ◌+◌, ◌-◌, ◌∙◌, ℕ, List, take, drop, arith, refl, ap, subst}
 use Rattle.std.specs.Option.{is_some}
 use Rattle.std.proofs.lemmas.List.{take_all}
 use Rattle.tm_base.specs.Handed.{on_handed}
@@ -8,6 +8,7 @@ use Rattle.tm_inner.specs.Inner.{plain_bits, plain_count}
 use Rattle.tm_inner.specs.InnerWindows.{AreTold}
 use Rattle.tm_inner.specs.Receiving.{Hands}
 use Rattle.tm_inner.proofs.GivenPieces.{hands-more, hands-none}
+use Rattle.tm_inner.proofs.Sharing.{shares-kept, shares-more}
 use Rattle.tm_channel.specs.OctetReceiving.{ReceivedAt, Stages, StagesHand}
 use Rattle.tm_channel.proofs.FirstStage.{plain-fills}
 use Rattle.tm_channel.proofs.GivenOctets.{Filled, filled-none, filled-plain, found_in, plain-due}
@@ -23,6 +24,7 @@ loop-done-init g c = record {
   filled =
       filled-none (on_handed g.T.ItemWatch.took_phase g.T.ItemWatch.took)
       (record { inner = c.args.inner.now; bits = c.args.stream.now }) c.args.taker.now;
+  shares = inl refl;
   told = λ going. hands-none g.W.WindowWatch.took AreTold c.args.inner.now c.args.watch.now;
 }
 
@@ -71,6 +73,9 @@ loop-done-preserved g c =
           (subst (ReceivedAt t.took d.new.stream now.stream d.new.taker now.taker)
           (same_found start.inner.config before.inner.config d.new.inner.config before.inner.count
           c.bits_to_skip-skip.result piece c.bits_to_skip-skip.ensures i.inner same) c.take_after.ensures.handed));
+      shares = inr (shares-more (g.C.Crew.share c.args.crew.now) c.args.inner.now.queue filled.queue
+          d.new.inner.queue (shares-kept (g.C.Crew.share c.args.crew.now) c.args.inner.now.queue before.inner.queue
+          filled.queue i.shares e.sharing) d.ensures.sharing);
       told = λ going.
           subst (Hands watched AreTold c.args.inner.now d.new.inner c.args.watch.now d.new.watch) joined
           (hands-more watched AreTold c.args.inner.now before.inner d.new.inner c.args.watch.now c.loop-done.watch
