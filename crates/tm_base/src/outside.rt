@@ -1,8 +1,8 @@
 // The traits of what gives octets and of what takes them.
-ghost use Rattle.std.specs.Prelude.{◌≡◌, ◌||◌, ℕ, ◌≤◌, Bool, List, Option, length, take, OnOk, OnErr, IsTrue};
+ghost use Rattle.std.specs.Prelude.{◌≡◌, ◌||◌, ℕ, ◌≤◌, Bool, List, [], ◌∷◌, Option, None, length, take, OnOk, OnErr, IsTrue};
 ghost use Rattle.std.specs.Io.{ReadsAtMost, WritesAtMost};
 ghost use Rattle.std.specs.Io.KnownBytes.{append_known, prepend_known, IsAtEnd};
-ghost use Rattle.tm_base.specs.Outside.{HasCause, HasWriteCause, moved, is_nothing};
+ghost use Rattle.tm_base.specs.Outside.{HasCause, HasWriteCause, Read, append_reads, is_nothing, moved, read_of};
 
 /// A read or a write failed.
 #[derive(Clone, Copy, Debug, PartialEq, Eq)]
@@ -29,6 +29,9 @@ pub trait Source {
     /// The count of faults stands at its last value, so that it can't rise.
     ghost is_last: { Self → Type 0 };
 
+    /// The reads so far, where it says which.
+    ghost asked: { Self → Option (List Read) } = { λ s. None };
+
     /// Fills the start of `buf` with the octets that come next, and returns how many it gave. With room in `buf`,
     /// `Ok(0)` is the end of the input. `Failed` comes only where the count of faults rose, and gives nothing.
     fn read(&mut self, buf: &mut [u8]) -> Result<usize, Failed>
@@ -37,7 +40,8 @@ pub trait Source {
         ensures left { left self.old ≡ prepend_known (moved result buf.new) (left self.new) }
         ensures ended { ended self.new ≡ (ended self.old || is_nothing result buf.new) }
         ensures end { IsTrue (is_nothing result buf.new) → IsAtEnd (left self.new) }
-        ensures cause { HasCause (faults self.old) (faults self.new) (is_last self.new) result };
+        ensures cause { HasCause (faults self.old) (faults self.new) (is_last self.new) result }
+        ensures asked { asked self.new ≡ append_reads (asked self.old) (read_of result buf.new ∷ []) };
 }
 
 /// What takes octets. It counts its faults, and the count never falls.

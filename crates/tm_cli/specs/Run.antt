@@ -49,7 +49,7 @@ pub record Answers (status : ℕ) (command : Command) (c : Configuration) (call 
   pub ending : Ending
   pub is : status ≡ status_of ending
   pub ends : Ends ending (meaning_of command c) c.limit octets (taken_in call)
-  pub source : reads command ≡ true → SourceCourse ending call.source
+  pub source : reads command ≡ true → SourceCourse ending c.limit call.source
   pub sinks : SinksCourse (is_sink_fault ending) call.out call.notes
   pub stops : command ≡ Encode → ending ≡ SinkFault → StopsEncoding call
   -- status 1 of `check` says of a window alone that it fails, and so how little was read after it

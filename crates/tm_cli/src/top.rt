@@ -19,9 +19,9 @@ use tm_path_commands::certificate_law;
 /// for. `JobKind` (tm_words) lists the commands: what each writes to `out`, its output, and to the notes, what is bad,
 /// and when the input is partial.
 ///
-/// A command that reads takes never more than one octet past the limit, and nothing after the end of the input or a
-/// fault. Windows are decoded and words repaired by as many workers as are asked for. Returns the exit status, of 3, 4
-/// and 7 the one that occurs first:
+/// A command that reads asks at each read for 4,096 octets, or for what is left up to the limit and one octet more, and
+/// reads nothing after the end of the input or a fault. Windows are decoded and words repaired by as many workers as are
+/// asked for. Returns the exit status, of 3, 4 and 7 the one that occurs first:
 ///
 /// - 0: the source was read to its end by a command that reads, and the whole output is written.
 /// - 1: the same, and something is bad. Or the command ends at what is bad, fewer than 4,096 octets were read after it,

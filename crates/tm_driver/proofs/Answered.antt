@@ -14,13 +14,13 @@ pub answered : (octets : List ℕ) (ending : Ending) (meaning : Meaning) (limit 
     → within ≡ limit → Gave source.before.given source.now.given source.before.left source.now.left octets
     → length octets ≤ within + 1
     → Ends ending meaning limit octets (taken_by out.before.taken out.now.taken notes.before.taken notes.now.taken)
-    → SourceCourse ending source → SinksCourse (is_sink_fault ending) out notes
+    → SourceCourse ending within source → SinksCourse (is_sink_fault ending) out notes
     → AnsweredWith octets true ending meaning limit source out notes
 answered octets ending meaning limit within source out notes is gave at_most ends course sinks = record {
   gave = gave;
   at_most = subst (λ (n : ℕ). length octets ≤ n + 1) is at_most;
   ends = ends;
-  course = λ reads. course;
+  course = λ reads. subst (λ (n : ℕ). SourceCourse ending n source) is course;
   sinks = sinks;
 }
 
@@ -31,7 +31,7 @@ pub answered-alone : (octets : List ℕ) (ending : Ending) (meaning : Meaning) (
     → length octets ≤ within + 1
     → ((noted : Option (List ℕ)) → Ends ending meaning limit octets
     (taken_by out.before.taken out.now.taken noted noted))
-    → SourceCourse ending source → SinkCourse (is_sink_fault ending) out
+    → SourceCourse ending within source → SinkCourse (is_sink_fault ending) out
     → AnsweredAlone true ending meaning limit source out
 answered-alone octets ending meaning limit within source out is gave at_most ends course sink = (
   octets,

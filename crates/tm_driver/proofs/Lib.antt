@@ -1,4 +1,5 @@
 mod OneTurn
+mod Turns
 pub mod FedStage
 pub mod SinkTexts
 pub mod TwoSinks

@@ -15,7 +15,7 @@ pub record AnsweredWith (octets : List ℕ) (reads : Bool) (ending : Ending) (me
   -- what was written then, and what the source and the sinks went through
   pub ends : Ends ending meaning limit octets
       (taken_by out.before.taken out.now.taken notes.before.taken notes.now.taken)
-  pub course : reads ≡ true → SourceCourse ending source
+  pub course : reads ≡ true → SourceCourse ending limit source
   pub sinks : SinksCourse (is_sink_fault ending) out notes
 
 -- what it did with some octets

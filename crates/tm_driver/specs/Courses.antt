@@ -1,26 +1,29 @@
 -- Where a source and sinks stand, and what they went through in a call.
 use Rattle.std.specs.Prelude.{◌≡◌, ◌⊎◌, ℕ, ◌≤◌, Bool, true, false, List, Option}
 use Rattle.std.specs.Io.KnownBytes.{IsAtEnd}
-use Rattle.tm_base.specs.Outside.{Rose}
+use Rattle.tm_base.specs.Outside.{Read, Rose}
 use Rattle.tm_base.specs.declared.outside.Sink as sink
 use Rattle.tm_base.specs.declared.outside.Source as source
+use Rattle.tm_driver.specs.Turns.{ReadsInTurns}
 use Rattle.tm_driver.specs.declared.ending.Ending.{Ending}
 use Rattle.tm_driver.specs.declared.ending.Ending.TheVariants.{Done, Bad, BadWindow, LeftOver, SourceFault, PastLimit}
 
--- a source: the octets that it has given and has left, where it says which, whether it reported the
--- end, and its count of faults
+-- a source: the octets that it has given and has left, and the reads that it was asked for, where it
+-- says which; whether it reported the end, and its count of faults
 pub record SourceState : Type 0 where
   pub given : Option (List ℕ)
   pub left : Option (List ℕ)
+  pub asked : Option (List Read)
   pub ended : Bool
   pub faults : ℕ
 
-abbrev pub source_state : (given left : Option (List ℕ)) → Bool → ℕ → SourceState
-source_state given left ended faults = record {
-  given = given;
-  left = left;
-  ended = ended;
-  faults = faults;
+abbrev pub source_state : {S : Type 0} → source.Ghosts S → S → SourceState
+source_state s at = record {
+  given = s.given at;
+  left = s.left at;
+  asked = s.asked at;
+  ended = s.ended at;
+  faults = s.faults at;
 }
 
 -- a sink: the octets that it has taken, where it says which, and its count of faults
@@ -43,8 +46,8 @@ pub record SourceCall : Type 1 where
 -- by what a source says of itself
 abbrev pub source_call : {S : Type 0} → source.Ghosts S → (before now : S) → SourceCall
 source_call s before now = record {
-  before = source_state (s.given before) (s.left before) (s.ended before) (s.faults before);
-  now = source_state (s.given now) (s.left now) (s.ended now) (s.faults now);
+  before = source_state s before;
+  now = source_state s now;
   is_last = s.is_last now;
 }
 
@@ -67,8 +70,9 @@ unused sink = record { before = sink; now = sink; is_last = ⊥ }
 
 -- ---- what they went through
 
--- a source by which a command read that ended so
-pub record SourceCourse (ending : Ending) (source : SourceCall) : Type 0 where
+-- a source by which a command read that ended so, up to the limit and one octet more
+pub record SourceCourse (ending : Ending) (limit : ℕ) (source : SourceCall) : Type 0 where
+  pub turns : ReadsInTurns limit source.before.asked source.now.asked
   -- it reported its end, and where it says which octets it has none is left
   pub ended : (ending ≡ Done) ⊎ (ending ≡ Bad) ⊎ (ending ≡ LeftOver)
       → (source.now.ended ≡ true) × IsAtEnd source.now.left

@@ -1,8 +1,8 @@
+pub mod Turns
 pub mod Courses
 pub mod Texts
 pub mod Lines
 pub mod Statuses
-pub mod Turns
 pub mod Meaning
 pub mod Answered
 pub mod Writing

@@ -51,8 +51,9 @@ pub trait Stage {
 }
 
 /// Feeds a stage that was given nothing yet what the source gives, up to `limit` octets, and its end, and writes the
-/// texts that it gives. It reads at most one octet past the limit, in turns of at most 4,096, and nothing after the end,
-/// after a fault, or once the stage has stopped. After a fault it writes nothing. Returns how that ended.
+/// texts that it gives. Each read asks for `TURN` octets, or for what is left up to the limit and one octet more, and
+/// nothing is read after the end, after a fault, or once the stage has stopped. After a fault it writes nothing. Returns
+/// how that ended.
 pub fn drive_stage<S: Source, T: Stage, O: Sink, N: Sink>(
     limit: u64,
     source: &mut S,
@@ -68,7 +69,7 @@ pub fn drive_stage<S: Source, T: Stage, O: Sink, N: Sink>(
         × StagedTo (T.stands stage.old) (T.stopped stage.old) (T.finished stage.old) limit stage.new result octets texts
         × WroteTexts (is_sink_fault result) texts
         (taken_by (O.taken out.old) (O.taken out.new) (N.taken notes.old) (N.taken notes.new)) }
-    ensures source { SourceCourse result (source_call S.Source source.old source.new) }
+    ensures source { SourceCourse result limit (source_call S.Source source.old source.new) }
     ensures sinks { SinksCourse (is_sink_fault result) (sink_call O.Sink out.old out.new)
         (sink_call N.Sink notes.old notes.new) }
     ensures halts { result ≡ SinkFault → Halts (T.stands stage.old) (T.stopped stage.old) (T.finished stage.old)
@@ -111,7 +112,7 @@ fn drive_into<S: Source, T: Stage, O: Sink, N: Sink>(
     ensures failed { texts.new.has_failed ≡ is_sink_fault result }
     ensures same { (texts.new.out.ghost_name ≡ texts.old.out.ghost_name)
         × (texts.new.notes.ghost_name ≡ texts.old.notes.ghost_name) }
-    ensures source { SourceCourse result (source_call S.Source source.old source.new) }
+    ensures source { SourceCourse result limit (source_call S.Source source.old source.new) }
 {
     let mut buffer = [0; TURN];
     let mut room = limit + 1;

@@ -1,6 +1,6 @@
 use Rattle.std.proofs.Common.{◌≡◌, inl, inr, ◌-◌, ◌≤◌, ℕ, List, [], length, take, ◌++◌, drop, arith, subst, sym, ◌∙◌, refl, rules}
 use Rattle.std.proofs.lemmas.Grind.{common_steps}
-use Rattle.std.proofs.lemmas.List.{take_all}
+use Rattle.std.proofs.lemmas.List.{length-take-le, take_all}
 use Rattle.tm_base.proofs.Handing.{HandedOver-append}
 use Rattle.tm_base.proofs.Known.{append_known-nil, prepend_known-nil}
 use Rattle.tm_driver.specs.Staged.{StagedTo}
@@ -8,6 +8,7 @@ use Rattle.tm_driver.specs.Writing.{Writes}
 use Rattle.tm_driver.specs.declared.ending.Ending.{Ending}
 use Rattle.tm_driver.proofs.OneTurn.{gave-more, turn-is, going-on}
 use Rattle.tm_driver.proofs.FedStage.{fed-either, fed-end, fed-turn, staged-end}
+use Rattle.tm_driver.proofs.Turns.{asked-are, asked-last, asked-more, asked-none}
 use Rattle.tm_driver.proofs.Writing.{writes-same}
 use Rattle.tm_driver.proofs.stage.drive_into.Goals as goal
 use Rattle.tm_driver.proofs.stage.drive_into.Goals.{then-room-eq0, else-room-eq0}
@@ -26,6 +27,7 @@ loop-room-init g c = record {
   );
   going = c.requires.going;
   ended = refl;
+  asked = asked-none c.args.limit _;
   source = refl;
 }
 
@@ -54,6 +56,9 @@ loop-room-preserved g c =
       ended =
           going-on _ _ c.in-Ok.count (length c.read.new.buf) (omega arith) c.in-Ok.ensures.ended
           ∙ c.loop-room.invariant.ended;
+      asked = asked-more c.args.limit _ _ _ _ _ c.loop-room.invariant.asked c.loop-room-test.true
+          c.in-Ok.ensures.asked (grind (arith, common_steps, c.read.auto.buf)) c.in-Ok.count
+          (length-take-le c.in-Ok.count c.read.new.buf c.in-Ok.ensures.bound.0) (omega arith);
       source = grind (arith, common_steps);
     }
 
@@ -200,3 +205,32 @@ returns-in-Err-clause-same g c = writes-same g.O.Sink g.N.Sink _ _ _ c.loop-room
 
 pub returns-clause-same : goal.returns-clause-same
 returns-clause-same g c = writes-same g.O.Sink g.N.Sink _ _ _ c.loop-room.invariant.read.5
+
+pub returns-then-texts-clause-source : goal.returns-then-texts-clause-source
+returns-then-texts-clause-source g c =
+    let turns = asked-last c.args.limit _ _ _ _ _ c.loop-room.invariant.asked c.loop-room-test.true
+    c.in-Ok-eq0.ensures.asked (grind (arith, common_steps, c.read.auto.buf)) in search (rules, turns)
+
+pub returns-in-Ok-eq0-clause-source : goal.returns-in-Ok-eq0-clause-source
+returns-in-Ok-eq0-clause-source g c =
+    let turns = asked-last c.args.limit _ _ _ _ _ c.loop-room.invariant.asked c.loop-room-test.true
+    c.in-Ok-eq0.ensures.asked (grind (arith, common_steps, c.read.auto.buf)) in search (rules, turns)
+
+pub returns-then-texts-2-clause-source : goal.returns-then-texts-2-clause-source
+returns-then-texts-2-clause-source g c =
+    let turns = asked-last c.args.limit _ _ _ _ _ c.loop-room.invariant.asked c.loop-room-test.true
+    c.in-Ok.ensures.asked (grind (arith, common_steps, c.read.auto.buf)) in search (rules, turns)
+
+pub returns-then-not-goes_on-clause-source : goal.returns-then-not-goes_on-clause-source
+returns-then-not-goes_on-clause-source g c =
+    let turns = asked-last c.args.limit _ _ _ _ _ c.loop-room.invariant.asked c.loop-room-test.true
+    c.in-Ok.ensures.asked (grind (arith, common_steps, c.read.auto.buf)) in search (rules, turns)
+
+pub returns-in-Err-clause-source : goal.returns-in-Err-clause-source
+returns-in-Err-clause-source g c =
+    let turns = asked-last c.args.limit _ _ _ _ _ c.loop-room.invariant.asked c.loop-room-test.true
+    c.in-Err.ensures.asked (grind (arith, common_steps, c.read.auto.buf)) in search (rules, turns)
+
+pub returns-clause-source : goal.returns-clause-source
+returns-clause-source g c =
+    let turns = asked-are c.args.limit _ _ _ c.loop-room.invariant.asked in search (rules, turns)

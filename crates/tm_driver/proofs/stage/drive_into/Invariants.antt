@@ -2,6 +2,7 @@ use Rattle.std.proofs.Common.{◌≡◌, false, ℕ, ◌+◌, List, length, take
 use Rattle.tm_base.specs.Takers.{HandedOver}
 use Rattle.tm_base.specs.Written.{Gave}
 use Rattle.tm_driver.specs.Writing.{Text, Writes}
+use Rattle.tm_driver.proofs.Turns.{Asked}
 use Rattle.tm_driver.proofs.stage.drive_into.Given as goal
 
 abbrev pub invariant-loop-room : goal.invariant-loop-room
@@ -13,6 +14,7 @@ invariant-loop-room g l = record {
       × HandedOver (Writes g.O.Sink g.N.Sink) l.fn.texts all l.texts;
   going : l.texts.has_failed ≡ false;
   ended : g.S.Source.ended l.source ≡ g.S.Source.ended l.fn.source;
+  asked : Asked l.limit l.room (g.S.Source.asked l.fn.source) (g.S.Source.asked l.source);
   source : g.S.Source.faults l.source ≡ g.S.Source.faults l.fn.source;
 }
 
