@@ -5,7 +5,7 @@ import re
 import shutil
 import subprocess
 
-from shared import HERE, PAGE, TOP, program, test
+from shared import HERE, PAGE, SOURCES, TOP, Skipped, program, source_test, test
 
 NODE = ["node", "--experimental-wasm-memory64"]
 MOST = {"tmchan.wasm": 250_000, "tmchan32.wasm": 250_000, "program.wasm": 700_000}
@@ -153,7 +153,7 @@ def node_command(room):
     return f"{len(frames):,} octets of frames as the program's, statuses 0, 2, 3, 4 and 6"
 
 
-@test
+@source_test
 def samples(room):
     """The symbols of each form are those of the Python package, octet for octet (by numpy, where it is there)."""
     ran = subprocess.run(
@@ -164,10 +164,10 @@ def samples(room):
         text=True,
     )
     if ran.returncode == 77:
-        return "not tested: /usr/bin/python3 has no numpy"
+        raise Skipped("Debian's python3-numpy")
     assert ran.returncode == 0, ran.stdout
     script = f"""
-        import {{ readFileSync, writeFileSync }} from "node:fs"; import {{ Symbols }} from "{PAGE}/recordings.mjs";
+        import {{ readFileSync, writeFileSync }} from "node:fs"; import {{ Symbols }} from "{SOURCES}/recordings.mjs";
         for (const [form, swap, pieces] of JSON.parse(readFileSync("{room.folder}/forms.json"))) {{
             const it = new Symbols(form, swap), given = new Uint8Array(readFileSync("{room.folder}/" + form + ".given")), made = [];
             let at = 0;

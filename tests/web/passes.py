@@ -8,7 +8,7 @@ import sys
 import types
 import xml.etree.ElementTree
 
-from shared import PAGE, TOP, test
+from shared import SOURCES, TOP, source_test
 
 sys.path.insert(0, str(TOP / "python"))
 
@@ -27,7 +27,7 @@ def in_node(room, script, given):
         import {{ readFileSync }} from "node:fs";
         const given = JSON.parse(readFileSync("{room.path('given.json')}"));
         const told = (_, it) => (typeof it === "number" && !Number.isFinite(it) ? String(it) : it);
-        {script.replace("PAGE", str(PAGE))}"""
+        {script.replace("SOURCES", str(SOURCES))}"""
     ran = subprocess.run(["node", "--input-type=module", "-e", text], stdout=subprocess.PIPE, check=True)
     return json.loads(ran.stdout)
 
@@ -55,12 +55,12 @@ def drawn_counts():
     yield Counts(0, 200, 3, 100, 100)
 
 
-@test
+@source_test
 def quality(room):
     """Es/N0 and the symbol error rate are those of the Python package, over drawn counts."""
     counts, seen, most = list(drawn_counts()), set(), 0.0
     script = """
-        import { quality, qualityOf } from "PAGE/quality.mjs";
+        import { quality, qualityOf } from "SOURCES/quality.mjs";
         console.log(JSON.stringify([given.map((it) => qualityOf(it)), quality(given.slice(0, 5))], told));"""
     made, together = in_node(room, script, [it._asdict() for it in counts])
     # (of several windows all together, too)
@@ -181,12 +181,12 @@ def totals_of(octets):
     return [*pages.totals_rows(its_pass, totals), *pages.quality_rows(coarse)]
 
 
-@test
+@source_test
 def passes(room):
     """What the page counts of a pass is what tmchan-receive --page counts: stretches, places, totals, Es/N0."""
     script = """
-        import { Pass } from "PAGE/pass.mjs"; import { pageOf } from "PAGE/figures.mjs";
-        const css = readFileSync("PAGE/page.css", "utf8"), passes = given.map(({ link, totals, batches }) => {
+        import { Pass } from "SOURCES/pass.mjs"; import { pageOf } from "SOURCES/figures.mjs";
+        const css = readFileSync("SOURCES/page.css", "utf8"), passes = given.map(({ link, totals, batches }) => {
             const it = new Pass({ name: "a", words: [], options: link, blockLength: link.unit / 8 - 4, frameLength: link.frameLength });
             for (const { items, windows } of batches) it.push(items, windows);
             it.totals = totals;

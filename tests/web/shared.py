@@ -14,13 +14,25 @@ TOP = HERE.parent.parent
 PAGE = TOP / "out" / "web"
 PROGRAM = TOP / "out" / "tmchan"
 LIBRARY = TOP / "out" / "libtmchan.so"
+# The modules that `make web` only copies.
+SOURCES = TOP / "web"
 CASES = 300
-TESTS = []
+TESTS, SOURCE_TESTS = [], []
 
 
 def test(call):
     TESTS.append(call)
     return call
+
+
+def source_test(call):
+    """A test of SOURCES alone, by Node."""
+    SOURCE_TESTS.append(call)
+    return test(call)
+
+
+class Skipped(Exception):
+    """What is missing for a test, and its package."""
 
 
 def refusals():
