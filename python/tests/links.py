@@ -10,6 +10,8 @@ import pytest
 import tmchan
 
 TOP = os.path.dirname(os.path.dirname(os.path.dirname(os.path.abspath(__file__))))
+# Python buffers what the commands write, but where a test has it not.
+os.environ.pop("PYTHONUNBUFFERED", None)
 PROGRAM = next((it for it in (f"{TOP}/out/tmchan", f"{TOP}/crates/tmchan/out/tmchan") if os.access(it, os.X_OK)), None)
 
 NAMES = (

@@ -1,11 +1,15 @@
 """The commands as a user has them, in processes of their own."""
+import contextlib
 import json
 import os
 import pathlib
+import random
 import re
+import select
 import signal
 import subprocess
 import sys
+import time
 
 import pytest
 from links import PROGRAM, TOP, frames, levels, noise, run, soft, tmchan
@@ -213,24 +217,67 @@ def test_streams_that_are_closed(recording):
     assert by_shell("$tmchan receive $known - <&-")[1] == 3
 
 
-def test_an_interrupt_ends_it():
-    """What came before is written."""
-    words = [sys.executable, "-m", "tmchan", "receive", *KNOWN, "--batch", "1", "--quiet", "-"]
+@contextlib.contextmanager
+def live(*words, **more):
+    """A command that reads standard input, with pipes to it and from it."""
+    command = [sys.executable, "-m", "tmchan", *words, "-"]
     environment = {**os.environ, "PYTHONPATH": os.pathsep.join(sys.path)}
     streams = dict(stdin=subprocess.PIPE, stdout=subprocess.PIPE, stderr=subprocess.PIPE)
+    with subprocess.Popen(command, env=environment, **streams, **more) as it:
+        try:
+            yield it
+        finally:
+            it.kill()
+
+
+def came_within(seconds, pipe, size):
+    """The first octets of a pipe, as many as come in time."""
+    came, until = b"", time.monotonic() + seconds
+    while len(came) < size and select.select([pipe], [], [], max(0, until - time.monotonic()))[0]:
+        more = os.read(pipe.fileno(), size - len(came))
+        if not more:
+            break
+        came += more
+    return came
+
+
+# What comes of all symbols before the end of a recording is seen.
+LIVE = ["receive", *KNOWN, "--batch", "1", "--quiet"]
+with tmchan.Link.recording(depth=2, length=100, batch=1).receiver() as it:
+    DUE = it.push(LINK.send(SENT)).frames
+
+
+def test_frames_come_while_a_pipe_stays_open():
+    with live(*LIVE) as it:
+        it.stdin.write(LINK.send(SENT[:3]))
+        it.stdin.flush()
+        assert came_within(30, it.stdout, 100) == SENT[0]
+
+
+def test_an_interrupt_ends_it():
+    """What came before is written."""
 
     def heed():
         # (what a shell began in the background ignores interrupts)
         signal.signal(signal.SIGINT, signal.SIG_DFL)
 
-    with subprocess.Popen(words, env=environment, preexec_fn=heed, **streams) as live:
-        live.stdin.write(LINK.send(SENT))
-        live.stdin.flush()
-        came = live.stdout.read(2500)
-        live.send_signal(signal.SIGINT)
-        came += live.stdout.read()
-        assert (live.wait(60), live.stderr.read()) == (130, b"tmchan-receive: ended\n")
-    assert b"".join(SENT).startswith(came)
+    with live(*LIVE, preexec_fn=heed) as it:
+        it.stdin.write(LINK.send(SENT))
+        it.stdin.flush()
+        # (by then the library's calls are behind it)
+        assert came_within(60, it.stdout, len(DUE)) == DUE and len(DUE) >= 2500
+        it.send_signal(signal.SIGINT)
+        assert (it.stdout.read(), it.wait(60), it.stderr.read()) == (b"", 130, b"tmchan-receive: ended\n")
+
+
+@pytest.mark.parametrize("begin", [5000, 1_200_000])
+def test_where_it_begins(begin, tmp_path):
+    """Behind what is read of a pipe at first, and behind a piece."""
+    given = random.Random(begin).randbytes(begin) + LINK.send(SENT)
+    (tmp_path / "pass").write_bytes(given)
+    words = ["receive", *KNOWN, "--from", str(begin)]
+    assert run(*words, "-", given=given)[:2] == run(*words, str(tmp_path / "pass"))[:2] == (0, b"".join(SENT))
+    assert run(*words, "-", given=given[:begin])[:2] == run(*words, "-", given=given[: begin - 1])[:2] == (1, b"")
 
 
 def test_empty_and_garbage(tmp_path):

@@ -2,7 +2,6 @@
 import array
 import ctypes
 import gc
-import os
 import random
 import threading
 
@@ -81,6 +80,40 @@ def test_words_and_repr():
     assert eval(repr(link), {"Link": tmchan.Link}).words() == link.words()
     assert tmchan.Link().words() == [] and repr(tmchan.Link()) == "Link()"
     assert tmchan.Link(code="none", length=7).frame_length == 7 and link.frame_length == 1115
+
+
+RECORDED = dict(
+    tolerance=5, start="zero", fly=4, keep=1000, ahead=100, phase="find", polarity="given", verify=2, rescan="off"
+)
+
+
+def test_what_is_given_for_a_recording_comes_first():
+    assert set(RECORDED) == set(library.RECORDED)
+    for name, value in RECORDED.items():
+        link, usual = tmchan.Link.recording(**{name: value}), tmchan.Link.recording()
+        assert usual.options[name] != value and link.options == {**usual.options, name: value}
+        words = link.words()
+        told = words[words.index("--" + name) + 1] if "--" + name in words else tmchan.link.DEFAULTS[name]
+        assert str(told) == str(value)
+
+
+@pytest.mark.parametrize("version", [(library.ABI - 1 << 8) + 9, library.ABI + 1 << 8, (library.ABI | 0x100) << 8])
+def test_libraries_of_other_versions(version, monkeypatch):
+    class Library:
+        def __init__(self, found):
+            self.found = found
+
+        def __getattr__(self, name):
+            made = lambda: self.found  # noqa: E731
+            setattr(self, name, made)
+            return made
+
+    monkeypatch.setattr(library.ctypes, "CDLL", lambda _: Library((library.ABI << 8) + 255))
+    assert library._load()
+    monkeypatch.setattr(library.ctypes, "CDLL", lambda _: Library(version))
+    told = f"{version >> 16}.{version >> 8 & 255}.{version & 255}"
+    with pytest.raises(ImportError, match=f"is of version {told}; this package is for 0.3"):
+        library._load()
 
 
 OPTIONS = [
@@ -245,6 +278,18 @@ def test_long_pieces_are_the_same():
     assert [it.frame for it in link.receive(symbols)] == sent
 
 
+def test_windows_of_long_pieces():
+    """Of a push that goes to the library in three pieces all windows are told."""
+    link = tmchan.Link(keep=65536)
+    given = random.Random(7).randbytes(2 * tmchan.link.PIECE + 1)
+    windows = windows_of(link.receiver, [given])
+    assert windows == windows_of(link.receiver, tmchan.link.pieces(given)) == windows_of(link.decoder, [given])
+    assert sum(it.kept for it in windows) == len(given) // 2
+    with link.receiver(windows=True) as receiver:
+        receiver.push(given)
+        assert receiver.windows == windows[: len(receiver.windows)] and len(receiver.windows) >= 15
+
+
 def test_words_of_the_outer_code():
     word = tmchan.rs_encode(b"hello")
     assert len(word) == 37 and tmchan.rs_decode(word) == (word, 0)
@@ -303,16 +348,33 @@ def test_a_stream_is_one_threads_at_a_time():
     assert len(receiver.push(b"x")) == 0
 
 
-def test_memory_is_given_back():
-    link, symbols = tmchan.Link(keep=65536), bytes(1000)
-    for _ in range(300):
-        link.receiver().push(symbols)
-        next(link.receive(symbols), None)
+class Heap(ctypes.Structure):
+    """mallinfo2 of the C library."""
+
+    _fields_ = [(name, ctypes.c_size_t) for name in "arena ordblks smblks hblks hblkhd usmblks fsmblks used free top".split()]
+
+
+def heap_octets():
+    """How many octets of the C library's heap are taken."""
+    told = getattr(ctypes.CDLL(None), "mallinfo2", None)
+    if told is None:
+        pytest.skip("this C library does not count its heap")
+    told.restype = Heap
     gc.collect()
-    if not os.path.exists("/proc/self/statm"):
-        pytest.skip("there is no /proc")
-    with open("/proc/self/statm") as file:
-        assert int(file.read().split()[1]) * 4096 < 800e6
+    heap = told()
+    return heap.used + heap.hblkhd
+
+
+def test_memory_is_given_back():
+    """Streams that are dropped leave nothing behind."""
+    link, symbols = tmchan.Link(), bytes(1000)
+    for opened in (link.sender, link.decoder, link.receiver):
+        for _ in range(5):
+            opened().push(symbols)
+        before = heap_octets()
+        for _ in range(50):
+            opened().push(symbols)
+        assert heap_octets() - before < 65536
 
 
 def test_floats_and_integers():
