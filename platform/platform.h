@@ -1,7 +1,7 @@
 /* What proved code calls of C on a target, beside the C library, and what chooses between two builds of it. Each file
- * of this folder defines some of these calls. Of the heap, the error number and the arguments the proofs assume what is
- * said here: it is what the kit declares of them, and no proof covers it. tests/c/platform.c tests each on every
- * target. */
+ * of this folder defines some of these calls. Of the heap, the error number, the arguments and the streams the proofs
+ * assume what is said here: it is what the kit declares of them, and no proof covers it. tests/c/platform.c tests each
+ * on every target. */
 #ifndef TMCHAN_PLATFORM_H
 #define TMCHAN_PLATFORM_H
 
@@ -33,6 +33,16 @@ void rattle_dealloc(void *at);
 /* The error of the calling thread, as the C library's last call that failed left it. */
 int32_t rattle_errno(void);
 void rattle_set_errno(int32_t error);
+
+/* streams.c: read, write and _exit are called by these names in proved code, once the Makefile has renamed them. */
+
+/* As read and write of POSIX. */
+ssize_t platform_read(int stream, void *octets, size_t length);
+ssize_t platform_write(int stream, const void *octets, size_t length);
+
+/* Ends the program. After a status of 0, 1, 6 or 7 output and notes are closed first, and where that fails, since what
+ * was written is lost, the status is 4. One that was closed from the first, or a signal meanwhile, is no failure. */
+_Noreturn void platform_exit(int status);
 
 /* arguments.c */
 
