@@ -1,11 +1,10 @@
-/* The heap of proved code: the C library's malloc, realloc and free.
+/* The heap: the C library's malloc, realloc and free.
  *
- * These have to be of one allocator, and to align to 16 octets, as those of glibc and musl do on 64-bit processors. */
+ * These have to be of one allocator. Proved code has 64-bit pointers, and wants blocks aligned to 16 octets, as those of
+ * glibc and musl are on 64-bit processors. */
 #include "platform.h"
 
 #include <stdlib.h>
-
-_Static_assert(sizeof(void *) == 8, "proved code has 64-bit pointers");
 
 static char unowned;
 
