@@ -36,7 +36,8 @@ void rattle_set_errno(int32_t error);
 
 /* streams.c: read, write and _exit are called by these names in proved code, once the Makefile has renamed them. */
 
-/* As read and write of POSIX. */
+/* As read and write of POSIX, but for a stream that does not block: where it has nothing to give, or no room, it is
+ * waited for. */
 ssize_t platform_read(int stream, void *octets, size_t length);
 ssize_t platform_write(int stream, const void *octets, size_t length);
 

@@ -1,13 +1,18 @@
-/* Tests the C of platform/ by itself: the heap, the error number and the arguments. It is given any words, and looks
- * whether each comes through as C's main has it. The linker is told --wrap of malloc, realloc and free, so that blocks
+/* Tests the C of platform/ by itself: the heap, the error number, the streams and the arguments. It is given any words,
+ * and looks whether each comes through as C's main has it. The linker is told --wrap of malloc, realloc and free, so that blocks
  * can be counted. */
 #include "../../platform/platform.h"
 
+#include <errno.h>
+#include <fcntl.h>
 #include <pthread.h>
+#include <signal.h>
 #include <stdint.h>
 #include <stdio.h>
 #include <stdlib.h>
 #include <string.h>
+#include <sys/wait.h>
+#include <unistd.h>
 
 static long tests, failures;
 
@@ -111,6 +116,50 @@ static void test_errno(void) {
     TEST(seen == 7 && rattle_errno() == -5);
 }
 
+/* Moves an octet at one end of a pipe some milliseconds after the other end has to wait for it. */
+static void *fill_later(void *end) {
+    usleep(20000);
+    if (write(*(int *)end, "x", 1) != 1) abort();
+    return NULL;
+}
+
+static void *drain_later(void *end) {
+    static char octets[1 << 16];
+    usleep(20000);
+    if (read(*(int *)end, octets, sizeof octets) <= 0) abort();
+    return NULL;
+}
+
+static void test_waiting(void) {
+    int ends[2];
+    char octets[MOST] = {0};
+    pthread_t thread;
+    TEST(!pipe(ends) && !fcntl(ends[0], F_SETFL, O_NONBLOCK) && !fcntl(ends[1], F_SETFL, O_NONBLOCK));
+    TEST(!pthread_create(&thread, NULL, fill_later, &ends[1]));
+    TEST(platform_read(ends[0], octets, sizeof octets) == 1 && octets[0] == 'x');
+    pthread_join(thread, NULL);
+    while (write(ends[1], octets, sizeof octets) > 0) {}
+    TEST(errno == EAGAIN && !pthread_create(&thread, NULL, drain_later, &ends[0]));
+    TEST(platform_write(ends[1], octets, sizeof octets) > 0);
+    pthread_join(thread, NULL);
+    TEST(!close(ends[0]) && platform_write(ends[1], octets, 1) == -1 && rattle_errno() == EPIPE);
+    TEST(!close(ends[1]) && platform_read(ends[0], octets, 1) == -1 && rattle_errno() == EBADF);
+}
+
+/* Each status is that of the process, with output there and without. tests/streams has an output that can't be closed. */
+static void test_exit(void) {
+    for (int status = 0; status < 9; status++)
+        for (int is_open = 0; is_open < 2; is_open++) {
+            pid_t child = fork();
+            if (!child) {
+                if (!is_open) close(STDOUT_FILENO);
+                platform_exit(status);
+            }
+            int found;
+            TEST(waitpid(child, &found, 0) == child && WIFEXITED(found) && WEXITSTATUS(found) == status);
+        }
+}
+
 /* Each word to arrays of all lengths up to one more than its own. */
 static void test_arguments(int count, char **words) {
     TEST(rattle_arg_count() == (size_t)count);
@@ -136,6 +185,9 @@ static void test_arguments(int count, char **words) {
 int tmchan_main(int count, char **words) {
     test_heap();
     test_errno();
+    signal(SIGPIPE, SIG_IGN);
+    test_waiting();
+    test_exit();
     test_arguments(count, words);
     printf("%ld tests of the platform, %ld failed\n", tests, failures);
     return failures > 0;
