@@ -36,7 +36,7 @@ cost_le (x ∷ xs) (y ∷ ys) each =
 -- ---- the best of all
 
 -- no path to any register is better than the best path to the least register of least path metric
-best_of_all : (total : ℕ → List ℕ → ℕ) (n s : ℕ) (sums survivors : List ℕ) → AreBest total n sums survivors
+pub best_of_all : (total : ℕ → List ℕ → ℕ) (n s : ℕ) (sums survivors : List ℕ) → AreBest total n sums survivors
     → IsFirstLeast sums s
     → (q : ℕ) (other : List ℕ) → q < 64 → All (λ b. b < 2) other → length other ≡ n
     → IsNoWorse (get_or sums s 0) (rank (start_of survivors s) (past_of survivors s)) (total q other) (rank q other)

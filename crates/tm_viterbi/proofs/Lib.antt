@@ -3,6 +3,7 @@ mod Survivors
 mod Walk
 mod Totals
 mod Final
+mod Overlap
 mod BranchMetrics
 mod StepPairs
 mod Vectors

@@ -13,3 +13,4 @@ pub mod Totals
 pub mod Carries
 pub mod Summing
 pub mod NextSteps
+pub mod Overlap

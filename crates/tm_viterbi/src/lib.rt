@@ -19,6 +19,7 @@ mod step_pairs;
 mod sums;
 mod traceback;
 mod window_decoder;
+mod window_pass;
 
 pub use block::{Block, BlockTaker, Start, first_start};
 pub use clean_laws::{clean_blocks_law, closed_windows_law, complemented_blocks_law};

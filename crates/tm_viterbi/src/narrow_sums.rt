@@ -20,7 +20,7 @@ pub(crate) fn least_sum(sums: &[u32; 64]) -> u32
 }
 
 // The greatest path metric.
-fn greatest_sum(sums: &[u32; 64]) -> u32
+pub(crate) fn greatest_sum(sums: &[u32; 64]) -> u32
     ensures { (s : ℕ) → s < registers → slice_index sums.now s ≤ result }
 {
     let mut greatest = sums[0];

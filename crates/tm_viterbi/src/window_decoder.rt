@@ -6,9 +6,7 @@ ghost use Rattle.tm_viterbi.specs.Blocks.{IsBlock, window_steps, kept_steps};
 ghost use Rattle.tm_viterbi.specs.WindowBlock.{undropped_block};
 ghost use Rattle.tm_viterbi.specs.WindowSizes.{most_window, window_bound};
 
-use crate::forward_pass::run;
-use crate::path_ends::{first_sums, least_register};
-use crate::traceback::{end_register, trace_back};
+use crate::window_pass::WindowPass;
 use std::alloc::Global;
 use std::marker::Model;
 use tm_base::NoMemory;
@@ -45,11 +43,13 @@ pub struct BestPath {
 #[derive(Drop)]
 pub struct WindowDecoder {
     shape: WindowShape,
-    survivors: Vec<u64>,
+    // Where a window is decoded after the one before it, the steps that both have are not gone over again.
+    pass: WindowPass,
 }
 
 impl Model for WindowDecoder {
     ghost use Rattle.std.specs.Prelude.{◌≡◌, ◌+◌, ◌≤◌, vec_len};
+    ghost use Rattle.tm_viterbi.specs.Overlap.{IsOverlap};
     ghost use Rattle.tm_viterbi.specs.WindowSizes.{most_window};
     ghost use Rattle.tm_viterbi.specs.declared.window_decoder.WindowShape.{WindowShape};
 
@@ -57,8 +57,8 @@ impl Model for WindowDecoder {
 
     ghost view = { λ d. d.shape };
 
-    ghost invariant = { λ d. (vec_len d.survivors ≡ d.shape.keep + d.shape.ahead)
-        × (d.shape.keep + d.shape.ahead ≤ most_window) };
+    ghost invariant = { λ d. IsOverlap d.shape.rate d.shape.invert d.pass
+        × (vec_len d.pass.survivors ≡ d.shape.keep + d.shape.ahead) × (d.shape.keep + d.shape.ahead ≤ most_window) };
 }
 
 impl WindowDecoder {
@@ -68,10 +68,8 @@ impl WindowDecoder {
         requires { shape.keep + shape.ahead ≤ most_window }
         ensures { IfOk result (λ d. d ≡ shape) }
     {
-        match vec![in alloc; 0u64; shape.keep + shape.ahead] {
-            Ok(survivors) => Ok(WindowDecoder { shape, survivors }),
-            Err(_) => Err(NoMemory),
-        }
+        let pass = WindowPass::new(alloc, shape.keep + shape.ahead, 2 * shape.ahead)?;
+        Ok(WindowDecoder { shape, pass })
     }
 
     /// Finds the best path of the window from step `t` on, at most 2^61, that starts from the register `starts`, below
@@ -97,24 +95,21 @@ impl WindowDecoder {
         ensures small { self.old.keep + self.old.ahead ≤ most_window }
         ensures same { self.new ≡ self.old }
     {
-        let steps = bits.len();
-        let size = steps_len(self.shape.rate, t, steps);
-        let mut sums = first_sums(starts);
-        run(
-            self.shape.rate,
-            self.shape.invert,
-            t,
-            &octets[..size],
-            &mut sums,
-            &mut self.survivors[0..steps],
-            1 << 30,
-        );
-        let last = least_register(&sums);
-        let start = trace_back(&self.survivors[..steps], last, bits) as u8;
-        BestPath {
-            start,
-            metric: u64::from(sums[last]),
-            end_state: end_register(start, &bits[..kept]),
+        let shape = self.shape;
+        let size = steps_len(shape.rate, t, bits.len());
+        let octets = &octets[..size];
+        if let Some(register) = starts {
+            if self.pass.goes_on(t, kept, octets) {
+                let path = self
+                    .pass
+                    .finish(shape.rate, shape.invert, kept, octets, bits);
+                if path.start == register {
+                    return path;
+                }
+            }
         }
+        self.pass.begin(t, starts);
+        self.pass
+            .finish(shape.rate, shape.invert, kept, octets, bits)
     }
 }
