@@ -2,6 +2,7 @@
 import array
 import ctypes
 import gc
+import os
 import random
 import threading
 
@@ -276,6 +277,21 @@ def test_long_pieces_are_the_same():
     symbols = link.send(b"".join(sent))
     assert len(symbols) > 1.5 * tmchan.link.PIECE
     assert [it.frame for it in link.receive(symbols)] == sent
+
+
+def test_a_forked_child_closes_nothing():
+    """What it inherits is its parent's."""
+    receiver = tmchan.Link().receiver()
+    handle = receiver._stream._handle
+    child = os.fork()
+    if not child:
+        del receiver
+        gc.collect()
+        os._exit(0 if handle.is_open else 1)
+    assert os.waitpid(child, 0)[1] == 0 and handle.is_open
+    del receiver
+    gc.collect()
+    assert not handle.is_open
 
 
 def test_windows_of_long_pieces():

@@ -306,6 +306,7 @@ class Stream:
 
     def __init__(self, config):
         self._config, self._handle, self._lock, self._wrote = config, Handle(), threading.Lock(), Written()
+        self._process = os.getpid()
         call(self.KIND + "_open", byref(self._handle), *numbers(config))
 
     @contextlib.contextmanager
@@ -331,8 +332,10 @@ class Stream:
                 call("close", byref(self._handle))
 
     def __del__(self):
-        if getattr(self, "_handle", None) is not None and self._handle.is_open and not self._lock.locked():
-            _LIBRARY.tmchan_close(byref(self._handle))
+        handle = getattr(self, "_handle", None)
+        # (in a forked child of a process with threads no call may be made)
+        if handle is not None and handle.is_open and not self._lock.locked() and self._process == os.getpid():
+            _LIBRARY.tmchan_close(byref(handle))
 
 
 class SenderStream(Stream):
