@@ -122,6 +122,18 @@ def test_json_lines(recording, tmp_path):
     assert lines[-1]["words"] == KNOWN
 
 
+def test_the_command_that_ran_is_shown(recording):
+    """With the options of the receiver that were given, where it would have taken another value by itself."""
+    for given, shown in (
+        (["--tolerance", "0", "--rescan", "off"], ["--tolerance", "0", "--rescan", "off"]),
+        (["--batch", "1", "--tolerance", "3"], ["--batch", "1"]),
+        (["--keep", "8192", "--start", "zero"], ["--start", "zero", "--keep", "8192"]),
+    ):
+        status, written, said = run("receive", *KNOWN, *given, "--json", recording)
+        assert (status, json.loads(written.splitlines()[-1])["words"]) == (0, [*KNOWN, *shown])
+        assert f": {' '.join([*KNOWN, *shown])}\n" in said
+
+
 def test_checks_and_counters(tmp_path):
     import binascii
 

@@ -380,12 +380,12 @@ def chosen(arguments: argparse.Namespace, source: Source) -> Found:
             return found
         # Recordings may slip, or be inverted, where nothing was looked at.
         options = {**found.link.options, **recording(found.link.options["inner"]), **receiving}
-        return found._replace(link=Link(**options))
+        return found._replace(link=Link(**options), given=(*receiving,))
     inner = given.get("inner", DEFAULTS["inner"])
     options = {**recording(inner), **given, **receiving}
     if inner == "none":
         options["pack"] = "off"
-    return Found(Link(**options), form, arguments.swap, arguments.nrz_m)
+    return Found(Link(**options), form, arguments.swap, arguments.nrz_m, given=(*receiving,))
 
 
 def hint(found: Found) -> list[str]:

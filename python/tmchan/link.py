@@ -265,6 +265,16 @@ class Receiver(_Stream):
         return self._stream.slips()
 
 
+def words_of(options: dict[str, Any], usual: dict[str, Any]) -> list[str]:
+    """The words of the options that differ from the usual ones."""
+    found = []
+    for name, value in options.items():
+        value = {True: "on", False: "off"}[value] if isinstance(value, bool) else value
+        if value != usual[name]:
+            found += [f"--{name}", str(value)]
+    return found
+
+
 class Link:
     """The options of a link: those of the command line (docs/OPTIONS.md), with its names, words and defaults.
 
@@ -342,12 +352,7 @@ class Link:
 
     def words(self) -> list[str]:
         """The words of the command line that say the same: those that differ from the defaults."""
-        found = []
-        for name, value in self.options.items():
-            value = {True: "on", False: "off"}[value] if isinstance(value, bool) else value
-            if value != DEFAULTS[name]:
-                found += [f"--{name}", str(value)]
-        return found
+        return words_of(self.options, DEFAULTS)
 
     @property
     def _is_packed(self) -> bool:

@@ -8,7 +8,7 @@ import struct
 from typing import Any, Callable, Iterator, NamedTuple, Optional, Union
 
 from . import library
-from .link import Item, Link, buffers
+from .link import DEFAULTS, Item, Link, buffers, words_of
 from .outside import BITS, HARD, Differential
 from .reception import Reception
 from .recordings import FORMS, Symbols
@@ -57,6 +57,7 @@ class Found(NamedTuple):
     good: int = 0
     bad: int = 0
     reason: str = ""
+    given: tuple[str, ...] = ()  #: the options of the receiver that the user gave
 
     @property
     def is_coded(self) -> bool:
@@ -83,11 +84,11 @@ class Found(NamedTuple):
         if self.link is None:
             return []
         words = ["--input", self.form] + ["--swap"] * self.swap + ["--nrz-m"] * self.nrz_m
-        options = {
-            name: value for name, value in self.link.options.items() if name not in library.RECORDED and name != "pack"
-        }
+        options, usual = self.link.options, {**DEFAULTS, **library.recording(self.link.options["inner"])}
         # (an option of the link has tmchan-receive look for nothing)
-        return words + (Link(**options).words() or ["--code", "rs16"])
+        link = words_of({name: options[name] for name in LINK}, DEFAULTS) or ["--code", "rs16"]
+        by_itself = {*LINK, *library.RECORDED, "pack"} - {*self.given}
+        return words + link + words_of({name: it for name, it in options.items() if name not in by_itself}, usual)
 
 
 class _Form(NamedTuple):
