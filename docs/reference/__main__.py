@@ -124,12 +124,14 @@ def run(words, read):
     return output, notes, status if seen or len(data) <= c.limit else 7
 
 def read_standard_input(most, data=b""):
+    os.set_blocking(0, True)  # one that does not block would be taken for one that has ended
     while len(data) < most and (piece := sys.stdin.buffer.read(min(4096, most - len(data)))):
         data += piece
     return data
 
 if __name__ == "__main__":
     OUTPUT, NOTES, STATUS = run(sys.argv[1:], read_standard_input)
-    sys.stdout.buffer.write(OUTPUT)
-    sys.stderr.buffer.write(NOTES)
+    with open(1, "wb", closefd=False) as output, open(2, "wb", closefd=False) as notes:
+        output.write(OUTPUT)
+        notes.write(NOTES)
     sys.exit(STATUS)

@@ -5,6 +5,7 @@ python/ says the same in two lines; this shows how a language without it calls t
     examples/c/receive.py out/libtmchan.so 5 <symbols >frames
 """
 import ctypes
+import os
 import sys
 from ctypes import c_int32, c_int64, c_size_t, c_uint64
 
@@ -34,8 +35,11 @@ call("receiver_open", receiver, *options)
 room = call("receiver_room", *options, c_size_t(PIECE), octets)
 frames, reports = ctypes.create_string_buffer(octets[0]), (c_uint64 * (room * REPORT // 8))()
 arrays = frames, c_size_t(octets[0]), reports, c_size_t(room)
-while piece := sys.stdin.buffer.read(PIECE):
-    call("receiver_push", receiver, piece, c_size_t(len(piece)), *arrays, written)
-    sys.stdout.buffer.write(frames.raw[: written[1]])
-call("receiver_finish", receiver, *arrays, totals, phase, written)
-sys.stdout.buffer.write(frames.raw[: written[1]])
+# (one that does not block would be taken for one that has ended)
+os.set_blocking(0, True)
+with open(1, "wb", closefd=False) as output:
+    while piece := sys.stdin.buffer.read(PIECE):
+        call("receiver_push", receiver, piece, c_size_t(len(piece)), *arrays, written)
+        output.write(frames.raw[: written[1]])
+    call("receiver_finish", receiver, *arrays, totals, phase, written)
+    output.write(frames.raw[: written[1]])

@@ -5,6 +5,7 @@ import os
 import pathlib
 import random
 import re
+import resource
 import select
 import signal
 import subprocess
@@ -235,7 +236,7 @@ def live(*words, **more):
     command = [sys.executable, "-m", "tmchan", *words, "-"]
     environment = {**os.environ, "PYTHONPATH": os.pathsep.join(sys.path)}
     streams = dict(stdin=subprocess.PIPE, stdout=subprocess.PIPE, stderr=subprocess.PIPE)
-    with subprocess.Popen(command, env=environment, **streams, **more) as it:
+    with subprocess.Popen(command, env=environment, **{**streams, **more}) as it:
         try:
             yield it
         finally:
@@ -280,6 +281,64 @@ def test_an_interrupt_ends_it():
         assert came_within(60, it.stdout, len(DUE)) == DUE and len(DUE) >= 2500
         it.send_signal(signal.SIGINT)
         assert (it.stdout.read(), it.wait(60), it.stderr.read()) == (b"", 130, b"tmchan-receive: ended\n")
+
+
+def test_an_input_that_does_not_block_is_waited_for():
+    reading, writing = os.pipe()
+    os.set_blocking(reading, False)
+    with live(*LIVE, stdin=reading) as it, os.fdopen(writing, "wb", buffering=0) as symbols:
+        os.close(reading)
+        symbols.write(LINK.send(SENT[:3]))
+        assert came_within(30, it.stdout, 100) == SENT[0]
+        symbols.write(LINK.send(SENT[3:]))
+        symbols.close()
+        assert (it.stdout.read(), it.wait(60), it.stderr.read()) == (b"".join(SENT[1:]), 0, b"")
+
+
+def test_an_output_that_does_not_block_is_waited_for():
+    reading, writing = os.pipe()
+    os.set_blocking(writing, False)
+    filling = 0
+    with contextlib.suppress(BlockingIOError):
+        while True:
+            filling += os.write(writing, bytes(4096))
+    with live(*LIVE, stdout=writing) as it, os.fdopen(reading, "rb") as came:
+        os.close(writing)
+        # (as many as fit in a pipe)
+        it.stdin.write(LINK.send(SENT[:20]))
+        it.stdin.close()
+        # (one that does not wait has ended by then; how long this is never makes a right one fail)
+        time.sleep(0.5)
+        assert (came.read()[filling:], it.wait(60), it.stderr.read()) == (b"".join(SENT[:20]), 0, b"")
+
+
+def limited(words, size, path, environment):
+    """Status of a command whose output is a file that may have so many octets, and what the file has."""
+
+    def limit():
+        signal.signal(signal.SIGXFSZ, signal.SIG_IGN)
+        resource.setrlimit(resource.RLIMIT_FSIZE, (size, size))
+
+    with open(path, "wb") as file:
+        ran = subprocess.run(words, stdout=file, stderr=subprocess.PIPE, env=environment, preexec_fn=limit)
+    return ran.returncode, path.read_bytes()
+
+
+@pytest.mark.parametrize("unbuffered", ["", "1"])
+def test_a_file_that_takes_a_part(unbuffered, recording, tmp_path):
+    """A write that takes fewer octets than it is given is gone on with: the next one fails."""
+    environment = {**os.environ, "PYTHONPATH": os.pathsep.join(sys.path), "PYTHONUNBUFFERED": unbuffered}
+    symbols, sent = LINK.send(SENT), b"".join(SENT)
+    (tmp_path / "frames").write_bytes(sent)
+    for words, written in (
+        (["receive", *KNOWN, recording], sent),
+        (["send", "--depth", "2", "--length", "100", str(tmp_path / "frames")], symbols),
+    ):
+        command = [sys.executable, "-m", "tmchan", *words]
+        for size in (1000, len(written) - 1):
+            found = limited(command, size, tmp_path / "written", environment)
+            assert found == (4, written[:size])
+        assert limited(command, len(written), tmp_path / "written", environment) == (0, written)
 
 
 @pytest.mark.parametrize("begin", [5000, 1_200_000])

@@ -8,6 +8,7 @@ import json
 import math
 import mmap
 import os
+import select
 import shlex
 import sys
 from typing import Any, BinaryIO, Iterator, Optional
@@ -69,8 +70,9 @@ def say(*lines: str) -> None:
 
 def tell(*lines: str) -> None:
     """Writes lines of text to standard output."""
-    with faults("standard output"):
-        print(*lines, sep="\n", file=standard_output(), flush=True)
+    text = "".join(f"{line}\n" for line in lines)
+    output = Output("-")
+    output.write(text.encode(standard_output().encoding, standard_output().errors))
 
 
 @contextlib.contextmanager
@@ -167,7 +169,10 @@ class Source:
     def _read(self, most: int) -> bytes:
         """What there is, at most `most` octets; nothing at the end."""
         try:
-            return self._file.read(most) or b""
+            # (None where a stream that does not block has nothing yet)
+            while (octets := self._file.read(most)) is None:
+                select.select([self._file], [], [])
+            return octets
         except OSError as error:
             raise self._fault(error) from error
 
@@ -208,19 +213,25 @@ class Source:
 
 
 class Output:
-    """Where frames go: a file, standard output, or nowhere."""
+    """Where frames go: a file, standard output, or nowhere. All is written at once, and nothing waits in a buffer."""
 
     def __init__(self, name: Optional[str]) -> None:
         self.name, self._said = name, "standard output" if name == "-" else str(name)
+        self._file: Any = None
         with faults(self._said):
-            self._file = None if name is None else standard_output().buffer if name == "-" else open(name, "wb")
+            if name is not None:
+                target = standard_output().fileno() if name == "-" else name
+                self._file = open(target, "wb", buffering=0, closefd=name != "-")
 
     def write(self, octets: bytes) -> None:
-        if self._file is None or not octets:
-            return
-        with faults(self._said):
-            self._file.write(octets)
-            self._file.flush()
+        left = memoryview(octets)
+        while self._file is not None and left:
+            with faults(self._said):
+                # (fewer than all where there is no room for more, and None where a stream that does not block has none)
+                count = self._file.write(left)
+                if count is None:
+                    select.select([], [self._file], [])
+                left = left[count or 0 :]
 
     def close(self) -> None:
         if self._file is not None and self.name != "-":
