@@ -227,7 +227,7 @@ export class Library {
     }
 
     /** Gives rooms of these sizes, or with these octets, to what is done with them, and takes them back. */
-    #within(rooms, done) {
+    within(rooms, done) {
         const taken = [];
         try {
             for (const it of rooms) taken.push(typeof it === "number" ? this.room(it) : this.put(it));
@@ -240,7 +240,7 @@ export class Library {
     /** The check symbols of data: together they are a codeword. */
     rsEncode(data, { code = "rs16", basis = "dual" } = {}) {
         const e = number("code", code), size = 2 * Number(e === OUTSIDE ? 0n : e);
-        return this.#within([data, size], (given, checks) => {
+        return this.within([data, size], (given, checks) => {
             this.ask("rs_encode", u32(e), u32(number("basis", basis)), given, BigInt(data.length), checks, BigInt(size));
             return this.octets(checks, size).slice();
         });
@@ -254,7 +254,7 @@ export class Library {
             if (!(Number.isInteger(place) && place >= 0 && place < word.length)) throw this.refusal(NUMBERS.FLAGS);
             flags[place] = 1;
         }
-        return this.#within([word, flags], (at, flagged) => {
+        return this.within([word, flags], (at, flagged) => {
             const length = BigInt(word.length), given = [...numbers, at, length];
             const wrong = erased ? this.ask("rs_decode_erased", ...given, flagged, length) : this.ask("rs_decode", ...given);
             return { word: this.octets(at, word.length).slice(), wrong };
@@ -263,7 +263,7 @@ export class Library {
 
     /** The block with the pseudo-random sequence added; once more takes it off. */
     randomize(block) {
-        return this.#within([block], (at) => {
+        return this.within([block], (at) => {
             this.call("randomize", at, BigInt(block.length));
             return this.octets(at, block.length).slice();
         });
@@ -272,7 +272,7 @@ export class Library {
     /** A column of a codeblock. */
     takeColumn(depth, index, block) {
         const size = Math.floor(block.length / depth);
-        return this.#within([block, size], (at, word) => {
+        return this.within([block, size], (at, word) => {
             this.ask("take_column", depth, index, at, BigInt(block.length), word, BigInt(size));
             return this.octets(word, size).slice();
         });
@@ -280,7 +280,7 @@ export class Library {
 
     /** The codeblock with a column replaced. */
     putColumn(depth, index, block, word) {
-        return this.#within([block, word], (at, given) => {
+        return this.within([block, word], (at, given) => {
             this.ask("put_column", depth, index, at, BigInt(block.length), given, BigInt(word.length));
             return this.octets(at, block.length).slice();
         });
@@ -429,15 +429,12 @@ export class Link {
     /** The channel access data unit of a frame: the attached sync marker and the codeblock. */
     cadu(frame) {
         const library = this.#library, { code, depth, basis, randomize } = this.options, size = this.blockLength + 4;
-        const given = library.put(frame), made = library.room(size);
-        try {
-            if (frame.length !== this.frameLength) throw library.refusal(NUMBERS.BAD_LENGTH);
+        if (frame.length !== this.frameLength) throw library.refusal(NUMBERS.BAD_LENGTH);
+        return library.within([frame, size], (given, made) => {
             const numbers = Object.entries({ code, depth, basis, randomize }).map(([name, value]) => u32(number(name, value)));
             library.ask("cadu", ...numbers, given, BigInt(frame.length), made, BigInt(size));
             return library.octets(made, size).slice();
-        } finally {
-            library.free(given, made);
-        }
+        });
     }
 }
 
@@ -470,18 +467,28 @@ function through(stream) {
 /** What the streams have in common: a handle, and rooms, all of which are given back at the finish, or when it is closed. */
 class Stream {
     #rooms = [];
+    #hasHandle = false;
 
     constructor(kind, library, config) {
         this.library = library;
         this.kind = kind;
-        this.config = this.rooms(config);
-        this.handle = this.rooms(STRUCTS.stream.size);
-        this.given = this.rooms(PIECE);
-        this.written = this.rooms(STRUCTS.written.size);
-        try {
+        this.made(() => {
+            this.config = this.rooms(config);
+            this.handle = this.rooms(STRUCTS.stream.size);
+            this.given = this.rooms(PIECE);
+            this.written = this.rooms(STRUCTS.written.size);
             library.ask(`${kind}_open`, this.handle, this.config, OPTION_COUNT);
+            this.#hasHandle = true;
+        });
+    }
+
+    /** Does a part of a constructor: where that fails, as it can where memory is refused, what was taken before is given back. */
+    made(part) {
+        try {
+            part();
         } catch (error) {
-            this.release();
+            if (this.#hasHandle) this.close();
+            else this.release();
             throw error;
         }
     }
@@ -541,9 +548,11 @@ class Decoding extends Stream {
     constructor(kind, library, config, counts) {
         super(kind, library, config);
         this.windows = [];
-        if (counts) this.#count = library.ask("window_room", this.config, OPTION_COUNT, BigInt(PIECE));
-        // (there are none without an inner code)
-        if (this.#count) this.#at = this.rooms(STRUCTS.window.size * Number(this.#count));
+        this.made(() => {
+            if (counts) this.#count = library.ask("window_room", this.config, OPTION_COUNT, BigInt(PIECE));
+            // (there are none without an inner code)
+            if (this.#count) this.#at = this.rooms(STRUCTS.window.size * Number(this.#count));
+        });
     }
 
     /** Pushes octets, piece by piece. */
@@ -591,8 +600,10 @@ const WINDOW = Object.entries(STRUCTS.window.fields).map(([name, [place]]) => [n
 export class Sender extends Stream {
     constructor(library, config) {
         super("sender", library, config);
-        this.length = library.ask("sender_room", this.config, OPTION_COUNT, BigInt(PIECE));
-        this.symbols = this.rooms(Number(this.length));
+        this.made(() => {
+            this.length = library.ask("sender_room", this.config, OPTION_COUNT, BigInt(PIECE));
+            this.symbols = this.rooms(Number(this.length));
+        });
     }
 
     push(octets) {
@@ -614,9 +625,11 @@ export class Sender extends Stream {
 export class Decoder extends Decoding {
     constructor(library, config, counts) {
         super("decoder", library, config, counts);
-        this.length = library.ask("decoder_room", this.config, OPTION_COUNT, BigInt(PIECE));
-        this.bits = this.rooms(Number(this.length));
-        this.small = this.rooms(STRUCTS.phase.size);
+        this.made(() => {
+            this.length = library.ask("decoder_room", this.config, OPTION_COUNT, BigInt(PIECE));
+            this.bits = this.rooms(Number(this.length));
+            this.small = this.rooms(STRUCTS.phase.size);
+        });
         this.last = null;
     }
 
@@ -654,11 +667,13 @@ export class Receiver extends Decoding {
     constructor(library, config, frameLength, counts) {
         super("receiver", library, config, counts);
         this.frameLength = frameLength;
-        this.small = this.rooms(STRUCTS.totals.size + STRUCTS.phase.size);
-        this.items = library.ask("receiver_room", this.config, OPTION_COUNT, BigInt(PIECE), this.small);
-        this.length = library.view(this.small, 8).getBigUint64(0, true);
-        this.frames = this.rooms(Number(this.length));
-        this.reports = this.rooms(STRUCTS.report.size * Number(this.items));
+        this.made(() => {
+            this.small = this.rooms(STRUCTS.totals.size + STRUCTS.phase.size);
+            this.items = library.ask("receiver_room", this.config, OPTION_COUNT, BigInt(PIECE), this.small);
+            this.length = library.view(this.small, 8).getBigUint64(0, true);
+            this.frames = this.rooms(Number(this.length));
+            this.reports = this.rooms(STRUCTS.report.size * Number(this.items));
+        });
         /** What all octets came to, after the finish: `bits`, and `slips`, before how many windows octets were dropped. */
         this.totals = null;
         this.last = null;
@@ -751,15 +766,15 @@ export class Received {
 /** A search for sync markers in bits or octets. What it takes of memory is given back by `close`. */
 export class Search {
     #library;
-    #rooms;
+    #rooms = [];
     #length;
 
     constructor(library, { tolerance = 0, fly = 0, either = false, bits, verify = 0 }) {
         this.#library = library;
         const few = Number.isInteger(verify) && verify >= 0 && verify <= 7 ? verify : 0;
         this.#length = few * (32 + bits);
-        this.#rooms = [STRUCTS.search.size, this.#length, 8, STRUCTS.place.size].map((it) => library.room(it));
         try {
+            for (const size of [STRUCTS.search.size, this.#length, 8, STRUCTS.place.size]) this.#rooms.push(library.room(size));
             library.ask("search_open", this.#rooms[0], u32(tolerance), u32(fly), u32(either ? 1 : 0), u32(bits), u32(verify));
         } catch (error) {
             this.close();

@@ -4,8 +4,8 @@
     python3 tests/web [--node] [--only EXPRESSION] [--pictures FOLDER]
 
 It makes out/web first, and wants Debian's nodejs and chromium, and out/tmchan. With --node it makes nothing, and tests
-the modules of web/ that are only copied, in Node: forms of recordings, Es/N0 and passes beside the Python package.
-Each test is a line; the last one is `N passed, M failed`, and the status is 1 where some failed, and 77 where there is
+the modules of web/ that are only copied, in Node: forms of recordings, Es/N0 and passes beside the Python package, and
+rooms that are refused. Each test is a line; the last one is `N passed, M failed`, and the status is 1 where some failed, and 77 where there is
 no Node for --node. With --pictures it keeps pictures of both views.
 """
 import argparse

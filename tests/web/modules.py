@@ -154,6 +154,20 @@ def node_command(room):
 
 
 @source_test
+def refused_rooms(room):
+    """Where a room is refused, what was taken before is given back."""
+    folder = room.path("sources")
+    folder.mkdir()
+    for it in SOURCES.glob("*.mjs"):
+        shutil.copy(it, folder)
+    with open(TOP / "include/tmchan.h") as header, open(folder / "layout.mjs", "w") as layout:
+        subprocess.run([SOURCES / "layout"], stdin=header, stdout=layout, check=True)
+    ran = subprocess.run(["node", HERE / "refused.mjs", folder], stdout=subprocess.PIPE, check=True, text=True)
+    assert int(ran.stdout) > 30, ran.stdout
+    return f"{int(ran.stdout)} of them"
+
+
+@source_test
 def samples(room):
     """The symbols of each form are those of the Python package, octet for octet (by numpy, where it is there)."""
     ran = subprocess.run(
