@@ -23,7 +23,8 @@
  * - An array of options, reports or windows is aligned to 8 octets, as C does it.
  * - What a call may write, that is all that a pointer without const points to, an array or a struct, overlaps nothing
  *   else that is passed to that call, or to another call under way. Each call that takes a handle or a tmchan_search
- *   writes it: two threads do not pass one at the same time. What is const may be shared.
+ *   writes it: two threads do not pass one at the same time, and what orders the calls of threads that share one is a
+ *   lock, the start or the join of a thread, or an atomic. What is const may be shared.
  * - No call is made from a signal handler, and none in the forked child of a process with threads (as of Python's
  *   multiprocessing, where it forks).
  * - malloc, realloc and free are of one allocator, and the memory that they give is aligned to 16 octets.
@@ -245,9 +246,9 @@ typedef struct {
                            its own, as symbols are: TMCHAN_OFF */
     uint64_t verify;    /* how many further markers must match before a place that is searched for is taken, 0
                            (default) to 7 */
-    uint64_t rescan;    /* markers are looked for inside codeblocks too, where a column is uncorrectable or no marker
-                           follows: TMCHAN_ON, or not: TMCHAN_OFF (default). tmchan_receiver_room says nearly twice as
-                           much then */
+    uint64_t rescan;    /* markers are looked for inside codeblocks too, anywhere in one with an uncorrectable column
+                           and in the last symbols of another one that no marker follows: TMCHAN_ON, or not:
+                           TMCHAN_OFF (default). tmchan_receiver_room says nearly twice as much then */
     uint64_t bad;       /* a frame with an uncorrectable column is not given: TMCHAN_DROP (default), or given with that
                            column as it was received: TMCHAN_PASS */
 } tmchan_config;
@@ -283,8 +284,8 @@ int32_t tmchan_frame_length(const tmchan_config *config, size_t config_length);
  *
  * A handle begins as {0}, which is closed, and only calls change it. A call that opens it takes all the memory of the
  * stream by malloc; no other call allocates. tmchan_close, and the finish of each kind of stream, close it and give
- * the memory back; then calls on the handle return TMCHAN_CLOSED, and it may be opened again. Handles may be moved in
- * memory, and not copied.
+ * the memory back (tests count both, and no proof says it); then calls on the handle return TMCHAN_CLOSED, and it may
+ * be opened again. Handles may be moved in memory, and not copied.
  *
  * What a push writes stands at the start of its arrays; what follows it is left open, and may have changed. How large
  * the arrays have to be a call says before: tmchan_sender_room, tmchan_decoder_room, tmchan_receiver_room and
