@@ -19,10 +19,14 @@ export function endLine({ name: file, good, bad, fixed, totals: { bits, slips } 
     return line({ kind: "end", file, good, bad, fixed, bits, slips, words });
 }
 
+// The options of a link, which tmchan-receive looks for where none is given.
+const LINK = new Set(["code", "depth", "length", "inner", "invert", "randomize", "basis"]);
+
 /** The words of tmchan-receive for a form and options, without those that it takes by itself; at least one of the link, so that it
  * looks for none. */
 export function receiveWords(options, form, swap) {
-    const { inner } = options, pack = inner === "none" ? "off" : "on";
-    const words = wordsOf(options, { ...DEFAULTS, ...recordingSettings(inner), pack });
-    return ["--input", form, ...(swap ? ["--swap"] : []), ...(words.length ? words : ["--code", "rs16"])];
+    const { inner } = options, usual = { ...DEFAULTS, ...recordingSettings(inner), pack: inner === "none" ? "off" : "on" };
+    const words = (ofLink) => wordsOf(Object.fromEntries(Object.entries(options).filter(([name]) => LINK.has(name) === ofLink)), usual);
+    const link = words(true);
+    return ["--input", form, ...(swap ? ["--swap"] : []), ...(link.length ? link : ["--code", "rs16"]), ...words(false)];
 }

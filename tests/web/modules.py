@@ -153,18 +153,41 @@ def node_command(room):
     return f"{len(frames):,} octets of frames as the program's, statuses 0, 2, 3, 4 and 6"
 
 
+def sources_of(room):
+    """A folder with the modules of web/, and the layout that they load."""
+    folder = room.path("sources")
+    if not folder.exists():
+        folder.mkdir()
+        for it in SOURCES.glob("*.mjs"):
+            shutil.copy(it, folder)
+        with open(TOP / "include/tmchan.h") as header, open(folder / "layout.mjs", "w") as layout:
+            subprocess.run([SOURCES / "layout"], stdin=header, stdout=layout, check=True)
+    return folder
+
+
 @source_test
 def refused_rooms(room):
     """Where a room is refused, what was taken before is given back."""
-    folder = room.path("sources")
-    folder.mkdir()
-    for it in SOURCES.glob("*.mjs"):
-        shutil.copy(it, folder)
-    with open(TOP / "include/tmchan.h") as header, open(folder / "layout.mjs", "w") as layout:
-        subprocess.run([SOURCES / "layout"], stdin=header, stdout=layout, check=True)
-    ran = subprocess.run(["node", HERE / "refused.mjs", folder], stdout=subprocess.PIPE, check=True, text=True)
+    ran = subprocess.run(["node", HERE / "refused.mjs", sources_of(room)], stdout=subprocess.PIPE, check=True, text=True)
     assert int(ran.stdout) > 30, ran.stdout
     return f"{int(ran.stdout)} of them"
+
+
+@source_test
+def receive_words(room):
+    """The command of tmchan-receive that the page's lines of JSON have: with an option of the link always."""
+    cases = [
+        ({}, ["--code", "rs16"]),
+        ({"depth": 5, "rescan": "on"}, ["--depth", "5"]),
+        ({"tolerance": 0, "batch": 1}, ["--code", "rs16", "--tolerance", "0", "--batch", "1"]),
+        ({"start": "zero", "inner": "none", "pack": "off"}, ["--inner", "none", "--start", "zero"]),
+    ]
+    script = f"""
+        import {{ receiveWords }} from "{sources_of(room)}/lines.mjs";
+        console.log(JSON.stringify({json.dumps([it for it, _ in cases])}.map((it) => receiveWords(it, "u8", true))));"""
+    ran = subprocess.run(["node", "--input-type=module", "-e", script], stdout=subprocess.PIPE, check=True)
+    assert json.loads(ran.stdout) == [["--input", "u8", "--swap", *words] for _, words in cases], ran.stdout
+    return f"{len(cases)} commands"
 
 
 @source_test
