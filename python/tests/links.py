@@ -2,6 +2,8 @@
 import functools
 import os
 import random
+import resource
+import signal
 import subprocess
 import sys
 
@@ -46,6 +48,20 @@ def run(*words, given=None, output=subprocess.PIPE):
         [sys.executable, "-m", "tmchan", *words], input=given, stdout=output, stderr=subprocess.PIPE, env=environment
     )
     return ran.returncode, ran.stdout, ran.stderr.decode()
+
+
+def limited(words, size, path, more, given=b""):
+    """Status of a command whose output is a file that may have so many octets, and what the file has. `more` is what
+    its environment has besides."""
+
+    def limit():
+        signal.signal(signal.SIGXFSZ, signal.SIG_IGN)
+        resource.setrlimit(resource.RLIMIT_FSIZE, (size, size))
+
+    how = dict(input=given, stderr=subprocess.PIPE, env={**os.environ, **more}, preexec_fn=limit)
+    with open(path, "wb") as file:
+        ran = subprocess.run(words, stdout=file, **how)
+    return ran.returncode, path.read_bytes()
 
 
 def lines_of(items, link, totals, phase):
@@ -142,6 +158,7 @@ __all__ = [
     "coded",
     "frames",
     "levels",
+    "limited",
     "lines_of",
     "noise",
     "octets",

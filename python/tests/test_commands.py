@@ -5,15 +5,15 @@ import os
 import pathlib
 import random
 import re
-import resource
 import select
+import shutil
 import signal
 import subprocess
 import sys
 import time
 
 import pytest
-from links import PROGRAM, TOP, frames, levels, noise, run, soft, tmchan
+from links import PROGRAM, TOP, frames, levels, limited, noise, run, soft, tmchan
 
 GUIDE = os.path.join(TOP, "docs", "GUIDE.md")
 KNOWN = ["--input", "u8", "--depth", "2", "--length", "100"]
@@ -312,22 +312,10 @@ def test_an_output_that_does_not_block_is_waited_for():
         assert (came.read()[filling:], it.wait(60), it.stderr.read()) == (b"".join(SENT[:20]), 0, b"")
 
 
-def limited(words, size, path, environment):
-    """Status of a command whose output is a file that may have so many octets, and what the file has."""
-
-    def limit():
-        signal.signal(signal.SIGXFSZ, signal.SIG_IGN)
-        resource.setrlimit(resource.RLIMIT_FSIZE, (size, size))
-
-    with open(path, "wb") as file:
-        ran = subprocess.run(words, stdout=file, stderr=subprocess.PIPE, env=environment, preexec_fn=limit)
-    return ran.returncode, path.read_bytes()
-
-
 @pytest.mark.parametrize("unbuffered", ["", "1"])
 def test_a_file_that_takes_a_part(unbuffered, recording, tmp_path):
     """A write that takes fewer octets than it is given is gone on with: the next one fails."""
-    environment = {**os.environ, "PYTHONPATH": os.pathsep.join(sys.path), "PYTHONUNBUFFERED": unbuffered}
+    more = {"PYTHONPATH": os.pathsep.join(sys.path), "PYTHONUNBUFFERED": unbuffered}
     symbols, sent = LINK.send(SENT), b"".join(SENT)
     (tmp_path / "frames").write_bytes(sent)
     for words, written in (
@@ -336,9 +324,49 @@ def test_a_file_that_takes_a_part(unbuffered, recording, tmp_path):
     ):
         command = [sys.executable, "-m", "tmchan", *words]
         for size in (1000, len(written) - 1):
-            found = limited(command, size, tmp_path / "written", environment)
-            assert found == (4, written[:size])
-        assert limited(command, len(written), tmp_path / "written", environment) == (0, written)
+            assert limited(command, size, tmp_path / "written", more) == (4, written[:size])
+        assert limited(command, len(written), tmp_path / "written", more) == (0, written)
+
+
+# A close that fails for the file INODE, once it is done.
+LATE = """
+#define _GNU_SOURCE
+#include <errno.h>
+#include <stdlib.h>
+#include <sys/stat.h>
+#include <sys/syscall.h>
+#include <unistd.h>
+int close(int stream) {
+    struct stat file;
+    int fails = !fstat(stream, &file) && file.st_ino == strtoul(getenv("INODE"), NULL, 10);
+    int answer = syscall(SYS_close, stream);
+    if (!fails) return answer;
+    errno = ENOSPC;
+    return -1;
+}
+"""
+
+
+@pytest.mark.skipif(not shutil.which("cc"), reason="there is no C compiler")
+def test_output_that_is_lost_as_it_is_closed(recording, tmp_path):
+    """A file system may say so only then."""
+    late, written = tmp_path / "late.so", tmp_path / "written"
+    subprocess.run(["cc", "-shared", "-fPIC", "-x", "c", "-o", late, "-"], input=LATE.encode(), check=True)
+    written.touch()
+    around = {"LD_PRELOAD": str(late), "INODE": str(written.stat().st_ino)}
+    environment = {**os.environ, "PYTHONPATH": os.pathsep.join(sys.path), **around}
+    command = [sys.executable, "-m", "tmchan"]
+    for words in (
+        ["receive", *KNOWN, recording],
+        ["receive", *KNOWN, "--json", recording],
+        ["receive", *KNOWN, "--output", str(written), recording],
+        ["send", recording],
+        ["find", "--input", "u8", recording],
+    ):
+        with open(written, "wb") as file:
+            ran = subprocess.run([*command, *words], stdout=file, stderr=subprocess.PIPE, env=environment)
+        said = ran.stderr.decode()
+        assert ran.returncode == 4 and "can't be written: No space left on device" in said and "Traceback" not in said
 
 
 @pytest.mark.parametrize("begin", [5000, 1_200_000])

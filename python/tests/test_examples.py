@@ -5,7 +5,7 @@ import subprocess
 import sys
 
 import pytest
-from links import TOP, tmchan
+from links import TOP, limited, tmchan
 
 numpy = pytest.importorskip("numpy")
 
@@ -73,6 +73,22 @@ def test_soft_says_what_is_left():
         stderr=subprocess.PIPE,
     )
     assert (ran.stdout, ran.stderr) == (bytes(9), b"")
+
+
+LIBRARY = os.environ.get("LIBTMCHAN") or os.path.join(TOP, "out", "libtmchan.so")
+SCRIPTS = [["examples/noise"], ["examples/soft", "u8"], ["docs/reference", "encode"]]
+SCRIPTS += [["examples/c/receive.py", LIBRARY, "1"]] * os.path.exists(LIBRARY)
+
+
+@pytest.mark.parametrize("script", SCRIPTS, ids=lambda it: it[0])
+def test_a_file_that_takes_a_part(script, tmp_path):
+    """Also where Python buffers nothing a write that takes fewer octets than it is given is gone on with."""
+    command, more = [sys.executable, os.path.join(TOP, script[0]), *script[1:]], {"PYTHONUNBUFFERED": "1"}
+    given = tmchan.Link().send(bytes(223 * 6))
+    status, written = limited(command, 1 << 24, tmp_path / "written", more, given)
+    assert len(written) > 1000
+    found = limited(command, 1000, tmp_path / "written", more, given)
+    assert found[0] not in (0, status) and found[1] == written[:1000]
 
 
 def test_find_options_prints_what_the_guide_says(tmp_path):

@@ -367,7 +367,8 @@ def test_a_stream_is_one_threads_at_a_time():
 class Heap(ctypes.Structure):
     """mallinfo2 of the C library."""
 
-    _fields_ = [(name, ctypes.c_size_t) for name in "arena ordblks smblks hblks hblkhd usmblks fsmblks used free top".split()]
+    NAMES = "arena ordblks smblks hblks hblkhd usmblks fsmblks uordblks fordblks keepcost"
+    _fields_ = [(name, ctypes.c_size_t) for name in NAMES.split()]
 
 
 def heap_octets():
@@ -378,7 +379,7 @@ def heap_octets():
     told.restype = Heap
     gc.collect()
     heap = told()
-    return heap.used + heap.hblkhd
+    return heap.uordblks + heap.hblkhd
 
 
 def test_memory_is_given_back():

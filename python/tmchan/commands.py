@@ -73,6 +73,7 @@ def tell(*lines: str) -> None:
     text = "".join(f"{line}\n" for line in lines)
     output = Output("-")
     output.write(text.encode(standard_output().encoding, standard_output().errors))
+    output.close()
 
 
 @contextlib.contextmanager
@@ -234,8 +235,10 @@ class Output:
                 left = left[count or 0 :]
 
     def close(self) -> None:
-        if self._file is not None and self.name != "-":
+        """Closes it: only then may a file system say that what was written is lost. Standard output stays open."""
+        if self._file is not None:
             with faults(self._said):
+                os.close(os.dup(self._file.fileno()))
                 self._file.close()
 
 
@@ -614,8 +617,8 @@ def receive(words: list[str]) -> int:
     try:
         return 0 if all([receive_file(arguments, name, output, lines, pages) for name in arguments.files]) else 1
     finally:
-        output.close()
-        pages.close()
+        for it in (output, lines, pages):
+            it.close()
 
 
 # send
