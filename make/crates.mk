@@ -27,13 +27,14 @@ out/%.below: $(SOURCES)
 	cd crates/$* && $(RT_BELOW)
 	mv $@.begun $@
 
-compiled = $(need_kit)tools/compile --jobs $(JOBS) $1 $(TARGET) '$(CPU_$*)' $@
-$(OBJECTS)/library-%.o: out/tmchan_c.below | $(OBJECTS)
-	$(call compiled,tmchan_c)
-$(OBJECTS)/program-%.o: out/tmchan.below | $(OBJECTS)
-	$(call compiled,tmchan)
+# Each object, and beside it the module of LLVM of which it was compiled
+compiled = $(need_kit)tools/compile --jobs $(JOBS) $1 $(TARGET) '$(CPU_$*)' $(OBJECTS)/$2-$*.o
+$(OBJECTS)/library-%.o $(OBJECTS)/library-%.o.bc: out/tmchan_c.below | $(OBJECTS)
+	$(call compiled,tmchan_c,library)
+$(OBJECTS)/program-%.o $(OBJECTS)/program-%.o.bc: out/tmchan.below | $(OBJECTS)
+	$(call compiled,tmchan,program)
 $(OBJECTS)/rows-%.o: out/tm_rows.below | $(OBJECTS)
-	$(call compiled,tm_rows)
+	$(call compiled,tm_rows,rows)
 
 $(OBJECTS)/%.o: platform/%.c platform/platform.h include/tmchan.h | $(OBJECTS)
 	$(COMPILE) -c -o $@ $<

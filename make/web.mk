@@ -21,10 +21,10 @@ web: web-tools $(addprefix $(WEB)/,tmchan.wasm tmchan32.wasm program.wasm layout
 $(WEB) $(WEB_OBJECTS):
 	mkdir -p $@
 
-$(WEB_OBJECTS)/library-%.o: out/tmchan_c.below web/compile | $(WEB_OBJECTS)
-	web/compile tmchan_c $* $@
-$(WEB_OBJECTS)/program-%.o: out/tmchan.below web/compile | $(WEB_OBJECTS)
-	web/compile tmchan $* $@
+$(WEB_OBJECTS)/%-vectors.o: out/objects/%-v2.o.bc web/compile | $(WEB_OBJECTS)
+	web/compile $(basename $<) vectors $@
+$(WEB_OBJECTS)/%-plain.o: out/objects/%-plain.o.bc web/compile | $(WEB_OBJECTS)
+	web/compile $(basename $<) plain $@
 $(WEB_OBJECTS)/%.o: web/%.c | $(WEB_OBJECTS)
 	$(WASM_CC) -c -o $@ $<
 $(WEB_OBJECTS)/wasm-ld: | $(WEB_OBJECTS)
