@@ -132,10 +132,12 @@ def call_lines(header, module, kind, name, parameters):
             passed.append(it.name if struct is None else f"ADDRESS({it.name})")
         else:
             count = f"{it.name}_length" if following == f"{it.name}_length" else "1"
-            turned = "uint64_t" if struct == NUMBERS else struct
-            if turned != "uint64_t" and turned not in header.structs:
+            if struct == NUMBERS:
+                before.append(f"TURN(uint64_t, (uint64_t *)(void *){it.name}, {count});")
+            elif struct == "uint64_t" or struct in header.structs:
+                before.append(f"TURN({struct}, {it.name}, {count});")
+            else:
                 raise Unknown(f"{name}: {it.kind}{it.name}")
-            before.append(f"TURN({turned}, {it.name}, {count});")
             after.append(before[-1])
             passed.append(f"ADDRESS({it.name})")
     text = ", ".join(f"{it.kind}{it.name}" for it in parameters) or "void"

@@ -40,6 +40,8 @@ def binary(function, name, line, word):
         return vectors.binary(function, name, word, kind, a, b)
     x, y = function.scalar(kind, a), function.scalar(kind, b)
     if kind.bits == 128:
+        if word in ("ashr", "sdiv", "srem"):
+            raise Unknown(f"{word} of 128 bits")
         shift = f"(unsigned)low128({y})" if word in ("shl", "lshr") else y
         return function.set(name, kind, f"{word}128({x}, {shift})")
     if word in ("sdiv", "srem", "ashr"):
@@ -65,7 +67,7 @@ def comparison(function, name, line, _):
     if isinstance(kind, Vector):
         return vectors.comparison(function, name, word, kind, a, b)
     x, y = function.scalar(kind, a), function.scalar(kind, b)
-    if kind == Int(128):
+    if kind == Int(128) and not word.startswith("s"):
         return function.set(name, BIT, f"{word}128({x}, {y})")
     if word.startswith("s"):
         x, y = signed(kind, x), signed(kind, y)

@@ -78,7 +78,9 @@ start:
   store i64 %bits, ptr %out, align 1
   %ratio = fdiv double %x, 7.000000e+00
   %square = fmul double %ratio, %ratio
-  %rest = fadd double %square, %y
+  %other = fmul double %ratio, %x
+  %seventh = fdiv double %other, 7.000000e+00
+  %rest = fsub double %square, %seventh
   %p1 = getelementptr i8, ptr %out, i64 8
   store double %rest, ptr %p1, align 1
   %raw = bitcast i64 %a to double

@@ -14,12 +14,20 @@
 #include <float.h>
 #include <stddef.h>
 #include <stdint.h>
-#include <string.h>
 
 #if defined(__GNUC__) && !defined(PORTABLE_PLAIN)
 #define GNU 1
 #else
 #define GNU 0
+#endif
+
+/* With -ffreestanding there may be no string.h, and the compiler places a copy of a few octets by this name alone. */
+#if __STDC_HOSTED__ || !GNU
+#include <string.h>
+#else
+#define memcpy __builtin_memcpy
+#define memmove __builtin_memmove
+#define memset __builtin_memset
 #endif
 
 #if defined(__BYTE_ORDER__)
