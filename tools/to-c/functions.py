@@ -178,7 +178,20 @@ class Function:
                 self.write_instruction(text)
         code = self.used()
         variables = [f"    {kind} {', '.join(names)};" for kind, names in self.declared.items()]
-        return [f"/* {self.head.name.strip(chr(34))} */", head_text(self.head) + " {", *variables, *code, "}", ""]
+        begin, end = self.ends(any(re.search(r"\bv8_(shuffle|pick)|\bv16_pick", it) for it in code))
+        return [f"/* {self.head.name.strip(chr(34))} */", begin, *variables, *code, *end, ""]
+
+    def ends(self, is_twice):
+        """What stands before the body and after it. One that is compiled twice, for processors with and without the byte shuffle,
+        is placed in two functions, one of which is chosen at run time where that isn't known before."""
+        if not is_twice:
+            return head_text(self.head) + " {", ["}"]
+        kind, name, parameters = c_type(self.head.result), self.head.c_name, parameters_text(self.head)
+        given = [f"a{number}" for number in range(len(self.head.parameters))]
+        bodies = [f"{name}_body({', '.join([*given, has])})" for has in ("1", "0")]
+        answer = "" if kind == "void" else "return"
+        choice = f"CHOSEN({kind}, {answer}, {name}, ({parameters}), ({', '.join(given)}), {', '.join(bodies)})"
+        return f"INLINE {kind} {name}_body({parameters}, int has_sse4) {{\n    (void)has_sse4;", ["}", choice]
 
     def used(self):
         """The text without labels to which nothing jumps, and variables that nothing reads."""
@@ -227,6 +240,9 @@ def narrowed(parts, lane_bits):
     return [f"v{lane_bits}_pack({one}, {other})" for one, other in zip(parts[::2], parts[1::2], strict=True)]
 
 
+def parameters_text(head):
+    return ", ".join(f"{c_type(kind)} a{number}" for number, (kind, _) in enumerate(head.parameters))
+
+
 def head_text(head):
-    parameters = ", ".join(f"{c_type(kind)} a{number}" for number, (kind, _) in enumerate(head.parameters))
-    return f"static {c_type(head.result)} {head.c_name}({parameters or 'void'})"
+    return f"static {c_type(head.result)} {head.c_name}({parameters_text(head) or 'void'})"

@@ -165,7 +165,7 @@ INLINE unsigned v64_bits(v64 x) { return v32_bits(v64_pack(v64_lshr(x, 32), v64_
 #endif
 
 /* Lane k of the result is the lane of x whose number is the lower four bits of lane k of lanes, or 0 where that one's highest bit is
- * set: pshufb of SSSE3. On x86-64 without -march the processor is asked whether it has that. */
+ * set: pshufb of x86-64's SSSE3. */
 INLINE v8 v8_shuffle_slowly(v8 x, v8 lanes) {
     uint8_t from[16], to[16];
     memcpy(from, &x, 16);
@@ -175,18 +175,30 @@ INLINE v8 v8_shuffle_slowly(v8 x, v8 lanes) {
     return x;
 }
 #if defined(__SSSE3__)
-INLINE v8 v8_shuffle(v8 x, v8 lanes) { return (v8)_mm_shuffle_epi8((__m128i)x, (__m128i)lanes); }
-#elif defined(__x86_64__) && !defined(PORTABLE_NO_SHUFFLE)
-static __attribute__((noinline, cold, unused)) v8 v8_shuffle_called(v8 x, v8 lanes) { return v8_shuffle_slowly(x, lanes); }
-INLINE v8 v8_shuffle(v8 x, v8 lanes) {
-    if (!__builtin_cpu_supports("ssse3")) return v8_shuffle_called(x, lanes);
-    __asm__("pshufb %1, %0" : "+x"(x) : "x"(lanes));
-    return x;
-}
+#define v8_shuffle(x, lanes) ((v8)_mm_shuffle_epi8((__m128i)(x), (__m128i)(lanes)))
 #elif defined(__aarch64__)
-INLINE v8 v8_shuffle(v8 x, v8 lanes) { return (v8)vqtbl1q_u8((uint8x16_t)x, (uint8x16_t)(lanes & v8_all(0x8f))); }
+#define v8_shuffle(x, lanes) ((v8)vqtbl1q_u8((uint8x16_t)(x), (uint8x16_t)((lanes) & v8_all(0x8f))))
+#elif !CHOSEN_AT_RUN_TIME
+#define v8_shuffle(x, lanes) v8_shuffle_slowly(x, lanes)
 #else
-#define v8_shuffle v8_shuffle_slowly
+/* A function that is compiled twice has a parameter of this name, a constant. */
+enum { has_sse4 = 0 };
+#define BY_SSE4(type, name, instruction, other)                                                                                        \
+    INLINE type name(type a, type b, int has) {                                                                                        \
+        if (!has) return other;                                                                                                        \
+        __asm__(instruction " %1, %0" : "+x"(a) : "x"(b));                                                                             \
+        return a;                                                                                                                      \
+    }
+BY_SSE4(v8, shuffled_by, "pshufb", v8_shuffle_slowly(a, b))
+BY_SSE4(v16, least_by, "pminuw", v16_umin(a, b))
+BY_SSE4(v16, most_by, "pmaxuw", v16_umax(a, b))
+#define v8_shuffle(x, lanes) shuffled_by(x, lanes, has_sse4)
+#define v16_umin(a, b) least_by(a, b, has_sse4)
+#define v16_umax(a, b) most_by(a, b, has_sse4)
+#define v16_ule(a, b) ((v16)(v16_umin(a, b) == (a)))
+#define v16_uge(a, b) ((v16)(v16_umax(a, b) == (a)))
+#define v16_ult(a, b) (~(v16)(v16_umin(a, b) == (b)))
+#define v16_ugt(a, b) (~(v16)(v16_umax(a, b) == (b)))
 #endif
 
 #endif

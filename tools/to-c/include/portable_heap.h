@@ -4,6 +4,11 @@
 #ifndef PORTABLE_HEAP_H
 #define PORTABLE_HEAP_H
 
+/* A vector that is empty has an address that is never freed, of a local one: that its capacity is looked at first gcc doesn't see. */
+#if defined(__GNUC__) && !defined(__clang__)
+#pragma GCC diagnostic ignored "-Wfree-nonheap-object"
+#endif
+
 #ifdef PORTABLE_MALLOC
 void *PORTABLE_MALLOC(size_t octets);
 void *PORTABLE_REALLOC(void *at, size_t octets);
