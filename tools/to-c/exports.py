@@ -1,4 +1,4 @@
-"""The calls of a header under their names, and C's main.
+"""The calls of a header under their names, and the program's main.
 
 The module has the layout of x86-64 in memory. Where C's differs, by the order of octets, the size of addresses or an alignment, what a
 call is passed is turned before the call and after it, or stands in a copy.
@@ -156,7 +156,9 @@ def exported(module, header):
 
 
 def main_lines(module):
-    """C's main: the module's is passed the number of words and their address, or nothing."""
+    """The program's main under the name by which that of platform/ calls it. The module's takes the number of words and their address,
+    or nothing."""
     main = module.heads["main"]
     given = ["(uint32_t)count", "ADDRESS(words)"][:len(main.parameters)]
-    return ["int main(int count, char **words) {", "    keep_words(count, words);", f"    return (int){main.c_name}({', '.join(given)});", "}", ""]
+    return ["int tmchan_main(int count, char **words) {", "    (void)count, (void)words;",
+            f"    return (int){main.c_name}({', '.join(given)});", "}", ""]

@@ -4,10 +4,9 @@
  * alignment, the order of octets and the size of pointers, 32 or 64 bits, it assumes nothing. With gcc and clang it is faster by what
  * only GNU C has; a big-endian processor needs these. Macros that choose, all optional:
  *
- * PORTABLE_MALLOC, PORTABLE_REALLOC, PORTABLE_FREE   the heap (portable_heap.h)
- * PORTABLE_NO_THREADS                                a program starts no threads (portable_program.h)
- * PORTABLE_NO_SHUFFLE                                x86-64 without -march is never asked for SSSE3 (portable_gnu.h)
- * PORTABLE_PLAIN                                     nothing of GNU C */
+ * PORTABLE_NO_THREADS   a program starts no threads (portable_program.h)
+ * PORTABLE_NO_SHUFFLE   x86-64 without -march is never asked for SSE4.1 (portable_vectors.h)
+ * PORTABLE_PLAIN        nothing of GNU C */
 #ifndef PORTABLE_H
 #define PORTABLE_H
 

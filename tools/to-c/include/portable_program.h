@@ -1,77 +1,50 @@
-/* What a program calls outside the heap: octets of files, the words of the command line, and threads, which are POSIX's where there
- * are any. With PORTABLE_NO_THREADS, and on Windows, none can be started: the program then does all work in one, with the same
- * results. */
+/* What a program calls outside the heap: streams, the words of the command line and the error number, by the files of platform/, of
+ * which one has C's main; and threads, which are POSIX's where there are any. With PORTABLE_NO_THREADS, and on Windows, none can be
+ * started: the program then does all work in one, with the same results. */
 #ifndef PORTABLE_PROGRAM_H
 #define PORTABLE_PROGRAM_H
 
 #include <errno.h>
 #include <signal.h>
 #include <stdlib.h>
-#if defined(_WIN32)
-#include <fcntl.h>
-#include <io.h>
-#else
-#include <unistd.h>
-#endif
+#include <sys/types.h>
 #if !defined(_WIN32) && !defined(PORTABLE_NO_THREADS)
 #define PORTABLE_THREADS
 #include <pthread.h>
 #endif
 
-/* Files */
-
-#if defined(_WIN32)
-enum { MOST_OCTETS = 1 << 30 };
-#define system_read(file, at, octets) _read(file, at, (unsigned)((octets) < MOST_OCTETS ? (octets) : MOST_OCTETS))
-#define system_write(file, at, octets) _write(file, at, (unsigned)((octets) < MOST_OCTETS ? (octets) : MOST_OCTETS))
-#else
-#define system_read(file, at, octets) read(file, at, (size_t)(octets))
-#define system_write(file, at, octets) write(file, at, (size_t)(octets))
-#endif
+/* What platform/platform.h declares, and says of each */
+ssize_t platform_read(int stream, void *octets, size_t length);
+ssize_t platform_write(int stream, const void *octets, size_t length);
+_Noreturn void platform_exit(int status);
+int32_t rattle_errno(void);
+void rattle_set_errno(int32_t error);
+ssize_t rattle_arg(size_t i, uint8_t *array, size_t length);
+int tmchan_main(int count, char **words);
 
 INLINE uint64_t outside_read(uint32_t file, address at, uint64_t octets) {
-    return (uint64_t)(int64_t)system_read((int)file, AT(at), octets);
+    return (uint64_t)(int64_t)platform_read((int)file, AT(at), (size_t)octets);
 }
 
 INLINE uint64_t outside_write(uint32_t file, address at, uint64_t octets) {
-    return (uint64_t)(int64_t)system_write((int)file, AT(at), octets);
+    return (uint64_t)(int64_t)platform_write((int)file, AT(at), (size_t)octets);
 }
 
 #define outside___write outside_write
-INLINE uint32_t outside_rattle_errno(void) { return (uint32_t)errno; }
-INLINE void outside_rattle_set_errno(uint32_t error) { errno = (int)error; }
+INLINE uint32_t outside_rattle_errno(void) { return (uint32_t)rattle_errno(); }
+INLINE void outside_rattle_set_errno(uint32_t error) { rattle_set_errno((int32_t)error); }
 
-/* The words of the command line */
-
-static int word_count;
-static char **words_given;
-
-static void keep_words(int count, char **words) {
-    word_count = count;
-    words_given = words;
-#if defined(_WIN32)
-    for (int file = 0; file < 3; file++) _setmode(file, _O_BINARY);
-#endif
-}
-
-/* Copies word `number`, from 0, and answers its length: -1 where there is none, -2 where the room is too short, which is filled. */
 INLINE uint64_t outside_rattle_arg(uint64_t number, address at, uint64_t room) {
-    if (number >= (uint64_t)word_count) return (uint64_t)-1;
-    uint64_t length = 0;
-    for (const char *word = words_given[number]; word[length]; length++) {
-        if (length == room) return (uint64_t)-2;
-        AT(at)[length] = (uint8_t)word[length];
-    }
-    return length;
+    return (uint64_t)(int64_t)rattle_arg((size_t)(number < INT32_MAX ? number : INT32_MAX), AT(at), (size_t)room);
 }
 
 /* The process */
 
-INLINE address outside_malloc(uint64_t octets) { return ADDRESS(PORTABLE_MALLOC((size_t)octets)); }
-INLINE void outside_free(address at) { PORTABLE_FREE(AT(at)); }
+INLINE address outside_malloc(uint64_t octets) { return ADDRESS(malloc((size_t)octets)); }
+INLINE void outside_free(address at) { free(AT(at)); }
 INLINE void outside_abort(void) { abort(); }
 
-INLINE void outside__exit(uint32_t status) { _exit((int)status); }
+INLINE void outside__exit(uint32_t status) { platform_exit((int)status); }
 
 INLINE uint64_t outside___sysv_signal(uint32_t number, uint64_t handler) {
 #if defined(_WIN32)
@@ -106,7 +79,7 @@ typedef struct {
 
 static void *thread_body(void *at) {
     thread_begin it = *(thread_begin *)at;
-    PORTABLE_FREE(at);
+    free(at);
     it.start(it.given);
     return NULL;
 }
@@ -127,7 +100,7 @@ INLINE pthread_t thread_of(uint64_t number) {
 }
 
 INLINE uint32_t outside_pthread_create(address thread, address attributes, address start, address given) {
-    thread_begin *begin = PORTABLE_MALLOC(sizeof *begin);
+    thread_begin *begin = malloc(sizeof *begin);
     pthread_attr_t chosen;
     pthread_t made;
     size_t stack = 0;
@@ -143,7 +116,7 @@ INLINE uint32_t outside_pthread_create(address thread, address attributes, addre
         error = pthread_create(&made, &chosen, thread_body, begin);
         pthread_attr_destroy(&chosen);
     }
-    if (error) PORTABLE_FREE(begin);
+    if (error) free(begin);
     else store64(AT(thread), thread_number(made));
     return (uint32_t)error;
 }
