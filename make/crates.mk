@@ -8,11 +8,11 @@ JOBS ?= 2
 
 # Folders too, so that what is taken away is seen.
 SOURCES := crates.txt $(shell find crates/*/src crates/*/specs crates/*/proofs)
-PLATFORM = arguments errno heap streams
 EACH = $(if $(CPU)$(filter-out x86_64,$(PROCESSOR)),one,v2 v3)
 CPU_one = $(CPU)
 CPU_v2 = x86-64-v2
 CPU_v3 = x86-64-v3
+CPU_plain = x86-64
 
 # The rows of the tests of the whole program
 rows: $(OUT)/tm_rows
@@ -36,9 +36,6 @@ $(OBJECTS)/program-%.o $(OBJECTS)/program-%.o.bc: out/tmchan.below | $(OBJECTS)
 $(OBJECTS)/rows-%.o: out/tm_rows.below | $(OBJECTS)
 	$(call compiled,tm_rows,rows)
 
-$(OBJECTS)/%.o: platform/%.c platform/platform.h include/tmchan.h | $(OBJECTS)
-	$(COMPILE) -c -o $@ $<
-
 # The library. The calls of CHOSEN are there in two builds, and choose_library.c between these.
 CHOSEN := $(shell sed -nE 's/^(CHOOSE|OPEN).(tmchan_\w+).*/\2/p' platform/choose_library.c)
 HEAP = rattle_alloc rattle_realloc rattle_dealloc
@@ -56,10 +53,7 @@ $(OBJECTS)/named-v3.o: $(OBJECTS)/library-v3.o
 LIBRARY_one = library-one
 LIBRARY_v2 = named-v2
 LIBRARY_v3 = named-v3 choose_library processor
-$(OBJECTS)/tmchan.o: $(patsubst %,$(OBJECTS)/%.o,$(foreach it,$(EACH),$(LIBRARY_$(it))) heap)
-	$(LD) -r -z noexecstack -o $@.all $^
-	$(OBJCOPY) $(call kept,$(CALLS)) $@.all $@
-	rm $@.all
+LIBRARY = $(foreach it,$(EACH),$(LIBRARY_$(it))) heap
 
 # The program, and that of the rows of tests: their main has another name, and what they call of the C library for
 # streams has that of platform/, where C's main stands.
@@ -69,9 +63,11 @@ $(OBJECTS)/main-%.o: $(OBJECTS)/program-%.o
 $(OBJECTS)/main-rows.o: $(OBJECTS)/rows-one.o
 	$(call renamed,tmchan_main)
 
-CHOICE = $(if $(filter v3,$(EACH)),choose_program processor)
-$(OUT)/tmchan: $(patsubst %,$(OBJECTS)/%.o,$(foreach it,$(EACH),main-$(it)) $(CHOICE) $(PLATFORM))
+PROGRAM = $(addprefix main-,$(EACH)) $(if $(filter v3,$(EACH)),choose_program processor) $(PLATFORM)
+
+$(OUT)/tm_rows: $(call objects,main-rows $(PLATFORM))
 	$(LINK) -pie -pthread -o $@ $^
 
-$(OUT)/tm_rows: $(patsubst %,$(OBJECTS)/%.o,main-rows $(PLATFORM))
-	$(LINK) -pie -pthread -o $@ $^
+# C of the modules for processors with the vectors of x86-64-v2, and with none
+c: $(addsuffix .bc,$(call objects,program-v2 library-v2 library-plain))
+	$(need_kit)tools/make-c
