@@ -1,6 +1,6 @@
 """What pyproject.toml can't say: the version, which is that of include/tmchan.h, and the wheel's tag. The package is
-Python alone with a library beside it, so that it fits every Python of one platform; TMCHAN_PLATFORM names that
-(tools/wheel)."""
+Python alone with a library beside it, so that it fits every Python of one platform; TMCHAN_PLATFORM names that, and
+TMCHAN_BUILD what follows the version (tools/wheel)."""
 import os
 import re
 
@@ -16,7 +16,7 @@ HEADER = os.environ.get(
 def version():
     with open(HEADER, encoding="utf-8") as file:
         number = int(re.search(r"#define TMCHAN_VERSION (\w+)", file.read())[1], 0)
-    return f"{number >> 16}.{number >> 8 & 255}.{number & 255}"
+    return f"{number >> 16}.{number >> 8 & 255}.{number & 255}{os.environ.get('TMCHAN_BUILD', '')}"
 
 
 class Tagged(bdist_wheel):
