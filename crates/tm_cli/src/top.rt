@@ -20,8 +20,8 @@ use tm_path_commands::certificate_law;
 /// and when the input is partial.
 ///
 /// A command that reads asks at each read for 4,096 octets, or for what is left up to the limit and one octet more, and
-/// reads nothing after the end of the input or a fault. Windows are decoded and words repaired by as many workers as are
-/// asked for. Returns the exit status, of 3, 4 and 7 the one that occurs first:
+/// reads nothing after the end of the input or a fault. That windows are decoded and words repaired by as many workers
+/// as are asked for is tested, and no clause says it. Returns the exit status, of 3, 4 and 7 the one that occurs first:
 ///
 /// - 0: the source was read to its end by a command that reads, and the whole output is written.
 /// - 1: the same, and something is bad. Or the command ends at what is bad, fewer than 4,096 octets were read after it,
