@@ -3,9 +3,10 @@
 
     python3 tools/to-c [--header HEADER] MODULE.ll OUT.c
 
-The calls of HEADER are what the C exports; without it the C is a program, whose main is the module's. The C needs the headers of
-tools/to-c/include beside it, which say what it asks of a compiler. It holds one function for each of the module, from which nothing
-is left out: what the translator does not know stops it, with the line, status 1 and no file.
+The calls of HEADER are what the C exports; without it the C is a program: tmchan_main is the module's main, and
+platform/ has C's. The C needs the headers of tools/to-c/include beside it, which say what it asks of a compiler. It
+holds one function for each of the module, from which nothing is left out: what the translator does not know stops it,
+with the line, status 1 and no file.
 """
 import argparse
 import os
@@ -39,12 +40,30 @@ def translated(text, header_path):
         begin, end = '#include "portable_program.h"', main_lines(module)
     structs = [struct_text(kind) for name, kind in module.structs.items() if name != "struct_i64_i64"]
     includes = ['#include "portable.h"', '#include "portable_heap.h"', begin, '#include "portable_atomic.h"']
-    return "\n".join([*includes, "", *structs, "", *constants.declarations, "", *heads,
-                      "", *constants.definitions, "", *constants.turned(), "", *definitions, *end])
+    return "\n".join(
+        [
+            *includes,
+            "",
+            *structs,
+            "",
+            *constants.declarations,
+            "",
+            *heads,
+            "",
+            *constants.definitions,
+            "",
+            *constants.turned(),
+            "",
+            *definitions,
+            *end,
+        ]
+    )
 
 
 def main():
-    arguments = argparse.ArgumentParser(prog="to-c", description=__doc__, formatter_class=argparse.RawDescriptionHelpFormatter)
+    arguments = argparse.ArgumentParser(
+        prog="to-c", description=__doc__, formatter_class=argparse.RawDescriptionHelpFormatter
+    )
     arguments.add_argument("--header", help="C header whose calls are exported")
     arguments.add_argument("module")
     arguments.add_argument("out")

@@ -6,7 +6,7 @@ from llvm_types import BIT, Vector
 
 
 def blocks_of(lines):
-    """Pairs of label and instructions, in the order of the module. A switch, which stands on several lines, is one text."""
+    """Pairs of label and instructions, in the order of the module. A switch, which has several lines, is one text."""
     found, label, code = [], None, []
     for text in lines:
         begin = re.match(rf"({NAME}):", text)
@@ -67,7 +67,7 @@ def phis_of(code):
     for text in code:
         begin = re.match(rf"%({NAME}) = phi ", text)
         if begin:
-            found.append(Phi(begin[1], Line(text[begin.end():])))
+            found.append(Phi(begin[1], Line(text[begin.end() :])))
     return found
 
 
@@ -75,7 +75,8 @@ WORD = re.compile(r"\b[a-z]\w*\b")
 
 
 def copied_at_once(copies, spare):
-    """Assignments that do what all copies, triples of type, variable and expression, do at once. spare(kind) makes a variable."""
+    """Assignments that do what all copies, triples of type, variable and expression, do at once. spare(kind) makes a
+    variable."""
     copies = [it for it in copies if it[1] != it[2]]
     words = [set(WORD.findall(expression)) for _, _, expression in copies]
     lines = []

@@ -1,7 +1,7 @@
 """Constants and variables of a module in C.
 
-Where they hold addresses they are structs, since C's compiler alone knows these. On big-endian processors the addresses are
-turned to little-endian as the program is loaded.
+Where they hold addresses they are structs, since C's compiler alone knows these. On big-endian processors the addresses
+are turned to little-endian as the program is loaded.
 """
 from llvm_text import AddressNumber, Global, Items, Number, Octets, Offset, Poison, Zero
 from llvm_types import Array, Int, Pointer, Struct, Unknown, Vector, packed, size, width

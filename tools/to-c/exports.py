@@ -1,7 +1,7 @@
 """The calls of a header under their names, and the program's main.
 
-The module has the layout of x86-64 in memory. Where C's differs, by the order of octets, the size of addresses or an alignment, what a
-call is passed is turned before the call and after it, or stands in a copy.
+The module has the layout of x86-64 in memory. Where C's differs, by the order of octets, the size of addresses or an
+alignment, what a call is passed is turned before the call and after it, or stands in a copy.
 """
 import re
 from dataclasses import dataclass
@@ -65,13 +65,16 @@ class Header:
         with open(path, encoding="utf-8") as file:
             text = re.sub(r"/\*.*?\*/", "", file.read(), flags=re.DOTALL)
         self.structs = {it[2]: fields_of(it[1]) for it in re.finditer(r"typedef struct \{([^}]*)\} (\w+);", text)}
-        self.calls = [(it[1], it[2], self.parameters(it[3]))
-                      for it in re.finditer(r"^(u?int\d+_t|void) (\w+)\(([^)]*)\);", text, re.MULTILINE)]
+        self.calls = [
+            (it[1], it[2], self.parameters(it[3]))
+            for it in re.finditer(r"^(u?int\d+_t|void) (\w+)\(([^)]*)\);", text, re.MULTILINE)
+        ]
 
     @staticmethod
     def parameters(text):
         text = re.sub(r"\s+", " ", text).strip()
-        return [] if text == "void" else [Parameter(*re.fullmatch(r"(.*?)(\w+)", it.strip()).groups()) for it in text.split(",")]
+        found = [] if text == "void" else text.split(",")
+        return [Parameter(*re.fullmatch(r"(.*?)(\w+)", it.strip()).groups()) for it in found]
 
     def is_copied(self, struct):
         """Whether a struct may have another layout in C than in the module."""
@@ -86,66 +89,96 @@ def struct_lines(header):
         if name == NUMBERS:
             continue
         if not header.is_copied(name):
-            turns = " ".join(f"it->{field.name} = TURNED{8 * field.octets()}(it->{field.name});" for field in fields if field.octets() > 1)
-            lines += [f"EXPORT_TURN({name}, {turns})"]
+            turns = [turn(it) for it in fields if it.octets() > 1]
+            lines.append(f"EXPORT_TURN({name}, {' '.join(turns)})")
             continue
         places, octets = layout(fields, 8)
         moves = list(zip(fields, places, strict=True))
-        lines += [f"EXPORT_COPY({name}, {octets},", "    " + " ".join(copy_in(*it) for it in moves) + ",",
-                  "    " + " ".join(copy_out(*it) for it in moves) + ")"]
+        lines += [
+            f"EXPORT_COPY({name}, {octets},",
+            "    " + " ".join(copy_in(*it) for it in moves) + ",",
+            "    " + " ".join(copy_out(*it) for it in moves) + ")",
+        ]
     return lines
+
+
+def single(field):
+    """The field's name in C, where it is no array."""
+    if field.count > 1:
+        raise Unknown(f"the array {field.name} in a struct")
+    return f"it->{field.name}"
+
+
+def turn(field):
+    return f"{single(field)} = TURNED{8 * field.octets()}({single(field)});"
 
 
 def copy_in(field, at):
     if field.is_address():
-        return f"hold(to + {at}, ADDRESS(it->{field.name}));"
-    return f"to[{at}] = it->{field.name};" if field.octets() == 1 else f"store{8 * field.octets()}(to + {at}, it->{field.name});"
+        return f"hold(to + {at}, ADDRESS({single(field)}));"
+    if field.octets() == 1:
+        return f"to[{at}] = {single(field)};"
+    return f"store{8 * field.octets()}(to + {at}, {single(field)});"
 
 
 def copy_out(field, at):
     if field.is_address():
-        return f"it->{field.name} = AT(held(to + {at}));"
-    return f"it->{field.name} = to[{at}];" if field.octets() == 1 else f"it->{field.name} = load{8 * field.octets()}(to + {at});"
+        return f"{single(field)} = AT(held(to + {at}));"
+    if field.octets() == 1:
+        return f"{single(field)} = to[{at}];"
+    return f"{single(field)} = load{8 * field.octets()}(to + {at});"
+
+
+class Call:
+    """One call of the header: what is done before the module's, what that is passed, and what is done after it."""
+
+    def __init__(self, header, name, parameters):
+        self.header, self.name = header, name
+        self.before, self.passed, self.after = [], [], []
+        rest = list(parameters)
+        while rest:
+            it = rest.pop(0)
+            length = rest[0].name if rest and rest[0].name == f"{it.name}_length" else None
+            if it.to() == f"const {NUMBERS}" and length:
+                rest.pop(0)
+                self.before.append(f"NUMBERS_IN({it.name})")
+                self.passed += [f"NUMBERS({it.name})", f"NUMBERS_COUNT({it.name})"]
+            else:
+                self.take(it, length)
+
+    def take(self, it, length):
+        struct = it.to()
+        if struct is None:
+            self.passed.append(it.name)
+        elif struct in ("uint8_t", "const uint8_t", "char"):
+            self.passed.append(f"ADDRESS({it.name})")
+        elif struct == NUMBERS:
+            self.turn(it.name, "uint64_t", f"(uint64_t *)(void *){it.name}", length)
+        elif struct == "uint64_t" or struct in self.header.structs and not self.header.is_copied(struct):
+            self.turn(it.name, struct, it.name, length)
+        elif struct in self.header.structs and not length:
+            self.before.append(f"COPY_IN({struct}, {it.name})")
+            self.passed.append(f"COPY({it.name})")
+            self.after.append(f"COPY_OUT({struct}, {it.name});")
+        else:
+            raise Unknown(f"{self.name}: the parameter {it.kind}{it.name}")
+
+    def turn(self, name, kind, array, length):
+        self.before.append(f"TURN({kind}, {array}, {length or 1});")
+        self.after.append(self.before[-1])
+        self.passed.append(f"ADDRESS({name})")
 
 
 def call_lines(header, module, kind, name, parameters):
-    """One call of the header."""
     if name not in module.heads:
         raise Unknown(f"the module has no {name}")
-    before, passed, after, skipped = [], [], [], None
-    for number, it in enumerate(parameters):
-        following = parameters[number + 1].name if number + 1 < len(parameters) else None
-        if it.name == skipped:
-            continue
-        struct = it.to()
-        if struct == f"const {NUMBERS}":
-            before.append(f"NUMBERS_IN({it.name})")
-            passed += [f"NUMBERS({it.name})", f"NUMBERS_COUNT({it.name})"]
-            skipped = following
-        elif struct in header.structs and struct != NUMBERS and header.is_copied(struct):
-            if following == f"{it.name}_length" or "const" in it.kind:
-                raise Unknown(f"{name}: an array of {struct}")
-            before.append(f"COPY_IN({struct}, {it.name})")
-            passed.append(f"COPY({it.name})")
-            after.append(f"COPY_OUT({struct}, {it.name});")
-        elif struct is None or struct in ("uint8_t", "const uint8_t", "char"):
-            passed.append(it.name if struct is None else f"ADDRESS({it.name})")
-        else:
-            count = f"{it.name}_length" if following == f"{it.name}_length" else "1"
-            if struct == NUMBERS:
-                before.append(f"TURN(uint64_t, (uint64_t *)(void *){it.name}, {count});")
-            elif struct == "uint64_t" or struct in header.structs:
-                before.append(f"TURN({struct}, {it.name}, {count});")
-            else:
-                raise Unknown(f"{name}: {it.kind}{it.name}")
-            after.append(before[-1])
-            passed.append(f"ADDRESS({it.name})")
+    call = Call(header, name, parameters)
     text = ", ".join(f"{it.kind}{it.name}" for it in parameters) or "void"
-    called = f"{module.heads[name].c_name}({', '.join(passed)})"
-    made, give = [f"{called};"], []
+    made, give = [f"{module.heads[name].c_name}({', '.join(call.passed)});"], []
     if kind != "void":
-        made, give = [f"{kind} made_of_it = ({kind}){called};"], ["return made_of_it;"]
-    return [f"{kind} ({name})({text}) {{", *(f"    {it}" for it in [*before, *made, *after, *give]), "}"]
+        made, give = [f"{kind} made_of_it = ({kind}){made[0]}"], ["return made_of_it;"]
+    lines = [*call.before, *made, *call.after, *give]
+    return [f"{kind} ({name})({text}) {{", *(f"    {it}" for it in lines), "}"]
 
 
 def exported(module, header):
@@ -156,9 +189,16 @@ def exported(module, header):
 
 
 def main_lines(module):
-    """The program's main under the name by which that of platform/ calls it. The module's takes the number of words and their address,
-    or nothing."""
+    """The program's main under the name by which that of platform/ calls it. The module's takes the number of words and
+    their address, or nothing."""
+    if "main" not in module.heads:
+        raise Unknown("the module has no main")
     main = module.heads["main"]
-    given = ["(uint32_t)count", "ADDRESS(words)"][:len(main.parameters)]
-    return ["int tmchan_main(int count, char **words) {", "    (void)count, (void)words;",
-            f"    return (int){main.c_name}({', '.join(given)});", "}", ""]
+    given = ["(uint32_t)count", "ADDRESS(words)"][: len(main.parameters)]
+    return [
+        "int tmchan_main(int count, char **words) {",
+        "    (void)count, (void)words;",
+        f"    return (int){main.c_name}({', '.join(given)});",
+        "}",
+        "",
+    ]

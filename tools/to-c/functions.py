@@ -6,23 +6,27 @@ from dataclasses import dataclass
 import constants
 from blocks import blocks_of, copied_at_once, ordered, phis_of
 from llvm_text import NAME, AddressNumber, Items, Line, Local, Number, Poison, Real, Zero
-from llvm_types import (BIT, Double, Int, Pointer, Struct, Unknown, Vector, c_type, lanes_of_part, part_count, width)
+from llvm_types import BIT, Double, Int, Pointer, Struct, Unknown, Vector, c_type, lanes_of_part, part_count, width
 
 INSTRUCTIONS = {}
 
 
 def instruction(*words):
-    """Marks what writes these instructions: it is passed the function, the name of the result (or None), the line and the word."""
+    """Marks what writes these instructions: it is passed the function, the name of the result (or None), the line and
+    the word."""
+
     def keep(write):
         INSTRUCTIONS.update((word, write) for word in words)
         return write
+
     return keep
 
 
 @dataclass
 class Kept:
-    """What keeps a value: a variable, or of a vector one for each part. Of a mask, lane_bits is the width that its lanes have,
+    """What keeps a value: a variable, or of a vector one for each part. Of a mask, lane_bits is the width of its lanes,
     all of whose bits are equal."""
+
     kind: object
     names: list
     lane_bits: int
@@ -122,7 +126,7 @@ class Function:
         if isinstance(value, (Zero, Poison)):
             return [f"v{lane_bits}_zero()"] * count
         numbers = [self.lane(kind, it, lane_bits) for it in value.values] + [0] * (lanes * count - kind.count)
-        pieces = [numbers[k * lanes:(k + 1) * lanes] for k in range(count)]
+        pieces = [numbers[k * lanes : (k + 1) * lanes] for k in range(count)]
         return [f"v{lane_bits}_of({', '.join(number_text(it, lane_bits) for it in piece)})" for piece in pieces]
 
     @staticmethod
@@ -139,9 +143,11 @@ class Function:
     def widened(self, parts, have, want, count):
         """A mask with lanes of another width."""
         while have < want:
-            parts = [f"v{2 * have}_from_v{have}(v{have}_{half}({it}, {it}))" for it in parts for half in ("low", "high")]
+            parts = [
+                f"v{2 * have}_from_v{have}(v{have}_{half}({it}, {it}))" for it in parts for half in ("low", "high")
+            ]
             have *= 2
-            parts = parts[:part_count(Vector(count, Int(have)), have)]
+            parts = parts[: part_count(Vector(count, Int(have)), have)]
         while have > want:
             parts = narrowed(parts, have)
             have //= 2
@@ -182,8 +188,8 @@ class Function:
         return [f"/* {self.head.name.strip(chr(34))} */", begin, *variables, *code, *end, ""]
 
     def ends(self, is_twice):
-        """What stands before the body and after it. One that is compiled twice, for processors with and without the byte shuffle,
-        is placed in two functions, one of which is chosen at run time where that isn't known before."""
+        """What stands before the body and after it. One that moves lanes about is compiled twice on x86-64 without
+        -march, and is chosen by the processor at each call (portable_vectors.h)."""
         if not is_twice:
             return head_text(self.head) + " {", ["}"]
         kind, name, parameters = c_type(self.head.result), self.head.c_name, parameters_text(self.head)
@@ -221,7 +227,7 @@ class Function:
         if re.match(rf"%{NAME} = phi ", text):
             return
         result = re.match(rf"%({NAME}) = ", text)
-        line = Line(text[result.end():] if result else text)
+        line = Line(text[result.end() :] if result else text)
         try:
             line.attributes()
             word = line.word()

@@ -3,12 +3,51 @@ import intrinsics
 import vectors
 from functions import instruction
 from llvm_text import Global, Local, Number, Poison
-from llvm_types import (BIT, DOUBLE, POINTER, VOID, Array, Double, Int, Pointer, Struct, Unknown, Vector, c_type, size, width)
+from llvm_types import (
+    BIT,
+    DOUBLE,
+    POINTER,
+    VOID,
+    Array,
+    Double,
+    Int,
+    Pointer,
+    Struct,
+    Unknown,
+    Vector,
+    c_type,
+    size,
+    width,
+)
 
-OPERATORS = {"add": "+", "sub": "-", "mul": "*", "and": "&", "or": "|", "xor": "^", "udiv": "/", "urem": "%", "shl": "<<",
-             "lshr": ">>", "sdiv": "/", "srem": "%", "ashr": ">>"}
+OPERATORS = {
+    "add": "+",
+    "sub": "-",
+    "mul": "*",
+    "and": "&",
+    "or": "|",
+    "xor": "^",
+    "udiv": "/",
+    "urem": "%",
+    "shl": "<<",
+    "lshr": ">>",
+    "sdiv": "/",
+    "srem": "%",
+    "ashr": ">>",
+}
 REAL_OPERATORS = {"fadd": "real_add", "fsub": "real_sub", "fmul": "real_mul", "fdiv": "real_div"}
-COMPARISONS = {"eq": "==", "ne": "!=", "ugt": ">", "uge": ">=", "ult": "<", "ule": "<=", "sgt": ">", "sge": ">=", "slt": "<", "sle": "<="}
+COMPARISONS = {
+    "eq": "==",
+    "ne": "!=",
+    "ugt": ">",
+    "uge": ">=",
+    "ult": "<",
+    "ule": "<=",
+    "sgt": ">",
+    "sge": ">=",
+    "slt": "<",
+    "sle": "<=",
+}
 # Comparisons of doubles; those after "not " are false where both are numbers and the opposite holds.
 REAL_COMPARISONS = {"oeq": "==", "ogt": ">", "oge": ">=", "olt": "<", "ole": "<=", "une": "!="}
 REAL_OPPOSITES = {"ult": ">=", "ule": ">", "ugt": "<=", "uge": "<"}
@@ -50,7 +89,13 @@ def binary(function, name, line, word):
     if word in ("mul", "shl") and kind.bits < 32:
         x = f"(uint32_t){x}"  # C's int would overflow
     expression = f"{x} {OPERATORS[word]} {y}"
-    function.set(name, kind, expression if word in ("and", "or", "xor", "udiv", "urem", "lshr") and kind.bits > 16 else cut(kind, expression))
+    function.set(
+        name,
+        kind,
+        expression
+        if word in ("and", "or", "xor", "udiv", "urem", "lshr") and kind.bits > 16
+        else cut(kind, expression),
+    )
 
 
 @instruction(*REAL_OPERATORS)
@@ -141,6 +186,7 @@ def freeze(function, name, line, _):
 
 # Structs in variables
 
+
 @instruction("extractvalue")
 def field_read(function, name, line, _):
     kind, value = line.typed()
@@ -162,6 +208,7 @@ def field_written(function, name, line, _):
 
 
 # Memory
+
 
 @instruction("alloca")
 def room(function, name, line, _):
@@ -257,6 +304,7 @@ def offset(function, name, line, _):
 
 # Threads: every access is sequentially consistent, and of 64 bits.
 
+
 def ordering(line, kind):
     line.need("seq_cst")
     if kind != Int(64):
@@ -297,6 +345,7 @@ def atomic_exchange(function, name, line, _):
 
 
 # Jumps and calls
+
 
 @instruction("br")
 def branch(function, _, line, __):
@@ -354,7 +403,7 @@ def call(function, name, line, _):
     line.need("(")
     given = line.several(")", lambda: argument(line))
     if isinstance(callee, Global) and callee.name.startswith("llvm."):
-        line.match(r"\s*#\d+ \[.*\]$")
+        line.match(r"(?:#\d+ )?\[.*\]$")
         return intrinsics.call(function, name, callee.name, result, given)
     if isinstance(callee, Local):
         kinds = ", ".join(c_type(kind) for kind, _ in given) or "void"

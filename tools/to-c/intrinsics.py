@@ -4,7 +4,7 @@ from llvm_types import BIT, Int, Struct, Unknown, Vector, lanes_of_part, width
 
 NOTHING = ("llvm.lifetime.", "llvm.assume", "llvm.experimental.noalias.scope.decl")
 VECTOR = ("umin", "umax")
-NUMBER = ("umin", "umax", "smin", "smax", "ctpop", "cttz", "ctlz", "bswap", "fshl", "fshr", "abs", "uadd.sat", "usub.sat")
+NUMBER = tuple("umin umax smin smax ctpop cttz ctlz bswap fshl fshr abs uadd.sat usub.sat".split())
 OF_TWO = ("uadd.with.overflow", "usub.with.overflow", "umul.with.overflow")
 FLAGGED = ("cttz", "ctlz", "abs")  # their second argument says what is poison
 
@@ -38,7 +38,9 @@ def over_vectors(function, name, word, result, given):
     if word not in VECTOR or result.lane == BIT:
         raise Unknown(f"{word} of vectors")
     lists = [function.parts(*it) for it in given]
-    function.set_parts(name, result, [f"v{result.lane.bits}_{word}({', '.join(it)})" for it in zip(*lists, strict=True)])
+    function.set_parts(
+        name, result, [f"v{result.lane.bits}_{word}({', '.join(it)})" for it in zip(*lists, strict=True)]
+    )
 
 
 def numbers(function, name, word, result, given):

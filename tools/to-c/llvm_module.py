@@ -6,10 +6,13 @@ from llvm_text import NAME, Line
 from llvm_types import Unknown
 
 # What the headers give of C, by the names that the module calls.
-OUTSIDE = frozenset("""
-    rattle_alloc rattle_realloc rattle_dealloc rattle_arg rattle_errno rattle_set_errno read write __write _exit abort malloc free
-    __sysv_signal __x86_get_cpuid_feature_leaf pthread_attr_init pthread_attr_destroy pthread_attr_setguardsize pthread_create
-    pthread_join pthread_detach pthread_self""".split())
+OUTSIDE = frozenset(
+    """
+    rattle_alloc rattle_realloc rattle_dealloc malloc free
+    rattle_arg rattle_errno rattle_set_errno read write __write _exit abort __sysv_signal __x86_get_cpuid_feature_leaf
+    pthread_attr_init pthread_attr_destroy pthread_attr_setguardsize pthread_create pthread_join pthread_detach
+    pthread_self""".split()
+)
 
 
 @dataclass
@@ -23,6 +26,7 @@ class Variable:
 @dataclass
 class Head:
     """A function without its body. Of parameters without a name the name is None."""
+
     name: str
     c_name: str
     result: object
@@ -46,7 +50,9 @@ class Module:
                     self.read_variable(line)
                 elif line.startswith("define "):
                     self.read_function(line, lines)
-                elif line and not line.startswith((";", "!", "}", "declare ", "attributes ", "target ", "source_filename ")):
+                elif line and not line.startswith(
+                    (";", "!", "}", "declare ", "attributes ", "target ", "source_filename ")
+                ):
                     raise Unknown("such a line")
             except Unknown as what:
                 raise Unknown(f"line {number}: {line[:200]}\n  {what}") from what
@@ -56,13 +62,13 @@ class Module:
         found = re.match(rf"@({NAME}) = (?:private|internal) (?:unnamed_addr )?(global|constant) ", text)
         if not found:
             raise Unknown("such a variable")
-        line = Line(text[found.end():])
+        line = Line(text[found.end() :])
         kind = line.type()
         self.variables[found[1]] = Variable(f"g{len(self.variables)}", found[2] == "constant", kind, line.value(kind))
         line.end()
 
     def read_function(self, text, lines):
-        line = Line(text[len("define "):])
+        line = Line(text[len("define ") :])
         line.attributes()
         result = line.type()
         name = line.need_match(rf"@({NAME})")[1]

@@ -2,17 +2,19 @@
 import re
 from dataclasses import dataclass
 
-from llvm_types import (DOUBLE, POINTER, VOID, Array, Double, Int, Metadata, Struct, Unknown, Vector)
+from llvm_types import DOUBLE, POINTER, VOID, Array, Double, Int, Metadata, Struct, Unknown, Vector
 
 NAME = r'(?:"[^"]*"|[-A-Za-z$._0-9]+)'
 
 # What LLVM may assume of a value or an operation. C is told nothing of it: sums may wrap, and so on.
 ATTRIBUTES = re.compile(
-    r"\s*(?:(?:noundef|nonnull|noalias|nocapture|readonly|writeonly|readnone|signext|zeroext|inreg|returned|immarg|nofree|nuw|nsw"
-    r"|exact|disjoint|nneg|samesign|inbounds|nusw|unnamed_addr|local_unnamed_addr|dso_local|internal|private|hidden|writable"
-    r"|dead_on_unwind|tail|musttail|notail|fastcc|ccc|coldcc)\b(?![.(])"
-    r"|(?:range|captures|dereferenceable|dereferenceable_or_null|initializes|dead_on_return)\([^()]*(?:\([^()]*\)[^()]*)*\)"
-    r"|align \d+)")
+    r"\s*(?:(?:noundef|nonnull|noalias|nocapture|readonly|writeonly|readnone|signext|zeroext|inreg|returned|immarg"
+    r"|nofree|nuw|nsw|exact|disjoint|nneg|samesign|inbounds|nusw|unnamed_addr|local_unnamed_addr|dso_local|internal|private"
+    r"|hidden|writable|dead_on_unwind|tail|musttail|notail|fastcc|ccc|coldcc)\b(?![.(])"
+    r"|(?:range|captures|dereferenceable|dereferenceable_or_null|initializes|dead_on_return)"
+    r"\([^()]*(?:\([^()]*\)[^()]*)*\)"
+    r"|align \d+)"
+)
 TOKENS = {}
 
 
@@ -60,12 +62,14 @@ class Octets:
 @dataclass(frozen=True)
 class Items:
     """The members of an array, a vector or a struct."""
+
     values: tuple
 
 
 @dataclass(frozen=True)
 class Offset:
     """A constant address, so many octets after another one."""
+
     base: object
     octets: int
 
@@ -73,6 +77,7 @@ class Offset:
 @dataclass(frozen=True)
 class AddressNumber:
     """A constant address as a number."""
+
     address: object
 
 
@@ -106,7 +111,7 @@ class Line:
         return Unknown(f"{what} at {self.text[self.at:self.at + 60]!r}")
 
     def is_at_end(self):
-        return not self.text[self.at:].strip()
+        return not self.text[self.at :].strip()
 
     def end(self):
         """Nothing follows but alignments and metadata."""
@@ -186,8 +191,14 @@ class Line:
             found = self.match(text)
             if found:
                 return make(found[1])
-        for text, value in (("true", Number(1)), ("false", Number(0)), ("null", Number(0)), ("zeroinitializer", Zero()),
-                            ("poison", Poison()), ("undef", Poison())):
+        for text, value in (
+            ("true", Number(1)),
+            ("false", Number(0)),
+            ("null", Number(0)),
+            ("zeroinitializer", Zero()),
+            ("poison", Poison()),
+            ("undef", Poison()),
+        ):
             if self.match(rf"{text}\b"):
                 return value
         if isinstance(kind, Double):
@@ -209,8 +220,10 @@ class Line:
         return self.expression()
 
     def octets(self, text, kind):
-        found = bytes(int(it[1:], 16) if len(it) == 3 else ord(it[0])
-                      for it in re.findall(r"\\\\|\\[0-9A-Fa-f]{2}|.", text, re.DOTALL))
+        found = bytes(
+            int(it[1:], 16) if len(it) == 3 else ord(it[0])
+            for it in re.findall(r"\\\\|\\[0-9A-Fa-f]{2}|.", text, re.DOTALL)
+        )
         if len(found) != kind.count:
             raise self.unknown(f"{len(found)} octets where {kind.count} belong")
         return Octets(found)

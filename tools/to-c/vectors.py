@@ -1,5 +1,5 @@
-"""Instructions over vectors, in parts of 16 octets. A mask, a vector of bits, has lanes as wide as those that were compared, all of
-whose bits are equal."""
+"""Instructions over vectors, in parts of 16 octets. A mask, a vector of bits, has lanes as wide as those that were
+compared, all of whose bits are equal."""
 from functions import instruction, narrowed
 from llvm_text import Items, Local, Number, Poison, Zero
 from llvm_types import BIT, Int, Unknown, Vector, c_type, lanes_of_part, part_count, width
@@ -23,7 +23,9 @@ def binary(function, name, word, kind, a, b):
         if word not in ("and", "or", "xor"):
             raise Unknown(f"{word} of masks")
         bits = function.mask_bits(a, b)
-        return each(function, name, kind, word, function.parts(kind, a, bits), function.parts(kind, b, bits), lane_bits=bits)
+        return each(
+            function, name, kind, word, function.parts(kind, a, bits), function.parts(kind, b, bits), lane_bits=bits
+        )
     x = function.parts(kind, a)
     if word in BINARY:
         return each(function, name, kind, word, x, function.parts(kind, b))
@@ -39,7 +41,15 @@ def binary(function, name, word, kind, a, b):
 def comparison(function, name, word, kind, a, b):
     if is_mask(kind):
         raise Unknown("a comparison of masks")
-    each(function, name, Vector(kind.count, BIT), word, function.parts(kind, a), function.parts(kind, b), lane_bits=kind.lane.bits)
+    each(
+        function,
+        name,
+        Vector(kind.count, BIT),
+        word,
+        function.parts(kind, a),
+        function.parts(kind, b),
+        lane_bits=kind.lane.bits,
+    )
 
 
 def same(function, name, kind, value):
@@ -60,6 +70,7 @@ def selection(function, name, condition, kind, a, b):
 
 # Memory
 
+
 def pieces(kind, at):
     """Of each part: its address, and how many octets it has in memory where they aren't 16."""
     lanes = lanes_of_part(kind.lane.bits)
@@ -72,20 +83,33 @@ def load(function, name, kind, at):
     if is_mask(kind):
         raise Unknown("a load of a mask")
     bits = kind.lane.bits
-    function.set_parts(name, kind, [f"v{bits}_load({it})" if octets == 16 else f"v{bits}_load_some({it}, {octets})"
-                                    for it, octets in pieces(kind, at)])
+    function.set_parts(
+        name,
+        kind,
+        [
+            f"v{bits}_load({it})" if octets == 16 else f"v{bits}_load_some({it}, {octets})"
+            for it, octets in pieces(kind, at)
+        ],
+    )
 
 
 def store(function, kind, value, at):
     if is_mask(kind):
         bits = bits_of_mask(function, kind, value)
-        return function.say(f"*{at} = (uint8_t)({bits});" if kind.count == 8 else f"store{kind.count}({at}, (uint{kind.count}_t)({bits}));")
+        return function.say(
+            f"*{at} = (uint8_t)({bits});"
+            if kind.count == 8
+            else f"store{kind.count}({at}, (uint{kind.count}_t)({bits}));"
+        )
     bits = kind.lane.bits
     for part, (it, octets) in zip(function.parts(kind, value), pieces(kind, at), strict=True):
-        function.say(f"v{bits}_store({it}, {part});" if octets == 16 else f"v{bits}_store_some({it}, {part}, {octets});")
+        function.say(
+            f"v{bits}_store({it}, {part});" if octets == 16 else f"v{bits}_store_some({it}, {part}, {octets});"
+        )
 
 
 # Conversions
+
 
 def bits_of_mask(function, kind, value):
     """A number with a bit for each lane, lane 0 the lowest."""
@@ -119,9 +143,13 @@ def conversion(function, name, word, kind, value, to):
     if word not in ("sext", "zext"):
         raise Unknown(f"{word} from {kind} to {to}")
     while have < want:
-        parts = [f"v{2 * have}_from_v{have}(v{have}_{half}({it}, {above(word, have, it)}))" for it in parts for half in ("low", "high")]
+        parts = [
+            f"v{2 * have}_from_v{have}(v{have}_{half}({it}, {above(word, have, it)}))"
+            for it in parts
+            for half in ("low", "high")
+        ]
         have *= 2
-        parts = parts[:part_count(Vector(kind.count, Int(have)), have)]
+        parts = parts[: part_count(Vector(kind.count, Int(have)), have)]
     function.set_parts(name, to, parts)
 
 
@@ -132,7 +160,9 @@ def above(word, bits, part):
 
 def bitcast(function, name, kind, value, to):
     if isinstance(to, Vector) and not is_mask(kind) and not is_mask(to):
-        return function.set_parts(name, to, [f"v{to.lane.bits}_from_v{kind.lane.bits}({it})" for it in function.parts(kind, value)])
+        return function.set_parts(
+            name, to, [f"v{to.lane.bits}_from_v{kind.lane.bits}({it})" for it in function.parts(kind, value)]
+        )
     if not isinstance(to, Int):
         raise Unknown(f"bitcast from {kind} to {to}")
     if is_mask(kind):
@@ -146,6 +176,7 @@ def bitcast(function, name, kind, value, to):
 
 
 # Lanes
+
 
 @instruction("extractelement")
 def lane_read(function, name, line, _):
@@ -193,10 +224,14 @@ def shuffle(function, name, line, _):
     bits = function.mask_bits(a, b) if is_mask(kind) else kind.lane.bits
     lanes = lanes_of_part(bits)
     sources = [*lanes_with_parts(function, kind, a, bits), *lanes_with_parts(function, kind, b, bits)]
-    picks = [0] * to.count if isinstance(order, (Zero, Poison)) else [it.value if isinstance(it, Number) else None for it in order.values]
+    picks = (
+        [0] * to.count
+        if isinstance(order, (Zero, Poison))
+        else [it.value if isinstance(it, Number) else None for it in order.values]
+    )
     picks += [None] * (part_count(to, bits) * lanes - to.count)
     chosen = [None if it is None else sources[it] for it in picks]
-    function.set_parts(name, to, [shuffled(chosen[k:k + lanes], bits) for k in range(0, len(chosen), lanes)], bits)
+    function.set_parts(name, to, [shuffled(chosen[k : k + lanes], bits) for k in range(0, len(chosen), lanes)], bits)
 
 
 def lanes_with_parts(function, kind, value, bits):

@@ -31,8 +31,8 @@ int main(void) {
     int64_t count = plains_turned(plains, 3);
     printf("%" PRId64 " %" PRIx32 "\n", count, version());
     for (int k = 0; k < 3; k++) {
-        printf("%" PRIx64 " %" PRIx32 " %" PRIx32 " %u %u\n", plains[k].place, plains[k].one, plains[k].two, plains[k].octets[3],
-               plains[k].octets[7]);
+        plain it = plains[k];
+        printf("%" PRIx64 " %" PRIx32 " %" PRIx32 " %u %u\n", it.place, it.one, it.two, it.octets[3], it.octets[7]);
     }
     return 0;
 }
