@@ -1,8 +1,9 @@
-/* What C that tools/to-c made of a module of LLVM needs: memory as little-endian octets, addresses, numbers, vectors.
+/* What C that tools/to-c made of a module of LLVM needs: memory as little-endian octets, addresses, numbers,
+ * vectors.
  *
- * It takes C11 with integers of 8 to 64 bits in two's complement, and right shifts of negative numbers that keep the sign. Of
- * alignment, the order of octets and the size of pointers, 32 or 64 bits, it assumes nothing. With gcc and clang it is faster by what
- * only GNU C has; a big-endian processor needs these. Macros that choose, all optional:
+ * It takes C11 with integers of 8 to 64 bits in two's complement, and right shifts of negative numbers that keep the
+ * sign. Of alignment, the order of octets and the size of pointers, 32 or 64 bits, it assumes nothing. With gcc and
+ * clang it is faster by what only GNU C has; a big-endian processor needs these. Macros that choose, all optional:
  *
  * PORTABLE_NO_THREADS   a program starts no threads (portable_program.h)
  * PORTABLE_NO_SHUFFLE   x86-64 without -march is never asked for SSE4.1 (portable_vectors.h)
@@ -55,8 +56,8 @@
 #define ROOM(n) union { uint64_t alignment; uint8_t octets[n]; }
 #endif
 
-/* An address of the module. It has 64 bits in memory, and any eight octets that are moved may pass through one; so where C's pointer
- * has fewer, it is a number. AT is C's address, ADDRESS the module's. */
+/* An address of the module. It has 64 bits in memory, and any eight octets that are moved may pass through one; so
+ * where C's pointer has fewer, it is a number. AT is C's address, ADDRESS the module's. */
 #if UINTPTR_MAX > 0xffffffffu
 typedef uint8_t *address;
 typedef ptrdiff_t offset;
@@ -85,15 +86,15 @@ typedef int64_t offset;
 #define TURNED64(x) (x)
 #endif
 
-#define MEMORY(n)                                                                                                                      \
-    INLINE uint##n##_t load##n(const void *at) {                                                                                       \
-        uint##n##_t x;                                                                                                                 \
-        memcpy(&x, at, n / 8);                                                                                                         \
-        return TURNED##n(x);                                                                                                           \
-    }                                                                                                                                  \
-    INLINE void store##n(void *at, uint##n##_t x) {                                                                                    \
-        x = TURNED##n(x);                                                                                                              \
-        memcpy(at, &x, n / 8);                                                                                                         \
+#define MEMORY(n)                                                                                                      \
+    INLINE uint##n##_t load##n(const void *at) {                                                                       \
+        uint##n##_t x;                                                                                                 \
+        memcpy(&x, at, n / 8);                                                                                         \
+        return TURNED##n(x);                                                                                           \
+    }                                                                                                                  \
+    INLINE void store##n(void *at, uint##n##_t x) {                                                                    \
+        x = TURNED##n(x);                                                                                              \
+        memcpy(at, &x, n / 8);                                                                                         \
     }
 MEMORY(16)
 MEMORY(32)
@@ -109,7 +110,8 @@ INLINE void store_octets(uint8_t *at, uint64_t x, int n) {
     for (int k = 0; k < n; k++) at[k] = (uint8_t)(x >> 8 * k);
 }
 
-/* Addresses stand in memory as numbers do. Those of constants stand as C has them until they are turned as the program is loaded. */
+/* Addresses stand in memory as numbers do. Those of constants stand as C has them until they are turned as the
+ * program is loaded. */
 typedef union {
     const void *at;
     void (*call)(void);

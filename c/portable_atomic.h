@@ -1,5 +1,5 @@
-/* Numbers of 64 bits that threads share: each access is sequentially consistent. Where the processor has no such access, one lock is
- * taken for each (a program with threads), or there are no threads (else). */
+/* Numbers of 64 bits that threads share: each access is sequentially consistent. Where the processor has no such
+ * access, one lock is taken for each (a program with threads), or there are no threads (else). */
 #ifndef PORTABLE_ATOMIC_H
 #define PORTABLE_ATOMIC_H
 
@@ -10,7 +10,9 @@ typedef uint64_t aligned64 __attribute__((aligned(8)));
 
 INLINE uint64_t atomic_load(void *at) { return TURNED64(__atomic_load_n(SHARED(at), __ATOMIC_SEQ_CST)); }
 INLINE void atomic_store(void *at, uint64_t x) { __atomic_store_n(SHARED(at), TURNED64(x), __ATOMIC_SEQ_CST); }
-INLINE uint64_t atomic_xchg(void *at, uint64_t x) { return TURNED64(__atomic_exchange_n(SHARED(at), TURNED64(x), __ATOMIC_SEQ_CST)); }
+INLINE uint64_t atomic_xchg(void *at, uint64_t x) {
+    return TURNED64(__atomic_exchange_n(SHARED(at), TURNED64(x), __ATOMIC_SEQ_CST));
+}
 
 INLINE uint8_t atomic_compare_exchange(void *at, uint64_t *expected, uint64_t x) {
     uint64_t found = TURNED64(*expected);

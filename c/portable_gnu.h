@@ -1,4 +1,5 @@
-/* Vectors by those of GNU C (gcc, clang), on little-endian processors; a few calls are faster by x86-64's or ARM's own. */
+/* Vectors by those of GNU C (gcc, clang), on little-endian processors; a few calls are faster by x86-64's or ARM's
+ * own. */
 #ifndef PORTABLE_GNU_H
 #define PORTABLE_GNU_H
 
@@ -12,55 +13,63 @@
 #include <arm_neon.h>
 #endif
 
-/* How a vector is passed to a function, which differs by options, doesn't matter: these are all placed where they are called. */
+/* How a vector is passed to a function, which differs by options, doesn't matter: these are all placed where they
+ * are called. */
 #pragma GCC diagnostic ignored "-Wpsabi"
 
-#define COMPARISON(w, name, type, operator)                                                                                            \
-    INLINE v##w v##w##_##name(v##w a, v##w b) { return (v##w)((type##w)a operator(type##w) b); }
-#define VECTORS(w)                                                                                                                     \
-    typedef uint##w##_t v##w __attribute__((vector_size(16)));                                                                         \
-    typedef int##w##_t signed_v##w __attribute__((vector_size(16)));                                                                   \
-    INLINE v##w v##w##_zero(void) { return (v##w){0}; }                                                                                \
-    INLINE v##w v##w##_all(uint##w##_t x) { return x - (v##w){0}; }                                                                    \
-    INLINE v##w v##w##_add(v##w a, v##w b) { return a + b; }                                                                           \
-    INLINE v##w v##w##_sub(v##w a, v##w b) { return a - b; }                                                                           \
-    INLINE v##w v##w##_mul(v##w a, v##w b) { return a * b; }                                                                           \
-    INLINE v##w v##w##_and(v##w a, v##w b) { return a & b; }                                                                           \
-    INLINE v##w v##w##_or(v##w a, v##w b) { return a | b; }                                                                            \
-    INLINE v##w v##w##_xor(v##w a, v##w b) { return a ^ b; }                                                                           \
-    INLINE v##w v##w##_shl(v##w a, int n) { return a << n; }                                                                           \
-    INLINE v##w v##w##_lshr(v##w a, int n) { return a >> n; }                                                                          \
-    INLINE v##w v##w##_ashr(v##w a, int n) { return (v##w)((signed_v##w)a >> n); }                                                     \
-    INLINE v##w v##w##_shl_each(v##w a, v##w b) { return a << b; }                                                                     \
-    INLINE v##w v##w##_lshr_each(v##w a, v##w b) { return a >> b; }                                                                    \
-    COMPARISON(w, eq, v, ==)                                                                                                           \
-    COMPARISON(w, ne, v, !=)                                                                                                           \
-    INLINE v##w v##w##_umin(v##w a, v##w b) { return least##w(a, b); }                                                                 \
-    INLINE v##w v##w##_umax(v##w a, v##w b) { return most##w(a, b); }                                                                  \
-    INLINE v##w v##w##_ule(v##w a, v##w b) { return (v##w)(v##w##_umin(a, b) == a); }                                                  \
-    INLINE v##w v##w##_uge(v##w a, v##w b) { return (v##w)(v##w##_umax(a, b) == a); }                                                  \
-    INLINE v##w v##w##_ult(v##w a, v##w b) { return ~(v##w)(v##w##_umin(a, b) == b); }                                                 \
-    INLINE v##w v##w##_ugt(v##w a, v##w b) { return ~(v##w)(v##w##_umax(a, b) == b); }                                                 \
-    COMPARISON(w, slt, signed_v, <)                                                                                                    \
-    COMPARISON(w, sgt, signed_v, >)                                                                                                    \
-    COMPARISON(w, sle, signed_v, <=)                                                                                                   \
-    COMPARISON(w, sge, signed_v, >=)                                                                                                   \
-    INLINE v##w v##w##_choose(v##w mask, v##w a, v##w b) { return (mask & a) | (~mask & b); }                                          \
-    INLINE v##w v##w##_load(const void *at) {                                                                                          \
-        v##w x;                                                                                                                        \
-        memcpy(&x, at, 16);                                                                                                            \
-        return x;                                                                                                                      \
-    }                                                                                                                                  \
-    INLINE void v##w##_store(void *at, v##w x) { memcpy(at, &x, 16); }                                                                 \
-    INLINE v##w v##w##_load_some(const void *at, size_t octets) {                                                                      \
-        v##w x = {0};                                                                                                                  \
-        memcpy(&x, at, octets);                                                                                                        \
-        return x;                                                                                                                      \
-    }                                                                                                                                  \
-    INLINE void v##w##_store_some(void *at, v##w x, size_t octets) { memcpy(at, &x, octets); }                                         \
-    INLINE v##w v##w##_set(v##w x, int lane, uint##w##_t item) {                                                                       \
-        x[lane] = item;                                                                                                                \
-        return x;                                                                                                                      \
+/* On a processor without vectors placing all calls takes the compiler minutes. */
+#if defined(__SSE2__) || defined(__ARM_NEON)
+#define VECTOR INLINE
+#else
+#define VECTOR static __attribute__((noinline, unused))
+#endif
+
+#define COMPARISON(w, name, type, operator)                                                                            \
+    VECTOR v##w v##w##_##name(v##w a, v##w b) { return (v##w)((type##w)a operator(type##w) b); }
+#define VECTORS(w)                                                                                                     \
+    typedef uint##w##_t v##w __attribute__((vector_size(16)));                                                         \
+    typedef int##w##_t signed_v##w __attribute__((vector_size(16)));                                                   \
+    VECTOR v##w v##w##_zero(void) { return (v##w){0}; }                                                                \
+    VECTOR v##w v##w##_all(uint##w##_t x) { return x - (v##w){0}; }                                                    \
+    VECTOR v##w v##w##_add(v##w a, v##w b) { return a + b; }                                                           \
+    VECTOR v##w v##w##_sub(v##w a, v##w b) { return a - b; }                                                           \
+    VECTOR v##w v##w##_mul(v##w a, v##w b) { return a * b; }                                                           \
+    VECTOR v##w v##w##_and(v##w a, v##w b) { return a & b; }                                                           \
+    VECTOR v##w v##w##_or(v##w a, v##w b) { return a | b; }                                                            \
+    VECTOR v##w v##w##_xor(v##w a, v##w b) { return a ^ b; }                                                           \
+    VECTOR v##w v##w##_shl(v##w a, int n) { return a << n; }                                                           \
+    VECTOR v##w v##w##_lshr(v##w a, int n) { return a >> n; }                                                          \
+    VECTOR v##w v##w##_ashr(v##w a, int n) { return (v##w)((signed_v##w)a >> n); }                                     \
+    VECTOR v##w v##w##_shl_each(v##w a, v##w b) { return a << b; }                                                     \
+    VECTOR v##w v##w##_lshr_each(v##w a, v##w b) { return a >> b; }                                                    \
+    COMPARISON(w, eq, v, ==)                                                                                           \
+    COMPARISON(w, ne, v, !=)                                                                                           \
+    VECTOR v##w v##w##_umin(v##w a, v##w b) { return least##w(a, b); }                                                 \
+    VECTOR v##w v##w##_umax(v##w a, v##w b) { return most##w(a, b); }                                                  \
+    VECTOR v##w v##w##_ule(v##w a, v##w b) { return (v##w)(v##w##_umin(a, b) == a); }                                  \
+    VECTOR v##w v##w##_uge(v##w a, v##w b) { return (v##w)(v##w##_umax(a, b) == a); }                                  \
+    VECTOR v##w v##w##_ult(v##w a, v##w b) { return ~(v##w)(v##w##_umin(a, b) == b); }                                 \
+    VECTOR v##w v##w##_ugt(v##w a, v##w b) { return ~(v##w)(v##w##_umax(a, b) == b); }                                 \
+    COMPARISON(w, slt, signed_v, <)                                                                                    \
+    COMPARISON(w, sgt, signed_v, >)                                                                                    \
+    COMPARISON(w, sle, signed_v, <=)                                                                                   \
+    COMPARISON(w, sge, signed_v, >=)                                                                                   \
+    VECTOR v##w v##w##_choose(v##w mask, v##w a, v##w b) { return (mask & a) | (~mask & b); }                          \
+    VECTOR v##w v##w##_load(const void *at) {                                                                          \
+        v##w x;                                                                                                        \
+        memcpy(&x, at, 16);                                                                                            \
+        return x;                                                                                                      \
+    }                                                                                                                  \
+    VECTOR void v##w##_store(void *at, v##w x) { memcpy(at, &x, 16); }                                                 \
+    VECTOR v##w v##w##_load_some(const void *at, size_t octets) {                                                      \
+        v##w x = {0};                                                                                                  \
+        memcpy(&x, at, octets);                                                                                        \
+        return x;                                                                                                      \
+    }                                                                                                                  \
+    VECTOR void v##w##_store_some(void *at, v##w x, size_t octets) { memcpy(at, &x, octets); }                         \
+    VECTOR v##w v##w##_set(v##w x, int lane, uint##w##_t item) {                                                       \
+        x[lane] = item;                                                                                                \
+        return x;                                                                                                      \
     }
 
 #define CHOICE_LEAST(w, a, b) ((((v##w)(a < b)) & a) | (~(v##w)(a < b) & b))
@@ -101,11 +110,11 @@ VECTORS(16)
 VECTORS(32)
 VECTORS(64)
 
-#define CASTS(w)                                                                                                                       \
-    INLINE v##w v##w##_from_v8(v8 x) { return (v##w)x; }                                                                               \
-    INLINE v##w v##w##_from_v16(v16 x) { return (v##w)x; }                                                                             \
-    INLINE v##w v##w##_from_v32(v32 x) { return (v##w)x; }                                                                             \
-    INLINE v##w v##w##_from_v64(v64 x) { return (v##w)x; }
+#define CASTS(w)                                                                                                       \
+    VECTOR v##w v##w##_from_v8(v8 x) { return (v##w)x; }                                                               \
+    VECTOR v##w v##w##_from_v16(v16 x) { return (v##w)x; }                                                             \
+    VECTOR v##w v##w##_from_v32(v32 x) { return (v##w)x; }                                                             \
+    VECTOR v##w v##w##_from_v64(v64 x) { return (v##w)x; }
 CASTS(8)
 CASTS(16)
 CASTS(32)
@@ -148,25 +157,27 @@ CASTS(64)
 
 /* The highest bit of each lane, lane 0's the lowest. */
 #if defined(__SSE2__)
-INLINE unsigned v8_bits(v8 x) { return (unsigned)_mm_movemask_epi8((__m128i)x); }
-INLINE unsigned v16_bits_of_two(v16 a, v16 b) { return (unsigned)_mm_movemask_epi8(_mm_packs_epi16((__m128i)a, (__m128i)b)); }
-INLINE unsigned v16_bits(v16 x) { return v16_bits_of_two(x, v16_zero()); }
-INLINE unsigned v32_bits(v32 x) { return (unsigned)_mm_movemask_ps((__m128)x); }
-INLINE unsigned v64_bits(v64 x) { return (unsigned)_mm_movemask_pd((__m128d)x); }
+VECTOR unsigned v8_bits(v8 x) { return (unsigned)_mm_movemask_epi8((__m128i)x); }
+VECTOR unsigned v16_bits_of_two(v16 a, v16 b) {
+    return (unsigned)_mm_movemask_epi8(_mm_packs_epi16((__m128i)a, (__m128i)b));
+}
+VECTOR unsigned v16_bits(v16 x) { return v16_bits_of_two(x, v16_zero()); }
+VECTOR unsigned v32_bits(v32 x) { return (unsigned)_mm_movemask_ps((__m128)x); }
+VECTOR unsigned v64_bits(v64 x) { return (unsigned)_mm_movemask_pd((__m128d)x); }
 #else
-INLINE unsigned v8_bits(v8 x) {
+VECTOR unsigned v8_bits(v8 x) {
     v64 high = ((v64)x & v64_all(0x8080808080808080u)) >> 7;
     return (unsigned)(high[0] * 0x0102040810204080u >> 56) | (unsigned)(high[1] * 0x0102040810204080u >> 56) << 8;
 }
-INLINE unsigned v16_bits_of_two(v16 a, v16 b) { return v8_bits(v16_pack(v16_lshr(a, 8), v16_lshr(b, 8))); }
-INLINE unsigned v16_bits(v16 x) { return v16_bits_of_two(x, v16_zero()); }
-INLINE unsigned v32_bits(v32 x) { return v16_bits(v32_pack(v32_lshr(x, 16), v32_zero())); }
-INLINE unsigned v64_bits(v64 x) { return v32_bits(v64_pack(v64_lshr(x, 32), v64_zero())); }
+VECTOR unsigned v16_bits_of_two(v16 a, v16 b) { return v8_bits(v16_pack(v16_lshr(a, 8), v16_lshr(b, 8))); }
+VECTOR unsigned v16_bits(v16 x) { return v16_bits_of_two(x, v16_zero()); }
+VECTOR unsigned v32_bits(v32 x) { return v16_bits(v32_pack(v32_lshr(x, 16), v32_zero())); }
+VECTOR unsigned v64_bits(v64 x) { return v32_bits(v64_pack(v64_lshr(x, 32), v64_zero())); }
 #endif
 
-/* Lane k of the result is the lane of x whose number is the lower four bits of lane k of lanes, or 0 where that one's highest bit is
- * set: pshufb of x86-64's SSSE3. */
-INLINE v8 v8_shuffle_slowly(v8 x, v8 lanes) {
+/* Lane k of the result is the lane of x whose number is the lower four bits of lane k of lanes, or 0 where that
+ * one's highest bit is set: pshufb of x86-64's SSSE3. */
+VECTOR v8 v8_shuffle_slowly(v8 x, v8 lanes) {
     uint8_t from[16], to[16];
     memcpy(from, &x, 16);
     memcpy(to, &lanes, 16);
@@ -183,11 +194,11 @@ INLINE v8 v8_shuffle_slowly(v8 x, v8 lanes) {
 #else
 /* A function that is compiled twice has a parameter of this name, a constant. */
 enum { has_sse4 = 0 };
-#define BY_SSE4(type, name, instruction, other)                                                                                        \
-    INLINE type name(type a, type b, int has) {                                                                                        \
-        if (!has) return other;                                                                                                        \
-        __asm__(instruction " %1, %0" : "+x"(a) : "x"(b));                                                                             \
-        return a;                                                                                                                      \
+#define BY_SSE4(type, name, instruction, other)                                                                        \
+    VECTOR type name(type a, type b, int has) {                                                                        \
+        if (!has) return other;                                                                                        \
+        __asm__(instruction " %1, %0" : "+x"(a) : "x"(b));                                                             \
+        return a;                                                                                                      \
     }
 BY_SSE4(v8, shuffled_by, "pshufb", v8_shuffle_slowly(a, b))
 BY_SSE4(v16, least_by, "pminuw", v16_umin(a, b))

@@ -1,6 +1,6 @@
-/* The heap of the module: three functions that are linked to it, those of platform/heap.c or, on a board, one's own. platform/platform.h
- * says what each does; for this C memory that is aligned to 8 octets is enough. A call that opens a stream takes all its memory at
- * once, and gives it back in any order. */
+/* The heap of the module: three functions that are linked to it, those of platform/heap.c or, on a board, one's own.
+ * platform/platform.h says what each does; for this C memory that is aligned to 8 octets is enough. A call that
+ * opens a stream takes all its memory at once, and gives it back in any order. */
 #ifndef PORTABLE_HEAP_H
 #define PORTABLE_HEAP_H
 

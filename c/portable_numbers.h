@@ -2,32 +2,32 @@
 #ifndef PORTABLE_NUMBERS_H
 #define PORTABLE_NUMBERS_H
 
-#define OF_WIDTH(n)                                                                                                                    \
-    INLINE uint##n##_t umin##n(uint##n##_t a, uint##n##_t b) { return a < b ? a : b; }                                                 \
-    INLINE uint##n##_t umax##n(uint##n##_t a, uint##n##_t b) { return a > b ? a : b; }                                                 \
-    INLINE uint##n##_t smin##n(uint##n##_t a, uint##n##_t b) { return (int##n##_t)a < (int##n##_t)b ? a : b; }                         \
-    INLINE uint##n##_t smax##n(uint##n##_t a, uint##n##_t b) { return (int##n##_t)a > (int##n##_t)b ? a : b; }                         \
-    INLINE uint##n##_t abs##n(uint##n##_t a) { return (int##n##_t)a < 0 ? (uint##n##_t)(0u - a) : a; }                                 \
-    INLINE uint##n##_t uadd_sat##n(uint##n##_t a, uint##n##_t b) {                                                                     \
-        uint##n##_t sum = (uint##n##_t)(a + b);                                                                                        \
-        return sum < a ? (uint##n##_t)-1 : sum;                                                                                        \
-    }                                                                                                                                  \
-    INLINE uint##n##_t usub_sat##n(uint##n##_t a, uint##n##_t b) { return a < b ? 0 : (uint##n##_t)(a - b); }                          \
-    INLINE uint8_t uadd_with_overflow##n(uint##n##_t a, uint##n##_t b, uint##n##_t *sum) {                                             \
-        *sum = (uint##n##_t)(a + b);                                                                                                   \
-        return *sum < a;                                                                                                               \
-    }                                                                                                                                  \
-    INLINE uint8_t usub_with_overflow##n(uint##n##_t a, uint##n##_t b, uint##n##_t *rest) {                                            \
-        *rest = (uint##n##_t)(a - b);                                                                                                  \
-        return a < b;                                                                                                                  \
-    }                                                                                                                                  \
-    INLINE uint##n##_t fshl##n(uint##n##_t a, uint##n##_t b, uint##n##_t s) {                                                          \
-        s %= n;                                                                                                                        \
-        return s ? (uint##n##_t)((uint64_t)a << s | b >> (n - s)) : a;                                                                 \
-    }                                                                                                                                  \
-    INLINE uint##n##_t fshr##n(uint##n##_t a, uint##n##_t b, uint##n##_t s) {                                                          \
-        s %= n;                                                                                                                        \
-        return s ? (uint##n##_t)((uint64_t)a << (n - s) | b >> s) : b;                                                                 \
+#define OF_WIDTH(n)                                                                                                    \
+    INLINE uint##n##_t umin##n(uint##n##_t a, uint##n##_t b) { return a < b ? a : b; }                                 \
+    INLINE uint##n##_t umax##n(uint##n##_t a, uint##n##_t b) { return a > b ? a : b; }                                 \
+    INLINE uint##n##_t smin##n(uint##n##_t a, uint##n##_t b) { return (int##n##_t)a < (int##n##_t)b ? a : b; }         \
+    INLINE uint##n##_t smax##n(uint##n##_t a, uint##n##_t b) { return (int##n##_t)a > (int##n##_t)b ? a : b; }         \
+    INLINE uint##n##_t abs##n(uint##n##_t a) { return (int##n##_t)a < 0 ? (uint##n##_t)(0u - a) : a; }                 \
+    INLINE uint##n##_t uadd_sat##n(uint##n##_t a, uint##n##_t b) {                                                     \
+        uint##n##_t sum = (uint##n##_t)(a + b);                                                                        \
+        return sum < a ? (uint##n##_t)-1 : sum;                                                                        \
+    }                                                                                                                  \
+    INLINE uint##n##_t usub_sat##n(uint##n##_t a, uint##n##_t b) { return a < b ? 0 : (uint##n##_t)(a - b); }          \
+    INLINE uint8_t uadd_with_overflow##n(uint##n##_t a, uint##n##_t b, uint##n##_t *sum) {                             \
+        *sum = (uint##n##_t)(a + b);                                                                                   \
+        return *sum < a;                                                                                               \
+    }                                                                                                                  \
+    INLINE uint8_t usub_with_overflow##n(uint##n##_t a, uint##n##_t b, uint##n##_t *rest) {                            \
+        *rest = (uint##n##_t)(a - b);                                                                                  \
+        return a < b;                                                                                                  \
+    }                                                                                                                  \
+    INLINE uint##n##_t fshl##n(uint##n##_t a, uint##n##_t b, uint##n##_t s) {                                          \
+        s %= n;                                                                                                        \
+        return s ? (uint##n##_t)((uint64_t)a << s | b >> (n - s)) : a;                                                 \
+    }                                                                                                                  \
+    INLINE uint##n##_t fshr##n(uint##n##_t a, uint##n##_t b, uint##n##_t s) {                                          \
+        s %= n;                                                                                                        \
+        return s ? (uint##n##_t)((uint64_t)a << (n - s) | b >> s) : b;                                                 \
     }
 OF_WIDTH(8)
 OF_WIDTH(16)
@@ -65,9 +65,9 @@ INLINE uint64_t ctlz64(uint64_t x) {
     return n;
 }
 #endif
-#define COUNTS(n)                                                                                                                      \
-    INLINE uint##n##_t ctpop##n(uint##n##_t x) { return (uint##n##_t)ctpop64(x); }                                                     \
-    INLINE uint##n##_t cttz##n(uint##n##_t x) { return x ? (uint##n##_t)cttz64(x) : n; }                                               \
+#define COUNTS(n)                                                                                                      \
+    INLINE uint##n##_t ctpop##n(uint##n##_t x) { return (uint##n##_t)ctpop64(x); }                                     \
+    INLINE uint##n##_t cttz##n(uint##n##_t x) { return x ? (uint##n##_t)cttz64(x) : n; }                               \
     INLINE uint##n##_t ctlz##n(uint##n##_t x) { return (uint##n##_t)(ctlz64(x) - (64 - n)); }
 COUNTS(8)
 COUNTS(16)
@@ -77,7 +77,8 @@ INLINE uint16_t bswap16(uint16_t x) { return (uint16_t)((uint32_t)x << 8 | x >> 
 INLINE uint32_t bswap32(uint32_t x) { return x << 24 | (x & 0xff00u) << 8 | (x >> 8 & 0xff00u) | x >> 24; }
 INLINE uint64_t bswap64(uint64_t x) { return (uint64_t)bswap32((uint32_t)x) << 32 | bswap32((uint32_t)(x >> 32)); }
 
-/* Doubles: each sum, product and quotient is rounded, to 53 bits. Where C's compiler keeps more there are no such calls, but for x87. */
+/* Doubles: each sum, product and quotient is rounded, to 53 bits. Where C's compiler keeps more there are no such
+ * calls, but for x87. */
 
 #if FLT_EVAL_METHOD == 0 || FLT_EVAL_METHOD == 1
 INLINE double real_add(double a, double b) { return a + b; }
@@ -89,16 +90,16 @@ INLINE double real_mul(double a, double b) {
 }
 INLINE double real_of(uint64_t x) { return (double)x; }
 #elif GNU && defined(__i386__)
-#define REAL(name, operator)                                                                                                           \
-    INLINE double real_##name(double a, double b) {                                                                                    \
-        volatile double x = a, y = b, made;                                                                                            \
-        uint16_t kept, set;                                                                                                            \
-        __asm__ volatile("fnstcw %0" : "=m"(kept));                                                                                    \
-        set = (kept & 0xfcff) | 0x0200;                                                                                                \
-        __asm__ volatile("fldcw %0" : : "m"(set));                                                                                     \
-        made = x operator y;                                                                                                           \
-        __asm__ volatile("fldcw %0" : : "m"(kept));                                                                                    \
-        return made;                                                                                                                   \
+#define REAL(name, operator)                                                                                           \
+    INLINE double real_##name(double a, double b) {                                                                    \
+        volatile double x = a, y = b, made;                                                                            \
+        uint16_t kept, set;                                                                                            \
+        __asm__ volatile("fnstcw %0" : "=m"(kept));                                                                    \
+        set = (kept & 0xfcff) | 0x0200;                                                                                \
+        __asm__ volatile("fldcw %0" : : "m"(set));                                                                     \
+        made = x operator y;                                                                                           \
+        __asm__ volatile("fldcw %0" : : "m"(kept));                                                                    \
+        return made;                                                                                                   \
     }
 REAL(add, +)
 REAL(sub, -)
@@ -158,7 +159,8 @@ INLINE u128 lshr128(u128 a, unsigned n) {
 INLINE u128 mul128(u128 a, u128 b) {
     uint64_t a0 = (uint32_t)a.low, a1 = a.low >> 32, b0 = (uint32_t)b.low, b1 = b.low >> 32;
     uint64_t least = a0 * b0, middle = a1 * b0 + (least >> 32), other = (uint32_t)middle + a0 * b1;
-    return U128(a1 * b1 + (middle >> 32) + (other >> 32) + a.low * b.high + a.high * b.low, other << 32 | (uint32_t)least);
+    uint64_t high = a1 * b1 + (middle >> 32) + (other >> 32) + a.low * b.high + a.high * b.low;
+    return U128(high, other << 32 | (uint32_t)least);
 }
 #define eq128(a, b) ((a).low == (b).low && (a).high == (b).high)
 INLINE int ult128(u128 a, u128 b) { return a.high < b.high || (a.high == b.high && a.low < b.low); }

@@ -1,6 +1,7 @@
-/* What a program calls outside the heap: streams, the words of the command line and the error number, by the files of platform/, of
- * which one has C's main; and threads, which are POSIX's where there are any. With PORTABLE_NO_THREADS, and on Windows, none can be
- * started: the program then does all work in one, with the same results. */
+/* What a program calls outside the heap: streams, the words of the command line and the error number, by the files
+ * of platform/, of which one has C's main; and threads, which are POSIX's where there are any. With
+ * PORTABLE_NO_THREADS, and on Windows, none can be started: the program then does all work in one, with the same
+ * results. */
 #ifndef PORTABLE_PROGRAM_H
 #define PORTABLE_PROGRAM_H
 
@@ -66,7 +67,9 @@ INLINE address outside___x86_get_cpuid_feature_leaf(uint32_t leaf) {
 
 INLINE uint32_t outside_pthread_attr_init(address attributes) { return (void)attributes, 0; }
 INLINE uint32_t outside_pthread_attr_destroy(address attributes) { return (void)attributes, 0; }
-INLINE uint32_t outside_pthread_attr_setguardsize(address attributes, uint64_t octets) { return (void)attributes, (void)octets, 0; }
+INLINE uint32_t outside_pthread_attr_setguardsize(address attributes, uint64_t octets) {
+    return (void)attributes, (void)octets, 0;
+}
 
 #if defined(PORTABLE_THREADS)
 /* What the code of workers may take, whatever the C library's default; and no local leaps over the guard after it. */
@@ -131,7 +134,9 @@ INLINE uint64_t outside_pthread_self(void) { return thread_number(pthread_self()
 INLINE uint32_t outside_pthread_create(address thread, address attributes, address start, address given) {
     return (void)thread, (void)attributes, (void)start, (void)given, (uint32_t)EAGAIN;
 }
-INLINE uint32_t outside_pthread_join(uint64_t thread, address result) { return (void)thread, (void)result, (uint32_t)ESRCH; }
+INLINE uint32_t outside_pthread_join(uint64_t thread, address result) {
+    return (void)thread, (void)result, (uint32_t)ESRCH;
+}
 INLINE uint32_t outside_pthread_detach(uint64_t thread) { return (void)thread, (uint32_t)ESRCH; }
 INLINE uint64_t outside_pthread_self(void) { return 0; }
 #endif
