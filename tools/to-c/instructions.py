@@ -72,16 +72,23 @@ def signed(kind, expression):
     return f"((int{wide}_t)(uint{wide}_t)({expression} << {wide - kind.bits}) >> {wide - kind.bits})"
 
 
+def shift_count(kind, value, text):
+    """By how much is shifted. LLVM allows more than there are bits where nothing rests on what comes of it, and C does not."""
+    return text if isinstance(value, Number) else f"({text} & {max(width(kind.bits), 32) - 1}u)"
+
+
 @instruction(*OPERATORS)
 def binary(function, name, line, word):
     kind, a, b = line.pair()
     if isinstance(kind, Vector):
         return vectors.binary(function, name, word, kind, a, b)
     x, y = function.scalar(kind, a), function.scalar(kind, b)
+    if kind.bits < 128 and word in ("shl", "lshr", "ashr"):
+        y = shift_count(kind, b, y)
     if kind.bits == 128:
         if word in ("ashr", "sdiv", "srem"):
             raise Unknown(f"{word} of 128 bits")
-        shift = f"(unsigned)low128({y})" if word in ("shl", "lshr") else y
+        shift = f"(unsigned)low128({y}) & 127u" if word in ("shl", "lshr") else y
         return function.set(name, kind, f"{word}128({x}, {shift})")
     if word in ("sdiv", "srem", "ashr"):
         y = y if word == "ashr" else signed(kind, y)

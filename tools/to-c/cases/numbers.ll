@@ -64,6 +64,11 @@ start:
   %r17 = or disjoint i{n} %half, {top}
   %o17 = getelementptr i{n}, ptr %out, i64 17
   store i{n} %r17, ptr %o17, align 1
+  %far = shl i{n} %b, %a
+  %near = icmp ult i{n} %a, {n}
+  %r18 = select i1 %near, i{n} %far, i{n} 0
+  %o18 = getelementptr i{n}, ptr %out, i64 18
+  store i{n} %r18, ptr %o18, align 1
   ret void
 }
 
